@@ -1,0 +1,26 @@
+-- Numbers in bytes (document 01, "What the book covers"): unsigned unless called signed (two's complement), low byte first.
+use Prim.Native.Nat.{ℕ, zero, suc, _+_, _-_, _*_, _/_, _%_, _^_}
+use mathlib.Core.List.{List, [], _∷_}
+use lib.ListN.{take, drop}
+use lib.IntN.{ℤ, pos, negsuc}
+
+-- the number that these bytes make, low byte first
+unfoldable pub number : List ℕ → ℕ
+number [] = 0
+number (b ∷ bs) = b + 256 * number bs
+
+-- the number in the `width` bytes from `at` on
+unfoldable pub numberAt : List ℕ → ℕ → ℕ → ℕ
+unfolding number
+numberAt s at width = number (take width (drop at s))
+
+-- a number in `width` bytes, low byte first
+unfoldable pub le : ℕ → ℕ → List ℕ
+le zero v = []
+le (suc width) v = v % 256 ∷ le width (v / 256)
+
+-- a signed number in `width` bytes: minus 1 is all ones, and minus n is n times that
+unfoldable pub signed : ℕ → ℤ → List ℕ
+unfolding le
+signed width (pos n) = le width n
+signed width (negsuc n) = le width ((256 ^ width - 1) * suc n)

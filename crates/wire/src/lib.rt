@@ -1,0 +1,2 @@
+// Numbers and regions of byte slices.
+pub fn nothing() {}
