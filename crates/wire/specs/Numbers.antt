@@ -1,5 +1,5 @@
 -- Numbers in bytes (document 01, "What the book covers"): unsigned unless called signed (two's complement), low byte first.
-use Prim.Native.Nat.{ℕ, zero, suc, _+_, _-_, _*_, _/_, _%_, _^_}
+use Prim.Native.Nat.{ℕ, zero, suc, _+_, _-_, _*_, _/_, _%_, _^_, _<_}
 use mathlib.Core.List.{List, [], _∷_}
 use lib.ListN.{take, drop}
 use lib.IntN.{ℤ, pos, negsuc}
@@ -24,3 +24,8 @@ unfoldable pub signed : ℕ → ℤ → List ℕ
 unfolding le
 signed width (pos n) = le width n
 signed width (negsuc n) = le width ((256 ^ width - 1) * suc n)
+
+-- each element is a byte
+pub data Bytes : List ℕ → Type 0 where
+  none : Bytes []
+  more : {b : ℕ} {bs : List ℕ} → b < 256 → Bytes bs → Bytes (b ∷ bs)

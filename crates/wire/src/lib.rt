@@ -1,2 +1,3 @@
 // Numbers and regions of byte slices.
-pub fn nothing() {}
+pub mod numbers;
+pub mod regions;
