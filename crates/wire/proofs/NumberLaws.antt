@@ -9,6 +9,8 @@ use lib.ListN.{length, getD, take, drop, length-take}
 use lib.Seq.{take-nil}
 use lib.Dec.{ltb}
 use lib.IntN.{pos, negsuc, subℕ}
+use mir.Syntax.{w8}
+use mir.Val.{Fits}
 use borrow.Author.Tests.{ltb-true, ltb-false}
 use Rattle.wire.specs.Numbers.{number, numberAt, le, signed, Bytes, none, more}
 
@@ -33,10 +35,13 @@ bytes-at none k = omega arith
 bytes-at (more b h) zero = b
 bytes-at (more b h) (suc k) = bytes-at h k
 
--- what a slice of bytes is known for, read as a whole
 pub bytes-all : (s : List ℕ) → ((k : ℕ) → getD s k 0 < 256) → Bytes s
 bytes-all [] h = none
 bytes-all (b ∷ bs) h = more (h 0) (bytes-all bs (λ k. h (suc k)))
+
+-- what the code knows of a slice of bytes
+pub bytes-known : (s : List ℕ) → ((k : ℕ) → Fits w8 (getD s k 0)) → Bytes s
+bytes-known s h = bytes-all s (λ k. h k .fits)
 
 pub bytes-le : (w v : ℕ) → Bytes (le w v)
 unfolding le
@@ -55,13 +60,6 @@ pub le-byte : (v : ℕ) → v < 256 → le 1 v ≡ v ∷ []
 unfolding le
 le-byte v h = let e : v % 256 ≡ v = omega arith in rw e
 
-pub number-le : (w v : ℕ) → v < 256 ^ w → number (le w v) ≡ v
-unfolding number le
-number-le zero v h = omega arith
-number-le (suc w) v h =
-    let ih : number (le w (v / 256)) ≡ v / 256 = number-le w (v / 256) (omega arith) in
-    omega arith
-
 pub number-small : {s : List ℕ} → Bytes s → number s < 256 ^ length s
 unfolding number
 number-small none = omega arith
@@ -77,6 +75,9 @@ le-number (more {b} {bs} l h) =
     let a : (b + 256 * number bs) % 256 ≡ b = omega arith in
     let d : (b + 256 * number bs) / 256 ≡ number bs = omega arith in
     rw (a, d, le-number h)
+
+pub le-number-wide : {s : List ℕ} → Bytes s → (w : ℕ) → length s ≡ w → le w (number s) ≡ s
+le-number-wide {s} h w e = ap (λ (n : ℕ). le n (number s)) (sym e) ∙ le-number h
 
 -- what is more than fits goes round
 pub number-le-rest : (w v : ℕ) → number (le w v) ≡ v % 256 ^ w
@@ -94,12 +95,15 @@ number-le-rest (suc w) v =
     ∙ add-mul-mod-self-left (v % 256 + 256 * r) (256 * m) q
     ∙ mod-eq-of-lt (omega arith)) ∙ ap (λ (x : ℕ). v % x) (sym (pow-succ' 256 w)))
 
+pub number-le : (w v : ℕ) → v < 256 ^ w → number (le w v) ≡ v
+number-le w v h = number-le-rest w v ∙ mod-eq-of-lt h
+
 -- what has the same remainder has the same bytes
 pub le-same : (w x y : ℕ) → x % 256 ^ w ≡ y % 256 ^ w → le w x ≡ le w y
 le-same w x y e = sym (back x) ∙ ap (le w) (number-le-rest w x ∙ e ∙ sym (number-le-rest w y)) ∙ back y
   where
     back : (v : ℕ) → le w (number (le w v)) ≡ le w v
-    back v = ap (λ (n : ℕ). le n (number (le w v))) (sym (length-le w v)) ∙ le-number (bytes-le w v)
+    back v = le-number-wide (bytes-le w v) w (length-le w v)
 
 -- ---- numbers at a place
 
@@ -139,7 +143,7 @@ number-at-small {s} h at w =
 
 -- ---- signed numbers
 
--- minus one for each of n is all ones for each, whole turns apart
+-- whole turns change no byte
 turn : (w x y n : ℕ) → y ≡ x + 256 ^ w * n → le w x ≡ le w y
 turn w x y n e = le-same w x y (sym (ap (λ (v : ℕ). v % 256 ^ w) e ∙ add-mul-mod-self-left x (256 ^ w) n))
 
