@@ -1,0 +1,226 @@
+-- The ten calls (document 01, "Registration", "Schedules and settlement", "Verdicts"): what each is refused for, in rank, and what
+-- an accepted one gives and makes of the book and of the buffers that it was lent.
+use Prim.Native.Nat.{ℕ, zero, suc, _-_, _*_}
+use mathlib.Core.List.{List, [], _∷_, _++_}
+use mathlib.Core.Option.{Option, none, some}
+use mathlib.Core.Bool.{Bool, true, false, not, _&&_, _||_}
+use lib.ListN.{length}
+use lib.Dec.{eqb, leb, ltb}
+use Rattle.units.specs.declared.Cents.{Cents}
+use Rattle.rules.specs.declared.Row.{Row}
+use Rattle.rules.specs.declared.Schedule.{Schedule}
+use Rattle.rules.specs.declared.Balance.{Balance}
+use Rattle.rules.specs.declared.Request.{Request}
+use Rattle.rules.specs.declared.Outcome.{Outcome}
+use Rattle.rules.specs.declared.Refusal.{Refusal}
+use Rattle.rules.specs.declared.Refusal.the-variants.{WrongLength, OutOfRange, SameAccount, BufferShort, WrongPhase, BatchOpen, NoBatch, AlreadyPending, RowsFull, NoSuchRow, NotMirrored, MarginBroken, Uncovered, SchedulesFull}
+use Rattle.rules.specs.Basics.{if_then_else_, any, isSome, nth, put}
+use Rattle.rules.specs.Limits.{mostPrice, mostRows, mostSchedules}
+use Rattle.rules.specs.Verdicts.{Check, _⇒_, _⇒↑_, lowest, accepted, refused}
+use Rattle.rules.specs.Books.{Setup, Part, Book, noRow, operatorOf, operatorCount, countsOf}
+use Rattle.rules.specs.Requests.{Kind, register, confirm, withdraw, guarantee, openBatch, undo, keep, closeGate, schedule, settle, kindNumber, kindOf, requestOf, readChecks, faultyBit, sameAccounts, filled}
+use Rattle.rules.specs.Registration.{proposed, alike, confirms, withdraws, mirrors, mark, closed, brokenHour, covered, netOf}
+use Rattle.rules.specs.Settlement.{priceCount, pricesIn, results, balances, balanceBytes}
+
+-- ---- a call: a record, and what only settle looks at: the price table and two output buffers
+
+pub record Call : Type 0 where
+  pub bytes : List ℕ
+  pub prices : List ℕ
+  pub results : List ℕ
+  pub balances : List ℕ
+
+abbrev pub requestIn : Call → Request
+requestIn c = requestOf (c .bytes)
+
+abbrev pub kindIn : Call → Kind
+kindIn c = kindOf (requestIn c .kind)
+
+-- ---- books with one thing changed
+
+abbrev pub withRows : Book → List Row → Book
+withRows b rows =
+    record {
+      setup = b .setup;
+      phase = b .phase;
+      part = record { guarantees = b .part .guarantees; rows = rows };
+      schedules = b .schedules;
+      saved = b .saved;
+    }
+
+abbrev pub withGuarantees : Book → List Cents → Book
+withGuarantees b gs =
+    record {
+      setup = b .setup;
+      phase = b .phase;
+      part = record { guarantees = gs; rows = b .part .rows };
+      schedules = b .schedules;
+      saved = b .saved;
+    }
+
+abbrev pub withBatch : Book → Part → Option Part → Book
+withBatch b part saved =
+    record { setup = b .setup; phase = b .phase; part = part; schedules = b .schedules; saved = saved }
+
+abbrev pub withSchedules : Book → List Schedule → Book
+withSchedules b xs = record { setup = b .setup; phase = b .phase; part = b .part; schedules = xs; saved = b .saved }
+
+abbrev pub withPhase : Book → ℕ → Book
+withPhase b phase = record { setup = b .setup; phase = phase; part = b .part; schedules = b .schedules; saved = b .saved }
+
+-- ---- what an accepted call makes of the book
+
+-- the number of the row that confirm names, or 0
+abbrev pub numberFrom : Option ℕ → ℕ
+numberFrom none = 0
+numberFrom (some i) = suc i
+
+abbrev pub confirmedNumber : Book → Request → ℕ
+confirmedNumber b q = numberFrom (confirms (b .part .rows) q)
+
+-- the part as it was saved
+abbrev pub restored : Option Part → Part → Part
+restored none part = part
+restored (some saved) part = saved
+
+abbrev pub scheduled : Request → Schedule
+scheduled q = record { point = q .point; side = q .side; hour = q .first; quantity = q .quantity; price = q .price }
+
+unfoldable pub next : Kind → Book → Request → Book
+next register b q = withRows b (b .part .rows ++ proposed q ∷ [])
+next confirm b q = withRows b (mark (confirmedNumber b q) 2 (b .part .rows))
+next withdraw b q = withRows b (mark (q .number) 3 (b .part .rows))
+next guarantee b q = withGuarantees b (put (b .part .guarantees) (q .operator) (q .guarantee))
+next openBatch b q = withBatch b (b .part) (some (b .part))
+next undo b q = withBatch b (restored (b .saved) (b .part)) none
+next keep b q = withBatch b (b .part) none
+next closeGate b q = withPhase (withRows b (closed (b .part .rows))) 2
+next schedule b q = withSchedules b (b .schedules ++ scheduled q ∷ [])
+next settle b q = withPhase b 3
+
+-- the number that it gives: the row's, the rows registered since the open, the schedule's place
+unfoldable pub given : Kind → Book → Request → ℕ
+given register b q = suc (length (b .part .rows))
+given confirm b q = confirmedNumber b q
+given withdraw b q = 0
+given guarantee b q = 0
+given openBatch b q = 0
+given undo b q = length (b .part .rows) - length (restored (b .saved) (b .part) .rows)
+given keep b q = 0
+given closeGate b q = 0
+given schedule b q = suc (length (b .schedules))
+given settle b q = 0
+
+-- ---- what a call is refused for
+
+infix 40 _∈_
+abbrev pub _∈_ : Kind → List Kind → Bool
+k ∈ [] = false
+k ∈ (j ∷ js) = eqb (kindNumber k) (kindNumber j) || k ∈ js
+
+-- what was found, where the test holds
+abbrev pub when : Bool → Option ℕ → Option ℕ
+when true found = found
+when false found = none
+
+-- 5 to 10, beside what the record itself is refused for
+unfoldable pub inputChecks : Book → Call → Kind → Request → List Check
+inputChecks b c k q =
+    (k ∈ (settle ∷ []) && not (eqb (length (c .prices)) (4 * priceCount (b .setup))) ⇒ WrongLength)
+    ∷ (faultyBit (countsOf (b .setup)) q ⇒↑ OutOfRange)
+    ∷ (k ∈ (settle ∷ []) && any (λ p. ltb mostPrice (p .0)) (pricesIn (b .setup) (c .prices)) ⇒ OutOfRange 12)
+    ∷ (sameAccounts q ⇒ SameAccount)
+    ∷ (k ∈ (settle ∷ [])
+    && (ltb (length (c .results)) (length (b .schedules)) || ltb (length (c .balances)) (8 * operatorCount (b .setup)))
+    ⇒ BufferShort)
+    ∷ []
+
+-- the phase that a kind wants
+abbrev pub phaseOf : Kind → ℕ
+phaseOf k = if k ∈ (schedule ∷ settle ∷ []) then 2 else 1
+
+-- the operator that a call weighs on: the calling account's, or the one whose guarantee is replaced
+abbrev pub weighsOn : Kind → Setup → Request → ℕ
+weighsOn k u q = if k ∈ (guarantee ∷ []) then q .operator else operatorOf u (q .account)
+
+-- 11 to 20; margins and exposure are judged on the book as it would be
+unfoldable pub stateChecks : Book → Kind → Request → List Check
+stateChecks b k q =
+    (not (eqb (b .phase) (phaseOf k)) ⇒ WrongPhase)
+    ∷ (k ∈ (openBatch ∷ closeGate ∷ []) && isSome (b .saved) ⇒ BatchOpen)
+    ∷ (k ∈ (undo ∷ keep ∷ []) && not (isSome (b .saved)) ⇒ NoBatch)
+    ∷ (k ∈ (register ∷ []) && any (alike (q .account) (q .other) (q .code)) (b .part .rows) ⇒ AlreadyPending)
+    ∷ (k ∈ (register ∷ []) && leb mostRows (length (b .part .rows)) ⇒ RowsFull)
+    ∷ (k ∈ (confirm ∷ []) && not (isSome (confirms (b .part .rows) q)) ⇒ NoSuchRow)
+    ∷ (k ∈ (withdraw ∷ []) && not (withdraws (b .part .rows) q) ⇒ NoSuchRow)
+    ∷ (k ∈ (confirm ∷ []) && not (mirrors q (nth (b .part .rows) (confirmedNumber b q) noRow)) ⇒ NotMirrored)
+    ∷ (when (k ∈ (register ∷ confirm ∷ [])) (brokenHour (b .setup) (next k b q .part .rows) (q .account)) ⇒↑ MarginBroken)
+    ∷ (k ∈ (register ∷ confirm ∷ guarantee ∷ []) && not (covered (b .setup) (next k b q .part) (weighsOn k (b .setup) q)) ⇒ Uncovered)
+    ∷ (k ∈ (schedule ∷ []) && leb mostSchedules (length (b .schedules)) ⇒ SchedulesFull)
+    ∷ []
+
+-- every check, in the order of the numbers
+unfoldable pub checks : Book → Call → List Check
+checks b c =
+    readChecks (c .bytes) ++ inputChecks b c (kindIn c) (requestIn c) ++ stateChecks b (kindIn c) (requestIn c)
+
+-- what a call is refused for, if anything
+unfoldable pub refusal : Book → Call → Option Refusal
+refusal b c = lowest (checks b c)
+
+-- ---- the answer
+
+-- what an accepted settle works out: results by place, balances by operator
+pub record Settled : Type 0 where
+  pub results : List ℕ
+  pub balances : List Balance
+
+unfoldable pub settles : Kind → Book → Call → Option Settled
+settles register b c = none
+settles confirm b c = none
+settles withdraw b c = none
+settles guarantee b c = none
+settles openBatch b c = none
+settles undo b c = none
+settles keep b c = none
+settles closeGate b c = none
+settles schedule b c = none
+settles settle b c =
+    let t = pricesIn (b .setup) (c .prices) in
+    let net = netOf (b .part .rows) in
+    some (record { results = results (b .setup) net t (b .schedules); balances = balances (b .setup) net t (b .schedules) })
+
+-- the outcome, the book, and the two output buffers as the call leaves them; and what settle worked out
+pub record Answer : Type 0 where
+  pub outcome : Outcome
+  pub book : Book
+  pub results : List ℕ
+  pub balances : List ℕ
+  pub settled : Option Settled
+
+-- results and balances fill the first places of their buffers, the rest is unchanged
+abbrev pub resultsAfter : Option Settled → List ℕ → List ℕ
+resultsAfter none buffer = buffer
+resultsAfter (some w) buffer = filled (w .results) buffer
+
+abbrev pub balancesAfter : Option Settled → List ℕ → List ℕ
+balancesAfter none buffer = buffer
+balancesAfter (some w) buffer = filled (balanceBytes (w .balances)) buffer
+
+-- a refusal changes nothing
+unfoldable pub answer : Book → Call → Option Refusal → Answer
+answer b c (some r) =
+    record { outcome = refused r; book = b; results = c .results; balances = c .balances; settled = none }
+answer b c none =
+    let w = settles (kindIn c) b c in
+    record {
+      outcome = accepted (given (kindIn c) b (requestIn c));
+      book = next (kindIn c) b (requestIn c);
+      results = resultsAfter w (c .results);
+      balances = balancesAfter w (c .balances);
+      settled = w;
+    }
+
+-- one call on a book
+unfoldable pub step : Book → Call → Answer
+step b c = answer b c (refusal b c)

@@ -1,0 +1,29 @@
+-- All definitions that compute a replay, opened at once: an example says `unfolding everything`.
+use Rattle.wire.specs.Numbers.{number, numberAt, le, signed}
+use Rattle.rules.specs.Basics.{total, any, find, indexOf, entries, joined, counting, bit}
+use Rattle.rules.specs.Verdicts.{lowest}
+use Rattle.rules.specs.Opening.{priceIn, operatorIn, accountIn, pointIn, estimatesIn, operatorsIn, accountsIn, pointsIn, setupOf, guaranteesOf, misshapen, operatorsOf, setupBytes, valuesOf, estimateValues, operatorValues, accountValues, pointValues, values, faultyOffset, setupRefusal, openOutcome, opened}
+use Rattle.rules.specs.Requests.{bits, mapOf, room, offset, fieldIn, requestOf, more, unreadable, readChecks, reading, fieldBytes, write, writeOutcome, written, inRange, faultyField, faultyBit, sameAccounts}
+use Rattle.rules.specs.Registration.{mark, closed, alike, confirms, withdraws, mirrors, moved, waiting, keepsMargins, brokenHour, ofOperator, exposureOf, available, covered}
+use Rattle.rules.specs.Settlement.{pricesIn, placed, insert, prioritised, used, judge, judged, settled, resultAt, results, ofRegistered, gained, lost, balances, injectionsWorth, withdrawalsWorth, registeredTotal, balanceBytes}
+use Rattle.rules.specs.Calls.{next, given, inputChecks, stateChecks, checks, refusal, settles, answer, step}
+use Rattle.rules.specs.Readings.{position, netReading, exposureReading}
+use Rattle.rules.specs.Replay.{itemsWithin, items, callOf, numbered, sumOf, answerLines, calls, day, replay, digits, decimal, signedDecimal, lineText, text}
+use Rattle.rules.specs.Ledger.{blank, newLedger, without, turn, feed, fed, traded, ledgerNet, ledgerWaiting, ledgerHour, ledgerExposure, ledgerAvailable, ledgerSettled}
+
+unfoldable pub everything : Unit {0}
+unfolding number numberAt le signed
+    total any find indexOf entries joined counting bit
+    lowest
+    priceIn operatorIn accountIn pointIn estimatesIn operatorsIn accountsIn pointsIn setupOf guaranteesOf misshapen operatorsOf
+    setupBytes valuesOf estimateValues operatorValues accountValues pointValues values faultyOffset setupRefusal openOutcome opened
+    bits mapOf room offset fieldIn requestOf more unreadable readChecks reading fieldBytes write writeOutcome written inRange
+    faultyField faultyBit sameAccounts
+    mark closed alike confirms withdraws mirrors moved waiting keepsMargins brokenHour ofOperator exposureOf available covered
+    pricesIn placed insert prioritised used judge judged settled resultAt results ofRegistered gained lost balances
+    injectionsWorth withdrawalsWorth registeredTotal balanceBytes
+    next given inputChecks stateChecks checks refusal settles answer step
+    position netReading exposureReading
+    itemsWithin items callOf numbered sumOf answerLines calls day replay digits decimal signedDecimal lineText text
+    blank newLedger without turn feed fed traded ledgerNet ledgerWaiting ledgerHour ledgerExposure ledgerAvailable ledgerSettled
+everything = tt

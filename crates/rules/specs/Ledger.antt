@@ -1,0 +1,167 @@
+-- The ledger (document 01, "What demand 3 compares"): fed only the set-up's bytes, each record and whether it was accepted.
+use Prim.Native.Nat.{ℕ, zero, suc, _*_, _-_}
+use mathlib.Core.List.{List, [], _∷_, _++_}
+use mathlib.Core.Bool.{Bool, true, false, _&&_}
+use lib.Dec.{eqb}
+use Rattle.units.specs.declared.Kwh.{Kwh}
+use Rattle.units.specs.declared.Cents.{Cents}
+use Rattle.units.specs.declared.CentsPerMwh.{CentsPerMwh}
+use Rattle.units.specs.Units.{kwh}
+use Rattle.rules.specs.declared.Row.{Row}
+use Rattle.rules.specs.declared.Net.{Net}
+use Rattle.rules.specs.declared.AccountHour.{AccountHour}
+use Rattle.rules.specs.declared.Schedule.{Schedule}
+use Rattle.rules.specs.declared.Request.{Request}
+use Rattle.rules.specs.Basics.{if_then_else_, total, put, within}
+use Rattle.rules.specs.Limits.{thousand}
+use Rattle.rules.specs.Books.{Setup, guaranteeAt, maintenanceAt}
+use Rattle.rules.specs.Opening.{setupOf, guaranteesOf}
+use Rattle.rules.specs.Requests.{Kind, register, confirm, withdraw, guarantee, openBatch, undo, keep, closeGate, schedule, settle, kindOf, requestOf}
+use Rattle.rules.specs.Registration.{proposed, alike, counted, covers, exposureOf}
+use Rattle.rules.specs.Settlement.{Judged, settled}
+use Rattle.rules.specs.Calls.{_∈_, scheduled}
+
+-- a trade: who sells to whom, in which hours, how much in each
+pub record Trade : Type 0 where
+  pub seller : ℕ
+  pub buyer : ℕ
+  pub first : ℕ
+  pub last : ℕ
+  pub quantity : Kwh
+
+-- a pending row with its number
+pub record Entry : Type 0 where
+  pub number : ℕ
+  pub row : Row
+
+pub record Page : Type 0 where
+  pub guarantees : List Cents
+  pub pending : List Entry
+  pub trades : List Trade
+  pub schedules : List Schedule
+  pub nextNumber : ℕ
+
+-- the set-up, the ledger as it stands, and the copy that the last open made
+pub record Ledger : Type 0 where
+  pub setup : Setup
+  pub page : Page
+  pub copy : Page
+
+-- ---- what each record does to it
+
+-- it starts with the set-up's guarantees and estimates, otherwise empty
+unfoldable pub blank : List ℕ → Page
+blank s = record { guarantees = guaranteesOf s; pending = []; trades = []; schedules = []; nextNumber = 1 }
+
+unfoldable pub newLedger : List ℕ → Ledger
+newLedger s = record { setup = setupOf s; page = blank s; copy = blank s }
+
+-- without the first that passes
+unfoldable pub without : (Entry → Bool) → List Entry → List Entry
+without p [] = []
+without p (e ∷ es) = elim (p e) [ true ↦ es | false ↦ e ∷ without p es ]
+
+-- the trade that confirm adds: side 1, the caller sells
+abbrev pub tradeOf : Request → Trade
+tradeOf q =
+    record {
+      seller = if eqb (q .side) 1 then q .account else q .other;
+      buyer = if eqb (q .side) 1 then q .other else q .account;
+      first = q .first;
+      last = q .last;
+      quantity = q .quantity;
+    }
+
+abbrev pub withPending : Page → List Entry → Page
+withPending p es =
+    record { guarantees = p .guarantees; pending = es; trades = p .trades; schedules = p .schedules; nextNumber = p .nextNumber }
+
+-- an accepted record on a page, with the copy beside it: register adds a pending row with the next number; confirm ends the pending
+-- row with its code and its accounts exchanged, and adds its trade; withdraw ends the row of its number, close all pending;
+-- guarantee replaces the old one; undo puts the copy back; schedule adds itself
+unfoldable pub turn : Kind → Request → Page → Page → Page
+turn register q copy p =
+    record {
+      guarantees = p .guarantees;
+      pending = p .pending ++ record { number = p .nextNumber; row = proposed q } ∷ [];
+      trades = p .trades;
+      schedules = p .schedules;
+      nextNumber = suc (p .nextNumber);
+    }
+turn confirm q copy p =
+    record {
+      guarantees = p .guarantees;
+      pending = without (λ e. alike (q .other) (q .account) (q .code) (e .row)) (p .pending);
+      trades = p .trades ++ tradeOf q ∷ [];
+      schedules = p .schedules;
+      nextNumber = p .nextNumber;
+    }
+turn withdraw q copy p = withPending p (without (λ e. eqb (e .number) (q .number)) (p .pending))
+turn guarantee q copy p =
+    record {
+      guarantees = put (p .guarantees) (q .operator) (q .guarantee);
+      pending = p .pending;
+      trades = p .trades;
+      schedules = p .schedules;
+      nextNumber = p .nextNumber;
+    }
+turn openBatch q copy p = p
+turn undo q copy p = copy
+turn keep q copy p = p
+turn closeGate q copy p = withPending p []
+turn schedule q copy p =
+    record {
+      guarantees = p .guarantees;
+      pending = p .pending;
+      trades = p .trades;
+      schedules = p .schedules ++ scheduled q ∷ [];
+      nextNumber = p .nextNumber;
+    }
+turn settle q copy p = p
+
+-- an accepted record on the ledger; open copies the whole page, next number too
+unfoldable pub feed : Kind → Request → Ledger → Ledger
+feed k q l =
+    record {
+      setup = l .setup;
+      page = turn k q (l .copy) (l .page);
+      copy = if k ∈ (openBatch ∷ []) then l .page else l .copy;
+    }
+
+-- a record, and whether it was accepted: a refused one leaves the ledger unchanged
+unfoldable pub fed : List ℕ → Bool → Ledger → Ledger
+fed record′ true l = feed (kindOf (requestOf record′ .kind)) (requestOf record′) l
+fed record′ false l = l
+
+-- ---- what the ledger says
+
+-- the sum of trades in the hour, of which the account is that party
+unfoldable pub traded : (Trade → ℕ) → List Trade → ℕ → ℕ → ℕ
+traded party trades a h = total (λ t. if within (t .first) h (t .last) && eqb (party t) a then t .quantity .0 else 0) trades
+
+-- net, per account and hour: purchases plus, sales minus
+unfoldable pub ledgerNet : Ledger → ℕ → ℕ → Net
+ledgerNet l a h =
+    record {
+      bought = kwh (traded (λ t. t .buyer) (l .page .trades) a h);
+      sold = kwh (traded (λ t. t .seller) (l .page .trades) a h);
+    }
+
+-- the account's own pending rows of a side
+unfoldable pub ledgerWaiting : ℕ → Ledger → ℕ → ℕ → ℕ
+ledgerWaiting side l a h =
+    total (λ e. counted (λ r. covers h r && eqb (r .proposer) a && eqb (r .side) side) (e .row)) (l .page .pending)
+
+unfoldable pub ledgerHour : Ledger → ℕ → ℕ → AccountHour
+ledgerHour l a h =
+    record { net = ledgerNet l a h; sales = kwh (ledgerWaiting 1 l a h); purchases = kwh (ledgerWaiting 2 l a h) }
+
+unfoldable pub ledgerExposure : Ledger → ℕ → ℕ
+ledgerExposure l o = exposureOf (l .setup) (ledgerHour l) o
+
+unfoldable pub ledgerAvailable : Ledger → ℕ → ℕ
+ledgerAvailable l o = guaranteeAt (l .page .guarantees) o .0 * (thousand - maintenanceAt (l .setup) o)
+
+-- what the rules give on the ledger's schedules and net at settle's prices
+unfoldable pub ledgerSettled : Ledger → List CentsPerMwh → List Judged
+ledgerSettled l t = settled (l .setup) (ledgerNet l) t (l .page .schedules)

@@ -1,0 +1,15 @@
+pub mod Basics
+pub mod Limits
+pub mod Verdicts
+pub mod Books
+pub mod Opening
+pub mod Requests
+pub mod Registration
+pub mod Settlement
+pub mod Calls
+pub mod Readings
+pub mod Ascii
+pub mod Replay
+pub mod Ledger
+pub mod Everything
+pub mod Examples

@@ -1,0 +1,224 @@
+-- Opening (document 01, "Opening"): what set-up bytes say, what they are refused for, and the book that they open.
+use Prim.Native.Nat.{ℕ, zero, suc, _+_, _*_}
+use mathlib.Core.List.{List, [], _∷_, _++_, map}
+use mathlib.Core.Option.{Option, none, some, Option·map}
+use mathlib.Core.Bool.{Bool, not, _&&_, _||_}
+use lib.ListN.{length, getD, drop}
+use lib.Dec.{eqb, leb, ltb}
+use Rattle.wire.specs.Numbers.{number, numberAt, le}
+use Rattle.units.specs.declared.Cents.{Cents}
+use Rattle.units.specs.declared.CentsPerMwh.{CentsPerMwh}
+use Rattle.units.specs.Units.{kwh, cents, centsPerMwh}
+use Rattle.rules.specs.declared.Counts.{Counts}
+use Rattle.rules.specs.declared.Operator.{Operator}
+use Rattle.rules.specs.declared.Account.{Account}
+use Rattle.rules.specs.declared.Point.{Point}
+use Rattle.rules.specs.declared.Outcome.{Outcome}
+use Rattle.rules.specs.declared.Refusal.{Refusal}
+use Rattle.rules.specs.declared.Refusal.the-variants.{NotABook, SetupShape, SetupValue}
+use Rattle.rules.specs.Basics.{if_then_else_, find, entries, joined, within, nth}
+use Rattle.rules.specs.Limits.{mostEnergy, mostPrice, mostGuarantee, thousand, fewestHours, mostHours, mostOperators, mostAccounts, mostPoints, mostZones, bookSize}
+use Rattle.rules.specs.Verdicts.{Check, _⇒_, _⇒↑_, lowest, outcomeOf}
+use Rattle.rules.specs.Books.{Setup, Part, Book, noAccount, operatorCount, accountCount, pointCount}
+
+-- ---- what an entry's own bytes say
+
+-- 4 bytes
+unfoldable pub priceIn : List ℕ → CentsPerMwh
+priceIn x = centsPerMwh (number x)
+
+-- guarantee in cents (8 bytes), maintenance per thousand (2)
+unfoldable pub operatorIn : List ℕ → Operator
+operatorIn x = record { guarantee = cents (numberAt x 0 8); maintenance = numberAt x 8 2 }
+
+-- operator (1), kind (1), lower and upper margin (4 each)
+unfoldable pub accountIn : List ℕ → Account
+accountIn x =
+    record { operator = numberAt x 0 1; kind = numberAt x 1 1; lower = kwh (numberAt x 2 4); upper = kwh (numberAt x 6 4) }
+
+-- account (1), kind (1), zone (1), greatest injection and greatest withdrawal (4 each)
+unfoldable pub pointIn : List ℕ → Point
+pointIn x =
+    record {
+      account = numberAt x 0 1;
+      kind = numberAt x 1 1;
+      zone = numberAt x 2 1;
+      injection = kwh (numberAt x 3 4);
+      withdrawal = kwh (numberAt x 7 4);
+    }
+
+-- ---- what set-up bytes say
+
+module _ (s : List ℕ) where
+  -- the counts H, O, A, P and Z, one byte each
+  abbrev pub hours : ℕ
+  hours = getD s 0 0
+
+  abbrev pub operators : ℕ
+  operators = getD s 1 0
+
+  abbrev pub accounts : ℕ
+  accounts = getD s 2 0
+
+  abbrev pub points : ℕ
+  points = getD s 3 0
+
+  abbrev pub zones : ℕ
+  zones = getD s 4 0
+
+  abbrev pub countsIn : Counts
+  countsIn = record { hours = hours; operators = operators; accounts = accounts; points = points; zones = zones }
+
+  -- where the entries begin, and where they end
+  abbrev pub estimatesFrom : ℕ
+  estimatesFrom = 5
+
+  abbrev pub operatorsFrom : ℕ
+  operatorsFrom = 5 + 4 * hours
+
+  abbrev pub accountsFrom : ℕ
+  accountsFrom = 5 + 4 * hours + 10 * operators
+
+  abbrev pub pointsFrom : ℕ
+  pointsFrom = 5 + 4 * hours + 10 * operators + 10 * accounts
+
+  abbrev pub setupLength : ℕ
+  setupLength = 5 + 4 * hours + 10 * operators + 10 * accounts + 11 * points
+
+  unfoldable pub estimatesIn : List CentsPerMwh
+  estimatesIn = entries 4 priceIn hours (drop estimatesFrom s)
+
+  unfoldable pub operatorsIn : List Operator
+  operatorsIn = entries 10 operatorIn operators (drop operatorsFrom s)
+
+  unfoldable pub accountsIn : List Account
+  accountsIn = entries 10 accountIn accounts (drop accountsFrom s)
+
+  unfoldable pub pointsIn : List Point
+  pointsIn = entries 11 pointIn points (drop pointsFrom s)
+
+  -- what holds all day
+  unfoldable pub setupOf : Setup
+  setupOf =
+      record {
+        hours = hours;
+        zones = zones;
+        estimates = estimatesIn;
+        maintenance = map (λ x. x .maintenance) operatorsIn;
+        accounts = accountsIn;
+        points = pointsIn;
+      }
+
+  -- the guarantees that the day begins with
+  unfoldable pub guaranteesOf : List Cents
+  guaranteesOf = map (λ x. x .guarantee) operatorsIn
+
+  -- under 5 bytes, a count out of range, or wrong length
+  unfoldable pub misshapen : Bool
+  misshapen =
+      ltb (length s) 5
+      || not (within fewestHours hours mostHours)
+      || not (within 1 operators mostOperators)
+      || not (within 1 accounts mostAccounts)
+      || not (leb points mostPoints)
+      || not (within 1 zones mostZones)
+      || not (eqb (length s) setupLength)
+
+-- ---- the bytes of a set-up
+
+abbrev pub operatorBytes : Operator → List ℕ
+operatorBytes x = le 8 (x .guarantee .0) ++ le 2 (x .maintenance)
+
+abbrev pub accountBytes : Account → List ℕ
+accountBytes x = le 1 (x .operator) ++ le 1 (x .kind) ++ le 4 (x .lower .0) ++ le 4 (x .upper .0)
+
+abbrev pub pointBytes : Point → List ℕ
+pointBytes x =
+    le 1 (x .account) ++ le 1 (x .kind) ++ le 1 (x .zone) ++ le 4 (x .injection .0) ++ le 4 (x .withdrawal .0)
+
+-- operators, by guarantee and maintenance
+unfoldable pub operatorsOf : List Cents → List ℕ → List Operator
+operatorsOf [] ms = []
+operatorsOf (g ∷ gs) [] = []
+operatorsOf (g ∷ gs) (m ∷ ms) = record { guarantee = g; maintenance = m } ∷ operatorsOf gs ms
+
+-- the bytes that say a set-up with these guarantees
+unfoldable pub setupBytes : Setup → List Cents → List ℕ
+setupBytes u gs =
+    (u .hours ∷ operatorCount u ∷ accountCount u ∷ pointCount u ∷ u .zones ∷ [])
+    ++ joined (λ p. le 4 (p .0)) (u .estimates)
+    ++ joined operatorBytes (operatorsOf gs (u .maintenance))
+    ++ joined accountBytes (u .accounts)
+    ++ joined pointBytes (u .points)
+
+-- ---- values at fault
+
+-- a value: the offset of its first byte, and whether it is in range
+abbrev pub Value : Type 0
+Value = ℕ × Bool
+
+-- the values of entries that stand side by side from an offset on
+unfoldable pub valuesOf : {A : Type 0} → ℕ → (ℕ → A → List Value) → ℕ → List A → List Value
+valuesOf width say at [] = []
+valuesOf width say at (x ∷ xs) = say at x ++ valuesOf width say (at + width) xs
+
+unfoldable pub estimateValues : ℕ → CentsPerMwh → List Value
+estimateValues at x = (at, leb (x .0) mostPrice) ∷ []
+
+unfoldable pub operatorValues : ℕ → Operator → List Value
+operatorValues at x = (at, leb (x .guarantee .0) mostGuarantee) ∷ (at + 8, leb (x .maintenance) thousand) ∷ []
+
+unfoldable pub accountValues : ℕ → ℕ → Account → List Value
+accountValues operators at x =
+    (at, within 1 (x .operator) operators)
+    ∷ (at + 1, within 1 (x .kind) 2)
+    ∷ (at + 2, leb (x .lower .0) mostEnergy)
+    ∷ (at + 6, leb (x .upper .0) mostEnergy)
+    ∷ []
+
+-- a point of kind 1 or 2 needs an account of that kind; kind 1 has greatest withdrawal 0, kind 2 greatest injection 0
+unfoldable pub pointValues : List Account → ℕ → ℕ → Point → List Value
+pointValues accounts zones at x =
+    (at, within 1 (x .account) (length accounts))
+    ∷ (at + 1, within 1 (x .kind) 3 && (eqb (x .kind) 3 || eqb (x .kind) (nth accounts (x .account) noAccount .kind)))
+    ∷ (at + 2, within 1 (x .zone) zones)
+    ∷ (at + 3, leb (x .injection .0) (if eqb (x .kind) 2 then 0 else mostEnergy))
+    ∷ (at + 7, leb (x .withdrawal .0) (if eqb (x .kind) 1 then 0 else mostEnergy))
+    ∷ []
+
+-- all values, in the order of their offsets
+unfoldable pub values : List ℕ → List Value
+values s =
+    valuesOf 4 estimateValues (estimatesFrom s) (estimatesIn s)
+    ++ valuesOf 10 operatorValues (operatorsFrom s) (operatorsIn s)
+    ++ valuesOf 10 (accountValues (operators s)) (accountsFrom s) (accountsIn s)
+    ++ valuesOf 11 (pointValues (accountsIn s) (zones s)) (pointsFrom s) (pointsIn s)
+
+-- the lowest offset of a value that is out of range
+unfoldable pub faultyOffset : List ℕ → Option ℕ
+faultyOffset s = Option·map (λ v. v .0) (find (λ v. not (v .1)) (values s))
+
+-- ---- opening
+
+-- 8 and 9
+abbrev pub setupChecks : List ℕ → List Check
+setupChecks s = (misshapen s ⇒ SetupShape) ∷ (faultyOffset s ⇒↑ SetupValue) ∷ []
+
+-- what a set-up is refused for, if anything
+unfoldable pub setupRefusal : List ℕ → Option Refusal
+setupRefusal s = lowest (setupChecks s)
+
+-- opening looks at the length of the book's bytes only
+unfoldable pub openOutcome : List ℕ → List ℕ → Outcome
+openOutcome s book = outcomeOf (lowest ((not (eqb (length book) bookSize) ⇒ NotABook) ∷ setupChecks s)) 0
+
+-- the fresh book
+unfoldable pub opened : List ℕ → Book
+opened s =
+    record {
+      setup = setupOf s;
+      phase = 1;
+      part = record { guarantees = guaranteesOf s; rows = [] };
+      schedules = [];
+      saved = none;
+    }

@@ -1,0 +1,177 @@
+-- Registration (document 01, "Registration"): rows, what an account holds in an hour, margins, exposure and what is available.
+-- Sums are natural numbers: a net position is what was bought and what was sold, each by itself.
+use Prim.Native.Nat.{ℕ, _+_, _-_, _*_}
+use mathlib.Core.List.{List, [], _∷_, _++_, map}
+use mathlib.Core.Option.{Option, none, some}
+use mathlib.Core.Bool.{Bool, true, false, not, _&&_, _||_}
+use lib.ListN.{length}
+use lib.Dec.{eqb, leb, ltb}
+use lib.IntN.{ℤ, pos, subℕ, _+ℤ_, _-ℤ_}
+use Rattle.units.specs.Units.{kwh}
+use Rattle.rules.specs.declared.Account.{Account}
+use Rattle.rules.specs.declared.Row.{Row}
+use Rattle.rules.specs.declared.Net.{Net}
+use Rattle.rules.specs.declared.AccountHour.{AccountHour}
+use Rattle.rules.specs.declared.Request.{Request}
+use Rattle.rules.specs.Basics.{if_then_else_, total, find, indexOf, nth, put, upTo, within}
+use Rattle.rules.specs.Limits.{thousand}
+use Rattle.rules.specs.Books.{Setup, Part, accountAt, estimateAt, maintenanceAt, guaranteeAt, operatorOf, accountCount, noRow}
+
+-- ---- rows
+
+abbrev pub pending : Row → Bool
+pending r = eqb (r .status) 1
+
+abbrev pub confirmed : Row → Bool
+confirmed r = eqb (r .status) 2
+
+-- side 1: the proposer sells; side 2: it buys
+abbrev pub seller : Row → ℕ
+seller r = if eqb (r .side) 1 then r .proposer else r .counterparty
+
+abbrev pub buyer : Row → ℕ
+buyer r = if eqb (r .side) 1 then r .counterparty else r .proposer
+
+-- the row is for that hour
+abbrev pub covers : ℕ → Row → Bool
+covers h r = within (r .first) h (r .last)
+
+abbrev pub withStatus : ℕ → Row → Row
+withStatus status r =
+    record {
+      proposer = r .proposer;
+      counterparty = r .counterparty;
+      code = r .code;
+      side = r .side;
+      first = r .first;
+      last = r .last;
+      quantity = r .quantity;
+      status = status;
+    }
+
+-- the row of that number gets the status
+unfoldable pub mark : ℕ → ℕ → List Row → List Row
+mark number status rows = put rows number (withStatus status (nth rows number noRow))
+
+-- all pending rows are withdrawn
+unfoldable pub closed : List Row → List Row
+closed rows = map (λ r. if pending r then withStatus 3 r else r) rows
+
+-- ---- the row that a request speaks of
+
+-- what register proposes
+abbrev pub proposed : Request → Row
+proposed q =
+    record {
+      proposer = q .account;
+      counterparty = q .other;
+      code = q .code;
+      side = q .side;
+      first = q .first;
+      last = q .last;
+      quantity = q .quantity;
+      status = 1;
+    }
+
+-- a pending row with this proposer, counterparty and code
+unfoldable pub alike : ℕ → ℕ → ℕ → Row → Bool
+alike proposer counterparty code r =
+    pending r && eqb (r .proposer) proposer && eqb (r .counterparty) counterparty && eqb (r .code) code
+
+-- the index of the row that confirm names: the caller is its counterparty, the other account its proposer
+unfoldable pub confirms : List Row → Request → Option ℕ
+confirms rows q = indexOf (alike (q .other) (q .account) (q .code)) rows
+
+-- withdraw ends a pending row of that proposer
+unfoldable pub withdraws : List Row → Request → Bool
+withdraws rows q = pending (nth rows (q .number) noRow) && eqb (nth rows (q .number) noRow .proposer) (q .account)
+
+-- side opposite, hours and quantity equal
+unfoldable pub mirrors : Request → Row → Bool
+mirrors q r =
+    not (eqb (r .side) (q .side))
+    && eqb (r .first) (q .first)
+    && eqb (r .last) (q .last)
+    && eqb (r .quantity .0) (q .quantity .0)
+
+-- ---- what an account holds in an hour, in kWh
+
+-- the quantity of a row where the test holds
+abbrev pub counted : (Row → Bool) → Row → ℕ
+counted p r = if p r then r .quantity .0 else 0
+
+-- what confirmed rows move in the hour, of which the account is that party
+unfoldable pub moved : (Row → ℕ) → List Row → ℕ → ℕ → ℕ
+moved party rows a h = total (counted (λ r. confirmed r && covers h r && eqb (party r) a)) rows
+
+abbrev pub bought : List Row → ℕ → ℕ → ℕ
+bought rows a h = moved buyer rows a h
+
+abbrev pub sold : List Row → ℕ → ℕ → ℕ
+sold rows a h = moved seller rows a h
+
+-- the account's own pending rows of a side; pending rows weigh on the proposer only
+unfoldable pub waiting : ℕ → List Row → ℕ → ℕ → ℕ
+waiting side rows a h = total (counted (λ r. pending r && covers h r && eqb (r .proposer) a && eqb (r .side) side)) rows
+
+abbrev pub pendingSales : List Row → ℕ → ℕ → ℕ
+pendingSales rows a h = waiting 1 rows a h
+
+abbrev pub pendingPurchases : List Row → ℕ → ℕ → ℕ
+pendingPurchases rows a h = waiting 2 rows a h
+
+abbrev pub netOf : List Row → ℕ → ℕ → Net
+netOf rows a h = record { bought = kwh (bought rows a h); sold = kwh (sold rows a h) }
+
+abbrev pub accountHour : List Row → ℕ → ℕ → AccountHour
+accountHour rows a h =
+    record { net = netOf rows a h; sales = kwh (pendingSales rows a h); purchases = kwh (pendingPurchases rows a h) }
+
+-- ---- the paper's signed figures: purchases count plus, sales minus
+
+abbrev pub figure : Net → ℤ
+figure n = subℕ (n .bought .0) (n .sold .0)
+
+-- low is net less the account's own pending sales, high is net plus its own pending purchases
+abbrev pub low : AccountHour → ℤ
+low x = figure (x .net) -ℤ pos (x .sales .0)
+
+abbrev pub high : AccountHour → ℤ
+high x = figure (x .net) +ℤ pos (x .purchases .0)
+
+-- ---- margins
+
+-- minus lower margin ≤ low, high ≤ upper margin
+unfoldable pub keepsMargins : Account → AccountHour → Bool
+keepsMargins account x =
+    leb (x .net .sold .0 + x .sales .0) (x .net .bought .0 + account .lower .0)
+    && leb (x .net .bought .0 + x .purchases .0) (x .net .sold .0 + account .upper .0)
+
+-- the lowest hour that breaks a margin of the account
+unfoldable pub brokenHour : Setup → List Row → ℕ → Option ℕ
+brokenHour u rows a = find (λ h. not (keepsMargins (accountAt u a) (accountHour rows a h))) (upTo (u .hours))
+
+-- ---- exposure and what is available, in thousandths of a cent
+
+-- what net lies below zero, and the account's own pending sales in full
+abbrev pub exposed : AccountHour → ℕ
+exposed x = (x .net .sold .0 - x .net .bought .0) + x .sales .0
+
+-- the sum of f over an operator's accounts
+unfoldable pub ofOperator : Setup → (ℕ → ℕ) → ℕ → ℕ
+ofOperator u f o = total (λ a. if eqb (operatorOf u a) o then f a else 0) (upTo (accountCount u))
+
+-- exposure of what accounts hold in their hours: over the operator's accounts and the hours, at estimated prices
+unfoldable pub exposureOf : Setup → (ℕ → ℕ → AccountHour) → ℕ → ℕ
+exposureOf u holds o = ofOperator u (λ a. total (λ h. estimateAt u h .0 * exposed (holds a h)) (upTo (u .hours))) o
+
+abbrev pub exposure : Setup → List Row → ℕ → ℕ
+exposure u rows o = exposureOf u (accountHour rows) o
+
+-- guarantee times (1000 - m)
+unfoldable pub available : Setup → Part → ℕ → ℕ
+available u p o = guaranteeAt (p .guarantees) o .0 * (thousand - maintenanceAt u o)
+
+-- exposure may equal what is available
+unfoldable pub covered : Setup → Part → ℕ → Bool
+covered u p o = leb (exposure u (p .rows) o) (available u p o)

@@ -1,0 +1,159 @@
+// The plain values of the energy account book: what the definitions in specs/ and the code of the crates above share.
+use units::Cents;
+use units::CentsPerMwh;
+use units::Kwh;
+use units::MilliCents;
+
+// The counts of a set-up, in the order of its bytes.
+pub struct Counts {
+    pub hours: u8,
+    pub operators: u8,
+    pub accounts: u8,
+    pub points: u8,
+    pub zones: u8,
+}
+
+// An operator as the set-up has it. Maintenance is per thousand of the guarantee.
+pub struct Operator {
+    pub guarantee: Cents,
+    pub maintenance: u16,
+}
+
+// An account. Kind: 1 injection, 2 withdrawal. Lower and upper are its margins.
+pub struct Account {
+    pub operator: u8,
+    pub kind: u8,
+    pub lower: Kwh,
+    pub upper: Kwh,
+}
+
+// A point. Kind: 1 injection, 2 withdrawal, 3 mixed. Injection and withdrawal are its greatest amounts per hour.
+pub struct Point {
+    pub account: u8,
+    pub kind: u8,
+    pub zone: u8,
+    pub injection: Kwh,
+    pub withdrawal: Kwh,
+}
+
+// A row, in the order in which it reads out. Side: 1 the proposer sells, 2 it buys. Status: 1 pending, 2 confirmed, 3 withdrawn.
+pub struct Row {
+    pub proposer: u8,
+    pub counterparty: u8,
+    pub code: u64,
+    pub side: u8,
+    pub first: u8,
+    pub last: u8,
+    pub quantity: Kwh,
+    pub status: u8,
+}
+
+// A net position: what an account bought in an hour less what it sold.
+pub struct Net {
+    pub bought: Kwh,
+    pub sold: Kwh,
+}
+
+// What an account holds in an hour: its net, and its own pending sales and purchases.
+pub struct AccountHour {
+    pub net: Net,
+    pub sales: Kwh,
+    pub purchases: Kwh,
+}
+
+// A net position as it is read out, with its sign: long is plus, short is minus.
+pub enum Position {
+    Long(Kwh),
+    Short(Kwh),
+}
+
+// A schedule of a point in an hour. Side: 1 injects, 2 withdraws.
+pub struct Schedule {
+    pub point: u8,
+    pub side: u8,
+    pub hour: u8,
+    pub quantity: Kwh,
+    pub price: CentsPerMwh,
+}
+
+// An operator's balance: what it gained less what it lost.
+pub struct Balance {
+    pub gained: MilliCents,
+    pub lost: MilliCents,
+}
+
+// A request: its kind, and the field of each bit. A field that the kind has not is 0.
+pub struct Request {
+    pub kind: u8,
+    pub account: u8,
+    pub other: u8,
+    pub code: u64,
+    pub side: u8,
+    pub first: u8,
+    pub last: u8,
+    pub quantity: Kwh,
+    pub number: u16,
+    pub operator: u8,
+    pub guarantee: Cents,
+    pub point: u8,
+    pub price: CentsPerMwh,
+}
+
+// Why a call is refused, with the details that go with it. In the order of the paper's numbers, 1 to 20.
+pub enum Refusal {
+    NotABook,
+    Unreadable,
+    UnknownKind,
+    WrongMap { missing: u8, unwanted: u8 },
+    WrongLength,
+    OutOfRange { bit: u8 },
+    SameAccount,
+    SetupShape,
+    SetupValue { offset: u16 },
+    BufferShort,
+    WrongPhase,
+    BatchOpen,
+    NoBatch,
+    AlreadyPending,
+    RowsFull,
+    NoSuchRow,
+    NotMirrored,
+    MarginBroken { hour: u8 },
+    Uncovered,
+    SchedulesFull,
+}
+
+// What a row of checks comes to: nothing applies, or a refusal does.
+pub enum Checked {
+    Clear,
+    Fails(Refusal),
+}
+
+// Accepted with a number, or refused.
+pub enum Verdict {
+    Accepted { number: u16 },
+    Refused(Refusal),
+}
+
+// The answer of a call.
+pub struct Outcome {
+    pub verdict: Verdict,
+}
+
+// What a record reads as.
+pub enum Reading {
+    Read(Request),
+    Unread(Refusal),
+}
+
+// The reading of a net position.
+pub enum NetReading {
+    Stands(Position),
+    Unread(Refusal),
+}
+
+// The reading of an exposure.
+pub enum ExposureReading {
+    Stands(MilliCents),
+    Unread(Refusal),
+}

@@ -1,0 +1,2 @@
+-- Units: figures in their unit.
+pub mod Units
