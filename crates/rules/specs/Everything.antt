@@ -2,7 +2,7 @@
 use Rattle.wire.specs.Numbers.{number, numberAt, le, signed}
 use Rattle.rules.specs.Basics.{total, any, find, indexOf, entries, joined, counting, bit}
 use Rattle.rules.specs.Verdicts.{lowest}
-use Rattle.rules.specs.Opening.{priceIn, operatorIn, accountIn, pointIn, estimatesIn, operatorsIn, accountsIn, pointsIn, setupOf, guaranteesOf, misshapen, operatorsOf, setupBytes, valuesOf, estimateValues, operatorValues, accountValues, pointValues, values, faultyOffset, setupRefusal, openOutcome, opened}
+use Rattle.rules.specs.Opening.{priceIn, operatorIn, accountIn, pointIn, estimatesIn, operatorsIn, accountsIn, pointsIn, setupOf, guaranteesOf, badCounts, misshapen, operatorsOf, setupBytes, valuesOf, estimateValues, operatorValues, accountValues, pointValues, values, faultyOffset, setupRefusal, openOutcome, opened}
 use Rattle.rules.specs.Requests.{bits, mapOf, room, offset, fieldIn, requestOf, more, unreadable, readChecks, reading, fieldBytes, write, writeOutcome, written, inRange, faultyField, faultyBit, sameAccounts}
 use Rattle.rules.specs.Registration.{mark, closed, alike, confirms, withdraws, mirrors, moved, waiting, keepsMargins, brokenHour, ofOperator, exposureOf, available, covered}
 use Rattle.rules.specs.Settlement.{pricesIn, placed, insert, prioritised, used, judge, judged, settled, resultAt, results, ofRegistered, gained, lost, balances, injectionsWorth, withdrawalsWorth, registeredTotal, balanceBytes}
@@ -15,7 +15,7 @@ unfoldable pub everything : Unit {0}
 unfolding number numberAt le signed
     total any find indexOf entries joined counting bit
     lowest
-    priceIn operatorIn accountIn pointIn estimatesIn operatorsIn accountsIn pointsIn setupOf guaranteesOf misshapen operatorsOf
+    priceIn operatorIn accountIn pointIn estimatesIn operatorsIn accountsIn pointsIn setupOf guaranteesOf badCounts misshapen operatorsOf
     setupBytes valuesOf estimateValues operatorValues accountValues pointValues values faultyOffset setupRefusal openOutcome opened
     bits mapOf room offset fieldIn requestOf more unreadable readChecks reading fieldBytes write writeOutcome written inRange
     faultyField faultyBit sameAccounts

@@ -19,7 +19,7 @@ use Rattle.rules.specs.declared.Refusal.the-variants.{NotABook, SetupSha
 use Rattle.rules.specs.Basics.{if_then_else_, find, entries, joined, within, nth}
 use Rattle.rules.specs.Limits.{mostEnergy, mostPrice, mostGuarantee, thousand, fewestHours, mostHours, mostOperators, mostAccounts, mostPoints, mostZones, bookSize}
 use Rattle.rules.specs.Verdicts.{Check, _⇒_, _⇒↑_, lowest, outcomeOf}
-use Rattle.rules.specs.Books.{Setup, Part, Book, noAccount, operatorCount, accountCount, pointCount}
+use Rattle.rules.specs.Books.{Setup, Part, Book, noAccount, operatorCount, accountCount, pointCount, countsOf}
 
 -- ---- what an entry's own bytes say
 
@@ -49,80 +49,54 @@ pointIn x =
 
 -- ---- what set-up bytes say
 
-module _ (s : List ℕ) where
-  -- the counts H, O, A, P and Z, one byte each
-  abbrev pub hours : ℕ
-  hours = getD s 0 0
+-- the counts H, O, A, P and Z, one byte each
+abbrev pub countsIn : List ℕ → Counts
+countsIn s =
+    record { hours = getD s 0 0; operators = getD s 1 0; accounts = getD s 2 0; points = getD s 3 0; zones = getD s 4 0 }
 
-  abbrev pub operators : ℕ
-  operators = getD s 1 0
+-- where the entries begin, and where they end
+abbrev pub estimatesFrom : ℕ
+estimatesFrom = 5
 
-  abbrev pub accounts : ℕ
-  accounts = getD s 2 0
+abbrev pub operatorsFrom : Counts → ℕ
+operatorsFrom n = 5 + 4 * n .hours
 
-  abbrev pub points : ℕ
-  points = getD s 3 0
+abbrev pub accountsFrom : Counts → ℕ
+accountsFrom n = 5 + 4 * n .hours + 10 * n .operators
 
-  abbrev pub zones : ℕ
-  zones = getD s 4 0
+abbrev pub pointsFrom : Counts → ℕ
+pointsFrom n = 5 + 4 * n .hours + 10 * n .operators + 10 * n .accounts
 
-  abbrev pub countsIn : Counts
-  countsIn = record { hours = hours; operators = operators; accounts = accounts; points = points; zones = zones }
+abbrev pub setupLength : Counts → ℕ
+setupLength n = 5 + 4 * n .hours + 10 * n .operators + 10 * n .accounts + 11 * n .points
 
-  -- where the entries begin, and where they end
-  abbrev pub estimatesFrom : ℕ
-  estimatesFrom = 5
+unfoldable pub estimatesIn : List ℕ → List CentsPerMwh
+estimatesIn s = entries 4 priceIn (countsIn s .hours) (drop estimatesFrom s)
 
-  abbrev pub operatorsFrom : ℕ
-  operatorsFrom = 5 + 4 * hours
+unfoldable pub operatorsIn : List ℕ → List Operator
+operatorsIn s = entries 10 operatorIn (countsIn s .operators) (drop (operatorsFrom (countsIn s)) s)
 
-  abbrev pub accountsFrom : ℕ
-  accountsFrom = 5 + 4 * hours + 10 * operators
+unfoldable pub accountsIn : List ℕ → List Account
+accountsIn s = entries 10 accountIn (countsIn s .accounts) (drop (accountsFrom (countsIn s)) s)
 
-  abbrev pub pointsFrom : ℕ
-  pointsFrom = 5 + 4 * hours + 10 * operators + 10 * accounts
+unfoldable pub pointsIn : List ℕ → List Point
+pointsIn s = entries 11 pointIn (countsIn s .points) (drop (pointsFrom (countsIn s)) s)
 
-  abbrev pub setupLength : ℕ
-  setupLength = 5 + 4 * hours + 10 * operators + 10 * accounts + 11 * points
+-- what holds all day
+unfoldable pub setupOf : List ℕ → Setup
+setupOf s =
+    record {
+      hours = countsIn s .hours;
+      zones = countsIn s .zones;
+      estimates = estimatesIn s;
+      maintenance = map (λ x. x .maintenance) (operatorsIn s);
+      accounts = accountsIn s;
+      points = pointsIn s;
+    }
 
-  unfoldable pub estimatesIn : List CentsPerMwh
-  estimatesIn = entries 4 priceIn hours (drop estimatesFrom s)
-
-  unfoldable pub operatorsIn : List Operator
-  operatorsIn = entries 10 operatorIn operators (drop operatorsFrom s)
-
-  unfoldable pub accountsIn : List Account
-  accountsIn = entries 10 accountIn accounts (drop accountsFrom s)
-
-  unfoldable pub pointsIn : List Point
-  pointsIn = entries 11 pointIn points (drop pointsFrom s)
-
-  -- what holds all day
-  unfoldable pub setupOf : Setup
-  setupOf =
-      record {
-        hours = hours;
-        zones = zones;
-        estimates = estimatesIn;
-        maintenance = map (λ x. x .maintenance) operatorsIn;
-        accounts = accountsIn;
-        points = pointsIn;
-      }
-
-  -- the guarantees that the day begins with
-  unfoldable pub guaranteesOf : List Cents
-  guaranteesOf = map (λ x. x .guarantee) operatorsIn
-
-  -- under 5 bytes, a count out of range, or wrong length
-  unfoldable pub misshapen : Bool
-  misshapen =
-      ltb (length s) 5
-      || not (within fewestHours hours mostHours)
-      || not (within 1 operators mostOperators)
-      || not (within 1 accounts mostAccounts)
-      || not (leb points mostPoints)
-      || not (within 1 zones mostZones)
-      || not (eqb (length s) setupLength)
+-- the guarantees that the day begins with
+unfoldable pub guaranteesOf : List ℕ → List Cents
+guaranteesOf s = map (λ x. x .guarantee) (operatorsIn s)
 
 -- ---- the bytes of a set-up
 
@@ -151,7 +125,22 @@ setupBytes u gs =
     ++ joined accountBytes (u .accounts)
     ++ joined pointBytes (u .points)
 
--- ---- values at fault
+-- ---- the shape (8)
+
+-- a count out of range
+unfoldable pub badCounts : Counts → Bool
+badCounts n =
+    not (within fewestHours (n .hours) mostHours)
+    || not (within 1 (n .operators) mostOperators)
+    || not (within 1 (n .accounts) mostAccounts)
+    || not (leb (n .points) mostPoints)
+    || not (within 1 (n .zones) mostZones)
+
+-- under 5 bytes, a count out of range, or wrong length
+unfoldable pub misshapen : List ℕ → Bool
+misshapen s = ltb (length s) 5 || badCounts (countsIn s) || not (eqb (length s) (setupLength (countsIn s)))
+
+-- ---- values at fault (9)
 
 -- a value: the offset of its first byte, and whether it is in range
 abbrev pub Value : Type 0
@@ -186,23 +175,23 @@ pointValues accounts zones at x =
     ∷ (at + 7, leb (x .withdrawal .0) (if eqb (x .kind) 1 then 0 else mostEnergy))
     ∷ []
 
--- all values, in the order of their offsets
-unfoldable pub values : List ℕ → List Value
-values s =
-    valuesOf 4 estimateValues (estimatesFrom s) (estimatesIn s)
-    ++ valuesOf 10 operatorValues (operatorsFrom s) (operatorsIn s)
-    ++ valuesOf 10 (accountValues (operators s)) (accountsFrom s) (accountsIn s)
-    ++ valuesOf 11 (pointValues (accountsIn s) (zones s)) (pointsFrom s) (pointsIn s)
+-- all values of a set-up, in the order of their offsets
+unfoldable pub values : Setup → List Operator → List Value
+values u operators =
+    valuesOf 4 estimateValues estimatesFrom (u .estimates)
+    ++ valuesOf 10 operatorValues (operatorsFrom (countsOf u)) operators
+    ++ valuesOf 10 (accountValues (operatorCount u)) (accountsFrom (countsOf u)) (u .accounts)
+    ++ valuesOf 11 (pointValues (u .accounts) (u .zones)) (pointsFrom (countsOf u)) (u .points)
 
 -- the lowest offset of a value that is out of range
-unfoldable pub faultyOffset : List ℕ → Option ℕ
-faultyOffset s = Option·map (λ v. v .0) (find (λ v. not (v .1)) (values s))
+unfoldable pub faultyOffset : Setup → List Operator → Option ℕ
+faultyOffset u operators = Option·map (λ v. v .0) (find (λ v. not (v .1)) (values u operators))
 
 -- ---- opening
 
 -- 8 and 9
 abbrev pub setupChecks : List ℕ → List Check
-setupChecks s = (misshapen s ⇒ SetupShape) ∷ (faultyOffset s ⇒↑ SetupValue) ∷ []
+setupChecks s = (misshapen s ⇒ SetupShape) ∷ (faultyOffset (setupOf s) (operatorsIn s) ⇒↑ SetupValue) ∷ []
 
 -- what a set-up is refused for, if anything
 unfoldable pub setupRefusal : List ℕ → Option Refusal
