@@ -1,8 +1,8 @@
 -- Nothing applies of a list of checks exactly where each check passes.
 use mathlib.Core.Path.{_≡_, refl}
 use mathlib.Core.List.{List, [], _∷_}
-use mathlib.Core.Option.{Option, none, some, Option·some-ne-none}
-use mathlib.Core.Bool.{Bool, true, false, true≢false}
+use mathlib.Core.Option.{none, some, Option·some-ne-none}
+use mathlib.Core.Bool.{true, false, true≢false}
 use Rattle.rules.specs.Basics.{Each, nil, cons}
 use Rattle.rules.specs.Verdicts.{Check, _⇒_, _⇒↑_, lowest}
 

@@ -1,18 +1,19 @@
 -- A record's fields lie side by side: each begins where the one before it ends, and takes the room that its bit gives it.
 use Prim.Native.Nat.{ℕ, zero, suc, _+_, _-_, _%_, _^_, _<_, _≤_}
 use mathlib.Core.Path.{_≡_, refl, sym, ap, _∙_}
-use mathlib.Core.List.{List, [], _∷_, _++_, map}
+use mathlib.Core.List.{List, map}
 use mathlib.Core.Bool.{Bool, true, false}
 use native.Mathlib.Nat.{zero-add, add-zero, one-le-pow}
 use native.Mathlib.Omega.{arith}
-use lib.ListN.{length, getD, take, drop, length-append, length-drop, take-append-drop, drop-of-length-le}
-use lib.Seq.{take-at, drop-at, drop-drop, length-take-le, ext-getD}
-use Rattle.wire.specs.Numbers.{number, numberAt, le, Bytes}
-use Rattle.wire.proofs.NumberLaws.{length-le, number-le, number-le-rest, le-number-wide, number-at-zero, number-at-small, bytes-take, bytes-drop}
+use lib.ListN.{length, getD, take, drop, length-append}
+use lib.Seq.{take-at, drop-at, drop-drop, ext-getD}
+use Rattle.wire.specs.Numbers.{number, numberAt, le, Bytes, none}
+use Rattle.wire.proofs.NumberLaws.{length-le, number-le, number-le-rest, number-at-zero, number-at-small, bytes-le, bytes-append}
 use Rattle.units.specs.Units.{kwh, cents, centsPerMwh}
 use Rattle.rules.specs.declared.Request.{Request}
 use Rattle.rules.specs.Basics.{if_then_else_, total, counting, bit}
-use Rattle.rules.specs.Requests.{wantedMap, widthOf, fieldCount, mapOf, room, offset, fieldIn, requestOf, fieldsOf, fieldOf, fieldBytes, write, Canonical, Fits}
+use Rattle.rules.specs.Requests.{isKind, wantedMap, wantedLength, widthOf, fieldCount, mapOf, room, offset, fieldIn, requestOf, fieldsOf, fieldOf, fieldBytes, write, Canonical, Fits}
+use Rattle.rules.proofs.KindTables.{tables-agree}
 
 -- ---- where fields begin
 
@@ -113,10 +114,19 @@ pub drop-fields : (m : ℕ) (q : Request) (k n : ℕ) → drop (room m k) (field
 unfolding fieldBytes
 drop-fields m q k n = drop-at (le (room m k) (fieldOf q k)) (fieldBytes m q (suc k) n) (room m k) (length-le (room m k) (fieldOf q k))
 
+pub bytes-fields : (m : ℕ) (q : Request) (k n : ℕ) → Bytes (fieldBytes m q k n)
+unfolding fieldBytes
+bytes-fields m q k zero = none
+bytes-fields m q k (suc n) = bytes-append (bytes-le (room m k) (fieldOf q k)) (bytes-fields m q (suc k) n)
+
 -- ---- a request that is written
 
 module _ (q : Request) where
-  pub length-of-write : length (write q) ≡ offset (wantedMap (q .kind)) fieldCount
+  pub bytes-write : Bytes (write q)
+  unfolding write
+  bytes-write = bytes-append (bytes-le 2 (wantedMap (q .kind))) (bytes-fields (wantedMap (q .kind)) q 0 fieldCount)
+
+  length-of-write : length (write q) ≡ offset (wantedMap (q .kind)) fieldCount
   unfolding write
   length-of-write =
       let m : ℕ = wantedMap (q .kind) in
@@ -137,18 +147,21 @@ module _ (q : Request) where
       let m : ℕ = wantedMap (q .kind) in
       rw (offset-step, ← drop-drop, drop-write k (suc n) (omega arith)) (drop-fields m q k n)
 
-  module _ (small : wantedMap (q .kind) < 2 ^ 13) where
+  module _ (h : isKind (q .kind) ≡ true) where
+    pub length-write : length (write q) ≡ wantedLength (q .kind)
+    length-write = length-of-write ∙ sym (tables-agree (q .kind) h .ends)
+
     -- the map reads back
     pub map-in-write : mapOf (write q) ≡ wantedMap (q .kind)
     unfolding mapOf numberAt write
     map-in-write =
         let m : ℕ = wantedMap (q .kind) in
-        ap number (take-at (le 2 m) (fieldBytes m q 0 fieldCount) 2 (length-le 2 m)) ∙ number-le 2 m (omega arith)
+        ap number (take-at (le 2 m) (fieldBytes m q 0 fieldCount) 2 (length-le 2 m)) ∙ number-le 2 m (omega (arith, tables-agree (q .kind) h .small))
 
     -- a field reads back as far as its room holds it
     pub field-in-write : (k : ℕ) → k < fieldCount → fieldIn (write q) k ≡ fieldOf q k % 256 ^ room (wantedMap (q .kind)) k
     unfolding numberAt
-    field-in-write k h =
+    field-in-write k l =
         let m : ℕ = wantedMap (q .kind) in
         let e : k + suc (12 - k) ≡ fieldCount = omega arith in
         field-in-room (write q) k

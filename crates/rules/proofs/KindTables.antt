@@ -11,9 +11,10 @@ use Rattle.rules.specs.Requests.{isKind, wantedMap, wantedLength, fieldC
 
 -- ---- a test at many numbers
 
-pub and-true : (a b : Bool) → (a && b) ≡ true → (a ≡ true) × (b ≡ true)
-and-true true b e = (refl, e)
-and-true false b e = absurd (false≢true e)
+-- both parts of a test hold
+pub both-true : (a b : Bool) → (a && b) ≡ true → (a ≡ true) × (b ≡ true)
+both-true true b e = (refl, e)
+both-true false b e = absurd (false≢true e)
 
 -- the test holds at n numbers from `from` on
 abbrev pub every : (ℕ → Bool) → ℕ → ℕ → Bool
@@ -22,10 +23,10 @@ every p (suc n) from = p from && every p n (suc from)
 
 pub every-at : (p : ℕ → Bool) (n from : ℕ) → every p n from ≡ true → (k : ℕ) → k < n → p (from + k) ≡ true
 every-at p zero from e k h = absurd (omega arith)
-every-at p (suc n) from e zero h = rw add-zero (and-true (p from) (every p n (suc from)) e .0)
+every-at p (suc n) from e zero h = rw add-zero (both-true (p from) (every p n (suc from)) e .0)
 every-at p (suc n) from e (suc k) h =
     let across : from + suc k ≡ suc from + k = omega arith in
-    rw across (every-at p n (suc from) (and-true (p from) (every p n (suc from)) e .1) k (omega arith))
+    rw across (every-at p n (suc from) (both-true (p from) (every p n (suc from)) e .1) k (omega arith))
 
 -- ---- the tables
 
@@ -48,7 +49,7 @@ each-agrees = refl
 
 pub is-kind : (n : ℕ) → isKind n ≡ true → (1 ≤ n) × (n ≤ 10)
 is-kind n h =
-    let (low, high) = and-true (leb 1 n) (leb n 10) h in
+    let (low, high) = both-true (leb 1 n) (leb n 10) h in
     (leb-true 1 n low, leb-true n 10 high)
 
 pub tables-agree : (kind : ℕ) → isKind kind ≡ true → Agree kind
@@ -57,6 +58,6 @@ tables-agree kind h =
     let (low, high) = is-kind kind h in
     let e : 1 + (kind - 1) ≡ kind = omega arith in
     let holds : agrees kind ≡ true = sym (ap agrees e) ∙ every-at agrees 10 1 each-agrees (kind - 1) (omega arith) in
-    let (both, small) = and-true _ (ltb (wantedMap kind) (2 ^ 13)) holds in
-    let (ends, named) = and-true (eqb (wantedLength kind) (offset (wantedMap kind) fieldCount)) (bit (wantedMap kind) 0) both in
+    let (first, small) = both-true _ (ltb (wantedMap kind) (2 ^ 13)) holds in
+    let (ends, named) = both-true (eqb (wantedLength kind) (offset (wantedMap kind) fieldCount)) (bit (wantedMap kind) 0) first in
     record { ends = eqb-true _ _ ends; named = named; small = ltb-true _ _ small }

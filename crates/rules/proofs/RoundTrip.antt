@@ -1,1 +1,151 @@
--- x
+-- Written and read are each other's inverse: both lay the fields whose bit stands side by side, in bit order, each in its width.
+use Prim.Native.Nat.{ℕ, zero, suc, _+_, _^_, _<_, _≤_}
+use mathlib.Core.Path.{_≡_, refl, sym, ap, _∙_}
+use mathlib.Core.List.{List, _++_}
+use mathlib.Core.Option.{Option, none, some}
+use mathlib.Core.Bool.{true, false, not}
+use native.Mathlib.Nat.{add-zero, mod-eq-of-lt}
+use native.Mathlib.Omega.{arith}
+use lib.ListN.{length, take, drop, length-drop, take-append-drop, drop-of-length-le}
+use lib.Seq.{drop-drop, length-take-le}
+use lib.Dec.{eqb, leb, ltb}
+use borrow.Author.Tests.{eqb-true, eq-eqb, not-false, le-ltb, lt-leb}
+use Rattle.wire.specs.Numbers.{number, numberAt, le, Bytes}
+use Rattle.wire.proofs.NumberLaws.{le-number-wide, bytes-take, bytes-drop}
+use Rattle.rules.specs.declared.Request.{Request}
+use Rattle.rules.specs.declared.Reading.the-variants.{Read}
+use Rattle.rules.specs.declared.Refusal.{Refusal}
+use Rattle.rules.specs.Basics.{Each, nil, cons, bit}
+use Rattle.rules.specs.Verdicts.{lowest}
+use Rattle.rules.specs.Requests.{isKind, wantedMap, wantedLength, fieldCount, mapOf, room, offset, fieldIn, requestOf, unreadable, readChecks, readingOf, reading, fieldOf, fieldBytes, write, Canonical, Fits}
+use Rattle.rules.proofs.Checks.{Passes, lowest-none, each-passes}
+use Rattle.rules.proofs.KindTables.{Agree, tables-agree}
+use Rattle.rules.proofs.Fields.{offset-first, offset-step, offset-grows, field-in-room, field-in-absent, field-in-fits, field-of-request, same-fields, length-write, map-in-write, field-in-write, canonical-fits}
+
+-- ---- when a record reads
+
+-- what the record itself is not refused for, 3 to 5; that it is readable, 2, follows, as the tables agree
+pub record Readable (s : List ℕ) : Type 0 where
+  pub known : isKind (fieldIn s 0) ≡ true
+  pub mapped : mapOf s ≡ wantedMap (fieldIn s 0)
+  pub sized : length s ≡ wantedLength (fieldIn s 0)
+
+passed : (s : List ℕ) → Each Passes (readChecks s) → Readable s
+unfolding readChecks
+passed s (cons readable (cons known (cons mapped (cons sized nil)))) =
+    record {
+      known = not-false _ known;
+      mapped = eqb-true _ _ (not-false _ mapped);
+      sized = eqb-true _ _ (not-false _ sized);
+    }
+
+-- what was read is what the record's fields say
+pub read-as : (s : List ℕ) (q : Request) → reading s ≡ Read q → Readable s × (requestOf s ≡ q)
+unfolding reading
+read-as s q e = go (lowest (readChecks s)) refl e
+  where
+    go : (o : Option Refusal) → lowest (readChecks s) ≡ o → readingOf o (requestOf s) ≡ Read q → Readable s × (requestOf s ≡ q)
+    go none f r = (passed s (lowest-none (readChecks s) f), cc)
+    go (some x) f r = absurd (let z : _≡_ {A = ℕ} 0 1 = cc in omega arith)
+
+-- a map with the kind, and the kind
+long-enough : (m : ℕ) → bit m 0 ≡ true → 3 ≤ offset m fieldCount
+unfolding room
+long-enough m b =
+    let r : room m 0 ≡ 1 = rw b in
+    omega (arith, offset-first m, offset-step m 0, offset-grows m 1 12)
+
+readable : (s : List ℕ) → Readable s → Agree (fieldIn s 0) → unreadable s ≡ false
+unfolding unreadable
+readable s r a =
+    let long : 3 ≤ length s = omega (arith, long-enough (wantedMap (fieldIn s 0)) (a .named)) in
+    let short : ltb (length s) 3 ≡ false = le-ltb _ _ long in
+    let high : leb (2 ^ 13) (wantedMap (fieldIn s 0)) ≡ false = lt-leb _ _ (a .small) in
+    rw (short, r .mapped, a .named, high)
+
+pub reads : (s : List ℕ) → Readable s → reading s ≡ Read (requestOf s)
+unfolding reading readChecks
+reads s r =
+    let fine = readable s r (tables-agree (fieldIn s 0) (r .known)) in
+    let known : not (isKind (fieldIn s 0)) ≡ false = rw (r .known) in
+    let mapped : not (eqb (mapOf s) (wantedMap (fieldIn s 0))) ≡ false = rw (eq-eqb _ _ (r .mapped)) in
+    let sized : not (eqb (length s) (wantedLength (fieldIn s 0))) ≡ false = rw (eq-eqb _ _ (r .sized)) in
+    rw (each-passes (readChecks s) (cons fine (cons known (cons mapped (cons sized nil)))))
+
+-- ---- a request, written and read
+
+module _ (q : Request) (h : isKind (q .kind) ≡ true) (c : Canonical q) (f : Fits q) where
+  pub field-reads-back : (k : ℕ) → k < fieldCount → fieldIn (write q) k ≡ fieldOf q k
+  field-reads-back k l = field-in-write q h k l ∙ mod-eq-of-lt (canonical-fits q c f k l)
+
+  same-request : requestOf (write q) ≡ q
+  same-request = same-fields (requestOf (write q)) q (λ k l. field-of-request (write q) k l ∙ field-reads-back k l)
+
+  pub written-reads-back : reading (write q) ≡ Read q
+  written-reads-back =
+      let kind : fieldIn (write q) 0 ≡ q .kind = field-reads-back 0 (omega arith) in
+      let keeps : Readable (write q) =
+      record { known = rw kind h; mapped = rw kind (map-in-write q h); sized = rw kind (length-write q h) } in
+      reads (write q) keeps ∙ ap Read same-request
+
+-- ---- a record, read and written
+
+-- the fields of a record, written again, are its bytes
+rewritten : (s : List ℕ) → Bytes s → length s ≡ offset (mapOf s) fieldCount → (k n : ℕ) → k + n ≡ fieldCount
+    → fieldBytes (mapOf s) (requestOf s) k n ≡ drop (offset (mapOf s) k) s
+unfolding fieldBytes numberAt
+rewritten s b e k zero l =
+    let last : length s ≤ offset (mapOf s) k = omega (arith, ap (offset (mapOf s)) (sym l ∙ add-zero k)) in
+    sym (drop-of-length-le s last)
+rewritten s b e k (suc n) l =
+    let m : ℕ = mapOf s in
+    let rest : List ℕ = drop (offset m k) s in
+    let w : ℕ = room m k in
+    let field : fieldOf (requestOf s) k ≡ number (take w rest) = field-of-request s k (omega arith) ∙ field-in-room s k in
+    let end : suc k + n ≡ fieldCount = omega arith in
+    let within : offset m (suc k) ≤ length s = omega (arith, offset-grows m (suc k) n, ap (offset m) end) in
+    let full : length (take w rest) ≡ w = length-take-le w rest (omega (arith, length-drop (offset m k) s, offset-step m k)) in
+    let first : le w (number (take w rest)) ≡ take w rest = le-number-wide (bytes-take w (bytes-drop (offset m k) b)) w full in
+    rw (field, first, rewritten s b e (suc k) n end, offset-step m k, ← drop-drop w (offset m k) s) (take-append-drop w rest)
+
+-- and so is its map
+map-rewritten : (s : List ℕ) → Bytes s → 2 ≤ length s → le 2 (mapOf s) ≡ take 2 s
+unfolding mapOf numberAt
+map-rewritten s b h = le-number-wide (bytes-take 2 b) 2 (length-take-le 2 s h)
+
+all-rewritten : (s : List ℕ) → Bytes s → length s ≡ offset (mapOf s) fieldCount
+    → le 2 (mapOf s) ++ fieldBytes (mapOf s) (requestOf s) 0 fieldCount ≡ s
+all-rewritten s b e =
+    let long : 2 ≤ length s = omega (arith, offset-first (mapOf s), offset-grows (mapOf s) 0 fieldCount) in
+    rw (map-rewritten s b long, rewritten s b e 0 fieldCount refl, offset-first (mapOf s)) (take-append-drop 2 s)
+
+-- the writer takes the map from the kind, which is the record's own
+write-again : (s : List ℕ) → Readable s → write (requestOf s) ≡ le 2 (mapOf s) ++ fieldBytes (mapOf s) (requestOf s) 0 fieldCount
+unfolding write requestOf
+write-again s r = rw (r .mapped)
+
+pub read-writes-back : (s : List ℕ) (q : Request) → Bytes s → reading s ≡ Read q → write q ≡ s
+read-writes-back s q b e =
+    let (r, same) = read-as s q e in
+    let ends : length s ≡ offset (mapOf s) fieldCount =
+    r .sized ∙ tables-agree (fieldIn s 0) (r .known) .ends ∙ ap (λ (m : ℕ). offset m fieldCount) (sym (r .mapped)) in
+    ap write (sym same) ∙ write-again s r ∙ all-rewritten s b ends
+
+-- ---- what was read is a request of a known kind, with just that kind's fields, each in its bytes
+
+module _ (s : List ℕ) (q : Request) (e : reading s ≡ Read q) where
+  pub read-field : (k : ℕ) → k < fieldCount → fieldOf q k ≡ fieldIn s k
+  read-field k l = ap (λ (p : Request). fieldOf p k) (sym (read-as s q e .1)) ∙ field-of-request s k l
+
+  pub read-is-known : isKind (q .kind) ≡ true
+  read-is-known = rw (read-field 0 (omega arith)) (read-as s q e .0 .known)
+
+  pub read-is-canonical : Canonical q
+  unfolding Canonical
+  read-is-canonical k l absent =
+      let mapped : mapOf s ≡ wantedMap (q .kind) = rw (read-field 0 (omega arith)) (read-as s q e .0 .mapped) in
+      read-field k l ∙ field-in-absent s k (rw mapped absent)
+
+  pub read-fits : Bytes s → Fits q
+  unfolding Fits
+  read-fits b k l = rw (read-field k l) (field-in-fits b k)
