@@ -32,7 +32,7 @@ pub record Readable (s : List ℕ) : Type 0 where
 
 passed : (s : List ℕ) → Each Passes (readChecks s) → Readable s
 unfolding readChecks
-passed s (cons readable (cons known (cons mapped (cons sized nil)))) =
+passed s (cons fine (cons known (cons mapped (cons sized nil)))) =
     record {
       known = not-false _ known;
       mapped = eqb-true _ _ (not-false _ mapped);
@@ -55,9 +55,9 @@ long-enough m b =
     let r : room m 0 ≡ 1 = rw b in
     omega (arith, offset-first m, offset-step m 0, offset-grows m 1 12)
 
-readable : (s : List ℕ) → Readable s → Agree (fieldIn s 0) → unreadable s ≡ false
+never-unreadable : (s : List ℕ) → Readable s → Agree (fieldIn s 0) → unreadable s ≡ false
 unfolding unreadable
-readable s r a =
+never-unreadable s r a =
     let long : 3 ≤ length s = omega (arith, long-enough (wantedMap (fieldIn s 0)) (a .named)) in
     let short : ltb (length s) 3 ≡ false = le-ltb _ _ long in
     let high : leb (2 ^ 13) (wantedMap (fieldIn s 0)) ≡ false = lt-leb _ _ (a .small) in
@@ -66,7 +66,7 @@ readable s r a =
 pub reads : (s : List ℕ) → Readable s → reading s ≡ Read (requestOf s)
 unfolding reading readChecks
 reads s r =
-    let fine = readable s r (tables-agree (fieldIn s 0) (r .known)) in
+    let fine = never-unreadable s r (tables-agree (fieldIn s 0) (r .known)) in
     let known : not (isKind (fieldIn s 0)) ≡ false = rw (r .known) in
     let mapped : not (eqb (mapOf s) (wantedMap (fieldIn s 0))) ≡ false = rw (eq-eqb _ _ (r .mapped)) in
     let sized : not (eqb (length s) (wantedLength (fieldIn s 0))) ≡ false = rw (eq-eqb _ _ (r .sized)) in
