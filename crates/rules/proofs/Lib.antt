@@ -1,7 +1,13 @@
 -- Laws of the definitions in specs/.
 -- Tests: what Boolean tests say.
 pub mod Tests
+-- Searches: what a search over a list says of its elements.
+pub mod Searches
 -- Differences: differences of natural numbers, compared, added to and negated by their parts.
 pub mod Differences
 -- SignedReading: the tests on natural numbers are the paper's signed statements.
 pub mod SignedReading
+-- Clearing: checks of which none applies.
+pub mod Clearing
+-- Passed: what an accepted call passed, a law for each number, and what a refused one keeps.
+pub mod Passed

@@ -17,6 +17,11 @@ pub and-both : (s t : Bool) → (s && t ≡ true) ↔ ((s ≡ true) × (t ≡ tr
 and-both true t = ((λ e. (refl, e)), (λ h. h .1))
 and-both false t = ((λ e. (e, cc)), (λ h. h .0))
 
+-- a conjunction fails and its first part holds
+pub and-spared : (s t : Bool) → s ≡ true → s && t ≡ false → t ≡ false
+and-spared true t e h = h
+and-spared false t e h = cc
+
 pub or-neither : (s t : Bool) → (s || t ≡ false) ↔ ((s ≡ false) × (t ≡ false))
 or-neither true t = ((λ e. (e, cc)), (λ h. h .0))
 or-neither false t = ((λ e. (refl, e)), (λ h. h .1))
