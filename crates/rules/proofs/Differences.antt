@@ -83,6 +83,23 @@ pub difference-less : (a b n : ℕ) → subℕ a b -ℤ pos n ≡ subℕ a (b + 
 difference-less a b zero = +ℤ-idr (subℕ a b) ∙ difference-same a b a (b + 0) (omega arith)
 difference-less a b (suc n) = less-go a b n (ltb a b) refl
 
+add-go : (a b c d : ℕ) (t : Bool) → ltb c d ≡ t
+    → subℕ a b +ℤ cond t (negsuc (d - suc c)) (pos (c - d)) ≡ subℕ (a + c) (b + d)
+add-go a b c d true e =
+    let l = ltb-true c d e in
+    less-go a b (d - suc c) (ltb a b) refl ∙ difference-same a (b + suc (d - suc c)) (a + c) (b + d) (omega arith)
+add-go a b c d false e =
+    let l = ltb-false c d e in
+    difference-more a b (c - d) ∙ difference-same (a + (c - d)) b (a + c) (b + d) (omega arith)
+
+-- (a - b) + (c - d)
+pub difference-add : (a b c d : ℕ) → subℕ a b +ℤ subℕ c d ≡ subℕ (a + c) (b + d)
+difference-add a b c d = add-go a b c d (ltb c d) refl
+
+-- n - n
+pub difference-none : (n : ℕ) → subℕ n n ≡ pos 0
+difference-none n = difference-same n n 0 0 (omega arith)
+
 negated-go : (a b : ℕ) (s t : Bool) → ltb a b ≡ s → ltb b a ≡ t
     → negℤ (cond s (negsuc (b - suc a)) (pos (a - b))) ≡ cond t (negsuc (a - suc b)) (pos (b - a))
 negated-go a b true true p q = let l = ltb-true a b p in let m = ltb-true b a q in absurd (omega arith)

@@ -11,3 +11,7 @@ pub mod SignedReading
 pub mod Clearing
 -- Passed: what an accepted call passed, a law for each number, and what a refused one keeps.
 pub mod Passed
+-- Totals: sums over lists and over the numbers counted.
+pub mod Totals
+-- Balanced: in each hour bought equals sold.
+pub mod Balanced

@@ -35,6 +35,11 @@ each-at d i nil h = absurd (omega arith)
 each-at d zero (cons p e) h = p
 each-at d (suc i) (cons p e) h = each-at d i e (omega arith)
 
+-- what follows for each element
+pub each-map {ℓ κ μ} : {A : Type ℓ} {P : A → Type κ} {Q : A → Type μ} {xs : List A} → ((x : A) → P x → Q x) → Each P xs → Each Q xs
+each-map f nil = nil
+each-map f (cons {x = x} p e) = cons (f x p) (each-map f e)
+
 -- the first that passes stands at that index
 pub record First {ℓ} {A : Type ℓ} (p : A → Bool) (xs : List A) (d : A) (i : ℕ) : Type 0 where
   pub inside : i < length xs
