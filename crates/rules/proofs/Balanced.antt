@@ -3,7 +3,7 @@
 use Prim.Native.Nat.{ℕ, _≤_}
 use mathlib.Core.Path.{_≡_, refl, sym, ap, _∙_}
 use mathlib.Core.List.{List, [], _∷_}
-use mathlib.Core.Bool.{_&&_}
+use mathlib.Core.Bool.{Bool, true, false, _&&_}
 use lib.Dec.{eqb}
 use lib.IntN.{ℤ, pos, subℕ, _+ℤ_}
 use Rattle.rules.specs.declared.Row.{Row}
@@ -21,6 +21,32 @@ pub record Parties (n : ℕ) (r : Row) : Type 0 where
   pub seller-high : seller r ≤ n
   pub side-low : 1 ≤ r .side
   pub side-high : r .side ≤ 2
+
+parties-go : (n : ℕ) (r : Row) (t : Bool) → eqb (r .side) 1 ≡ t → (1 ≤ r .proposer) × (r .proposer ≤ n)
+    → (1 ≤ r .counterparty) × (r .counterparty ≤ n) → (1 ≤ r .side) × (r .side ≤ 2) → Parties n r
+parties-go n r true e p c s =
+    record {
+      buyer-low = rw e (c .0);
+      buyer-high = rw e (c .1);
+      seller-low = rw e (p .0);
+      seller-high = rw e (p .1);
+      side-low = s .0;
+      side-high = s .1;
+    }
+parties-go n r false e p c s =
+    record {
+      buyer-low = rw e (p .0);
+      buyer-high = rw e (p .1);
+      seller-low = rw e (c .0);
+      seller-high = rw e (c .1);
+      side-low = s .0;
+      side-high = s .1;
+    }
+
+-- a row whose proposer and counterparty are accounts
+pub parties : (n : ℕ) (r : Row) → (1 ≤ r .proposer) × (r .proposer ≤ n) → (1 ≤ r .counterparty) × (r .counterparty ≤ n)
+    → (1 ≤ r .side) × (r .side ≤ 2) → Parties n r
+parties n r p c s = parties-go n r (eqb (r .side) 1) refl p c s
 
 -- what confirmed rows move in the hour
 abbrev pub movedAll : ℕ → List Row → ℕ

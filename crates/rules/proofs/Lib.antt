@@ -15,3 +15,5 @@ pub mod Passed
 pub mod Totals
 -- Balanced: in each hour bought equals sold.
 pub mod Balanced
+-- AccountHours: what one row more, or a row marked, does to an account hour.
+pub mod AccountHours

@@ -1,6 +1,6 @@
 -- What an accepted call passed: no check of its ranked list applies, so each test of the list is false. A law for each number
 -- says that of its test, at the kinds to which the number applies.
-use Prim.Native.Nat.{ℕ, _*_, _^_, _≤_, _<_}
+use Prim.Native.Nat.{ℕ, _+_, _-_, _*_, _^_, _≤_, _<_}
 use mathlib.Core.Path.{_≡_, refl, ap}
 use mathlib.Core.Logic.{_⊎_, inl, inr}
 use mathlib.Core.List.{List, [], _∷_, _++_}
@@ -16,15 +16,15 @@ use Rattle.rules.specs.declared.Request.{Request}
 use Rattle.rules.specs.declared.Refusal.{Refusal}
 use Rattle.rules.specs.declared.Outcome.{Outcome}
 use Rattle.rules.specs.declared.Verdict.the-variants.{Accepted, Refused}
-use Rattle.rules.specs.Basics.{any, nth, bit}
+use Rattle.rules.specs.Basics.{any, nth, counting, upTo, bit, Each, nil, cons}
 use Rattle.rules.specs.Limits.{mostPrice, mostRows, mostSchedules}
 use Rattle.rules.specs.Verdicts.{accepted}
 use Rattle.rules.specs.Books.{Part, Book, noRow, operatorCount, countsOf}
-use Rattle.rules.specs.Requests.{Kind, register, confirm, withdraw, guarantee, openBatch, undo, keep, closeGate, schedule, settle, isKind, wantedMap, wantedLength, mapOf, fieldIn, unreadable, readChecks, fieldCount, bits, inRange, faultyField, faultyBit, sameAccounts}
+use Rattle.rules.specs.Requests.{Kind, register, confirm, withdraw, guarantee, openBatch, undo, keep, closeGate, schedule, settle, kindNumber, kindOf, isKind, wantedMap, wantedLength, mapOf, fieldIn, requestOf, unreadable, readChecks, fieldCount, bits, inRange, faultyField, faultyBit, sameAccounts}
 use Rattle.rules.specs.Registration.{alike, confirms, withdraws, mirrors, brokenHour, covered}
 use Rattle.rules.specs.Settlement.{priceCount, pricesIn}
 use Rattle.rules.specs.Calls.{Call, requestIn, kindIn, next, given, confirmedNumber, _∈_, phaseOf, weighsOn, inputChecks, stateChecks, checks, refusal, answer, step}
-use Rattle.rules.proofs.Tests.{or-neither, and-spared}
+use Rattle.rules.proofs.Tests.{within-true, or-neither, and-spared}
 use Rattle.rules.proofs.Searches.{some-of, none-of, counting-at, counting-length, each-at, find-none}
 use Rattle.rules.proofs.Clearing.{Clear, clear, clear-split, clear-at, spared, spared↑, spared-for, spared↑-for}
 
@@ -46,6 +46,17 @@ module _ (s : List ℕ) (h : Clear (readChecks s)) where
   pub passed-5-record : length s ≡ wantedLength (fieldIn s 0)
   unfolding readChecks
   passed-5-record = eqb-true _ _ (not-false _ (spared _ _ (clear-at 3 (readChecks s) h)))
+
+kind-numbers : Each (λ n. kindNumber (kindOf n) ≡ n) (upTo 10)
+unfolding counting
+kind-numbers = cons refl (cons refl (cons refl (cons refl (cons refl (cons refl (cons refl (cons refl (cons refl (cons refl nil)))))))))
+
+-- the kind of a number from 1 to 10 has that number
+pub kind-number : (n : ℕ) → isKind n ≡ true → kindNumber (kindOf n) ≡ n
+kind-number n h =
+    let w = within-true 1 n 10 .0 h in
+    let e : 1 + (n - 1) ≡ n = omega arith in
+    rw (counting-at 10 1 0 (n - 1) (omega arith), e) at (each-at 0 (n - 1) kind-numbers (rw counting-length (omega arith)))
 
 -- under 3 bytes, bit 0 clear, or a bit of 13 to 15 set: none of these
 pub readable : (s : List ℕ) → unreadable s ≡ false → (3 ≤ length s) × (bit (mapOf s) 0 ≡ true) × (mapOf s < 2 ^ 13)
@@ -172,6 +183,11 @@ pub record Kept (b : Book) (c : Call) : Type 0 where
   pub book : step b c .book ≡ b
   pub results : step b c .results ≡ c .results
   pub balances : step b c .balances ≡ c .balances
+
+-- the request says the call's kind
+pub passed-kind : {b : Book} {c : Call} → Passed b c → kindNumber (kindIn c) ≡ requestIn c .kind
+unfolding requestOf
+passed-kind {c} p = kind-number (fieldIn (c .bytes) 0) (passed-3 (c .bytes) (p .read))
 
 pub passed : (b : Book) (c : Call) → refusal b c ≡ none → Passed b c
 unfolding step answer refusal checks
