@@ -17,3 +17,5 @@ pub mod Totals
 pub mod Balanced
 -- AccountHours: what one row more, or a row marked, does to an account hour.
 pub mod AccountHours
+-- RowTests: what the tests on rows say, and the rows that an accepted confirm and withdraw name.
+pub mod RowTests

@@ -18,7 +18,7 @@ use Rattle.rules.specs.declared.Outcome.{Outcome}
 use Rattle.rules.specs.declared.Verdict.the-variants.{Accepted, Refused}
 use Rattle.rules.specs.Basics.{any, nth, counting, upTo, bit, Each, nil, cons}
 use Rattle.rules.specs.Limits.{mostPrice, mostRows, mostSchedules}
-use Rattle.rules.specs.Verdicts.{accepted}
+use Rattle.rules.specs.Verdicts.{accepted, refused}
 use Rattle.rules.specs.Books.{Part, Book, noRow, operatorCount, countsOf}
 use Rattle.rules.specs.Requests.{Kind, register, confirm, withdraw, guarantee, openBatch, undo, keep, closeGate, schedule, settle, kindNumber, kindOf, isKind, wantedMap, wantedLength, mapOf, fieldIn, requestOf, unreadable, readChecks, fieldCount, bits, inRange, faultyField, faultyBit, sameAccounts}
 use Rattle.rules.specs.Registration.{alike, confirms, withdraws, mirrors, brokenHour, covered}
@@ -178,8 +178,10 @@ pub record Passed (b : Book) (c : Call) : Type 0 where
   pub input : Clear (inputChecks b c (kindIn c) (requestIn c))
   pub state : Clear (stateChecks b (kindIn c) (requestIn c))
 
--- a refused call: the book and both buffers as they were
+-- a refused call: why, and the book and both buffers as they were
 pub record Kept (b : Book) (c : Call) : Type 0 where
+  pub why : Refusal
+  pub outcome : step b c .outcome ≡ refused why
   pub book : step b c .book ≡ b
   pub results : step b c .results ≡ c .results
   pub balances : step b c .balances ≡ c .balances
@@ -201,7 +203,7 @@ passed b c e =
 
 pub refused-keeps : (b : Book) (c : Call) (r : Refusal) → refusal b c ≡ some r → Kept b c
 unfolding step answer
-refused-keeps b c r e = record { book = rw e; results = rw e; balances = rw e }
+refused-keeps b c r e = record { why = r; outcome = rw e; book = rw e; results = rw e; balances = rw e }
 
 cases-go : (b : Book) (c : Call) (o : Option Refusal) → refusal b c ≡ o → Kept b c ⊎ Passed b c
 cases-go b c (some r) e = inl (refused-keeps b c r e)
