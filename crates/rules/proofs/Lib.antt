@@ -1,6 +1,24 @@
--- Laws of the definitions of `rules`.
--- Checks: what a list of checks of which none applies says of each.
-pub mod Checks
+-- Laws of the definitions in specs/.
+-- Tests: what Boolean tests say.
+pub mod Tests
+-- Searches: what a search over a list says of its elements.
+pub mod Searches
+-- Differences: differences of natural numbers, compared, added to and negated by their parts.
+pub mod Differences
+-- SignedReading: the tests on natural numbers are the paper's signed statements.
+pub mod SignedReading
+-- Clearing: checks of which none applies.
+pub mod Clearing
+-- Passed: what an accepted call passed, a law for each number, and what a refused one keeps.
+pub mod Passed
+-- Totals: sums over lists and over the numbers counted.
+pub mod Totals
+-- Balanced: in each hour bought equals sold.
+pub mod Balanced
+-- AccountHours: what one row more, or a row marked, does to an account hour.
+pub mod AccountHours
+-- RowTests: what the tests on rows say, and the rows that an accepted confirm and withdraw name.
+pub mod RowTests
 -- KindTables: the tables by kind agree with each other.
 pub mod KindTables
 -- Fields: where the fields of a record lie, and what they hold.

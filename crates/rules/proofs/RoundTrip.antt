@@ -18,7 +18,8 @@ use Rattle.rules.specs.declared.Refusal.{Refusal}
 use Rattle.rules.specs.Basics.{Each, nil, cons, bit}
 use Rattle.rules.specs.Verdicts.{lowest}
 use Rattle.rules.specs.Requests.{isKind, wantedMap, wantedLength, fieldCount, mapOf, room, offset, fieldIn, requestOf, unreadable, readChecks, readingOf, reading, fieldOf, fieldBytes, write, Canonical, Fits}
-use Rattle.rules.proofs.Checks.{Passes, lowest-none, each-passes}
+use Rattle.rules.proofs.Clearing.{Clear, clear, clear-lowest}
+use Rattle.rules.proofs.Passed.{passed-3, passed-4, passed-5-record}
 use Rattle.rules.proofs.KindTables.{Agree, tables-agree}
 use Rattle.rules.proofs.Fields.{offset-first, offset-step, offset-grows, field-in-room, field-in-absent, field-in-fits, field-of-request, same-fields, length-write, map-in-write, field-in-write, canonical-fits}
 
@@ -30,14 +31,8 @@ pub record Readable (s : List ℕ) : Type 0 where
   pub mapped : mapOf s ≡ wantedMap (fieldIn s 0)
   pub sized : length s ≡ wantedLength (fieldIn s 0)
 
-passed : (s : List ℕ) → Each Passes (readChecks s) → Readable s
-unfolding readChecks
-passed s (cons fine (cons known (cons mapped (cons sized nil)))) =
-    record {
-      known = not-false _ known;
-      mapped = eqb-true _ _ (not-false _ mapped);
-      sized = eqb-true _ _ (not-false _ sized);
-    }
+passed : (s : List ℕ) → Clear (readChecks s) → Readable s
+passed s h = record { known = passed-3 s h; mapped = passed-4 s h; sized = passed-5-record s h }
 
 -- what was read is what the record's fields say
 pub read-as : (s : List ℕ) (q : Request) → reading s ≡ Read q → Readable s × (requestOf s ≡ q)
@@ -45,7 +40,7 @@ unfolding reading
 read-as s q e = go (lowest (readChecks s)) refl e
   where
     go : (o : Option Refusal) → lowest (readChecks s) ≡ o → readingOf o (requestOf s) ≡ Read q → Readable s × (requestOf s ≡ q)
-    go none f r = (passed s (lowest-none (readChecks s) f), cc)
+    go none f r = (passed s (clear (readChecks s) f), cc)
     go (some x) f r = absurd (let z : _≡_ {A = ℕ} 0 1 = cc in omega arith)
 
 -- a map with the kind, and the kind
@@ -67,10 +62,9 @@ pub reads : (s : List ℕ) → Readable s → reading s ≡ Read (requestOf s)
 unfolding reading readChecks
 reads s r =
     let fine = never-unreadable s r (tables-agree (fieldIn s 0) (r .known)) in
-    let known : not (isKind (fieldIn s 0)) ≡ false = rw (r .known) in
-    let mapped : not (eqb (mapOf s) (wantedMap (fieldIn s 0))) ≡ false = rw (eq-eqb _ _ (r .mapped)) in
-    let sized : not (eqb (length s) (wantedLength (fieldIn s 0))) ≡ false = rw (eq-eqb _ _ (r .sized)) in
-    rw (each-passes (readChecks s) (cons fine (cons known (cons mapped (cons sized nil)))))
+    let none-applies : Clear (readChecks s) =
+    (rw fine, (rw (r .known), (rw (eq-eqb _ _ (r .mapped)), (rw (eq-eqb _ _ (r .sized)), tt)))) in
+    rw (clear-lowest (readChecks s) none-applies)
 
 -- ---- a request, written and read
 

@@ -22,6 +22,11 @@ module _ {ℓ} {A : Type ℓ} where
   any p [] = false
   any p (x ∷ xs) = elim (p x) [ true ↦ true | false ↦ any p xs ]
 
+  -- every element passes the test
+  unfoldable pub every : (A → Bool) → List A → Bool
+  every p [] = true
+  every p (x ∷ xs) = p x && every p xs
+
   -- the first that passes
   unfoldable pub find : (A → Bool) → List A → Option A
   find p [] = none
@@ -56,6 +61,11 @@ module _ {ℓ} {A : Type ℓ} where
   pub data Each {κ} (P : A → Type κ) : List A → Type (ℓ ⊔ κ) where
     nil : Each P []
     cons : {x : A} {xs : List A} → P x → Each P xs → Each P (x ∷ xs)
+
+-- all of a list of tests hold
+unfoldable pub allOf : List Bool → Bool
+allOf [] = true
+allOf (t ∷ ts) = t && allOf ts
 
 abbrev pub isSome {ℓ} : {A : Type ℓ} → Option A → Bool
 isSome none = false

@@ -1,6 +1,6 @@
 -- All definitions that compute a replay, opened at once: an example says `unfolding everything`.
 use Rattle.wire.specs.Numbers.{number, numberAt, le, signed}
-use Rattle.rules.specs.Basics.{total, any, find, indexOf, entries, joined, counting, bit}
+use Rattle.rules.specs.Basics.{total, any, every, find, indexOf, entries, joined, allOf, counting, bit}
 use Rattle.rules.specs.Verdicts.{lowest}
 use Rattle.rules.specs.Opening.{priceIn, operatorIn, accountIn, pointIn, estimatesIn, operatorsIn, accountsIn, pointsIn, setupOf, guaranteesOf, badCounts, misshapen, operatorsOf, setupBytes, valuesOf, estimateValues, operatorValues, accountValues, pointValues, values, faultyOffset, setupRefusal, openOutcome, opened}
 use Rattle.rules.specs.Requests.{bits, mapOf, room, offset, fieldIn, requestOf, more, unreadable, readChecks, reading, fieldBytes, write, writeOutcome, written, inRange, faultyField, faultyBit, sameAccounts}
@@ -13,7 +13,7 @@ use Rattle.rules.specs.Ledger.{blank, newLedger, without, turn, feed, fe
 
 unfoldable pub everything : Unit {0}
 unfolding number numberAt le signed
-    total any find indexOf entries joined counting bit
+    total any every find indexOf entries joined allOf counting bit
     lowest
     priceIn operatorIn accountIn pointIn estimatesIn operatorsIn accountsIn pointsIn setupOf guaranteesOf badCounts misshapen operatorsOf
     setupBytes valuesOf estimateValues operatorValues accountValues pointValues values faultyOffset setupRefusal openOutcome opened
