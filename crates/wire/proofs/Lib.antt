@@ -3,3 +3,7 @@
 pub mod NumberLaws
 -- RegionLaws: what a replaced region holds, and what it leaves.
 pub mod RegionLaws
+-- ZeroLaws: zero bytes, and the test that finds them.
+pub mod ZeroLaws
+-- PartLaws: parts of fixed width side by side, read, replaced, cut and put together again; numbers in their widths.
+pub mod PartLaws
