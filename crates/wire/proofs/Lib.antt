@@ -7,3 +7,7 @@ pub mod RegionLaws
 pub mod ZeroLaws
 -- PartLaws: parts of fixed width side by side, read, replaced, cut and put together again; numbers in their widths.
 pub mod PartLaws
+-- SlotLaws: cells of one width, elements in them and zeros behind.
+pub mod SlotLaws
+-- SweepLaws: a loop over cells.
+pub mod SweepLaws

@@ -1,0 +1,88 @@
+-- A loop over cells touches only the part that it runs in, and there it is f put to each cell.
+use Prim.Native.Nat.{ℕ, zero, suc, _+_, _*_, _≤_, _<_}
+use mathlib.Core.Path.{_≡_, refl, sym, ap, _∙_}
+use mathlib.Core.List.{List, [], _∷_, _++_}
+use native.Mathlib.Nat.{zero-add, mul-le-mul-left}
+use native.Mathlib.Omega.{arith}
+use lib.ListN.{length, getD, set, take, drop, length-append, length-drop}
+use lib.Seq.{take-at, take-append-le, drop-append-le, drop-append-add, length-take-le}
+use Rattle.wire.specs.Regions.{splice}
+use Rattle.wire.specs.Parts.{flat, startOf, Wide, sweep, over}
+use Rattle.wire.proofs.RegionLaws.{splice-left, splice-right, splice-all, length-splice}
+use Rattle.wire.proofs.PartLaws.{before, before-start, wide-count, wide-at}
+use Rattle.wire.proofs.SlotLaws.{Uniform, length-uniform}
+
+module _ (f : List ℕ → List ℕ) (w : ℕ) (keeps : (c : List ℕ) → length c ≡ w → length (f c) ≡ w) where
+  pub length-sweep : (n : ℕ) (s : List ℕ) (j : ℕ) → j + w * n ≤ length s → length (sweep f w s j n) ≡ length s
+  unfolding sweep
+  length-sweep zero s j h = refl
+  length-sweep (suc n) s j h =
+      let c : length (take w (drop j s)) ≡ w = length-take-le w (drop j s) (omega (arith, length-drop j s)) in
+      let lx : length (f (take w (drop j s))) ≡ w = keeps (take w (drop j s)) c in
+      let ls : length (splice s j (f (take w (drop j s)))) ≡ length s = length-splice s j _ (omega arith) in
+      length-sweep n (splice s j (f (take w (drop j s)))) (j + w) (omega arith) ∙ ls
+
+  -- a loop inside the first of two lists, or inside the second
+  pub sweep-right : (n : ℕ) (a b : List ℕ) (at j : ℕ) → at ≡ length a + j → j + w * n ≤ length b → sweep f w (a ++ b) at n ≡ a ++ sweep f w b j n
+  unfolding sweep
+  sweep-right zero a b at j e h = refl
+  sweep-right (suc n) a b at j e h =
+      let d : drop at (a ++ b) ≡ drop j b = ap (λ (k : ℕ). drop k (a ++ b)) e ∙ drop-append-add a b j in
+      let x : List ℕ = f (take w (drop j b)) in
+      let c : length (take w (drop j b)) ≡ w = length-take-le w (drop j b) (omega (arith, length-drop j b)) in
+      let lx : length x ≡ w = keeps (take w (drop j b)) c in
+      let ls : length (splice b j x) ≡ length b = length-splice b j x (omega arith) in
+      rw (d, splice-right a b at j x e) (sweep-right n a (splice b j x) (at + w) (j + w) (omega arith) (omega arith))
+
+  pub sweep-left : (n : ℕ) (a b : List ℕ) (j : ℕ) → j + w * n ≤ length a → sweep f w (a ++ b) j n ≡ sweep f w a j n ++ b
+  unfolding sweep
+  sweep-left zero a b j h = refl
+  sweep-left (suc n) a b j h =
+      let t : take w (drop j (a ++ b)) ≡ take w (drop j a) =
+          ap (take w) (drop-append-le j a b (omega arith)) ∙ take-append-le w (drop j a) b (omega (arith, length-drop j a)) in
+      let x : List ℕ = f (take w (drop j a)) in
+      let c : length (take w (drop j a)) ≡ w = length-take-le w (drop j a) (omega (arith, length-drop j a)) in
+      let lx : length x ≡ w = keeps (take w (drop j a)) c in
+      let ls : length (splice a j x) ≡ length a = length-splice a j x (omega arith) in
+      rw (t, splice-left a b j x (omega arith)) (sweep-left n (splice a j x) b (j + w) (omega arith))
+
+  -- a loop inside part k
+  pub sweep-flat : (ss : List (List ℕ)) (k j n : ℕ) → k < length ss → j + w * n ≤ length (getD ss k [])
+      → sweep f w (flat ss) (before ss k + j) n ≡ flat (set ss k (sweep f w (getD ss k []) j n))
+  unfolding flat before
+  sweep-flat [] k j n h g = absurd (omega arith)
+  sweep-flat (s ∷ ss) zero j n h g = rw (zero-add j) (sweep-left n s (flat ss) j g)
+  sweep-flat (s ∷ ss) (suc k) j n h g =
+      sweep-right n s (flat ss) (length s + before ss k + j) (before ss k + j) (omega arith) (long k ss j n (omega arith) g)
+      ∙ ap (λ (t : List ℕ). s ++ t) (sweep-flat ss k j n (omega arith) g)
+    where
+      long : (k : ℕ) (ss : List (List ℕ)) (j n : ℕ) → k < length ss → j + w * n ≤ length (getD ss k []) → before ss k + j + w * n ≤ length (flat ss)
+      long k [] j n h g = absurd (omega arith)
+      long zero (s ∷ ss) j n h g = omega (arith, length-append s (flat ss))
+      long (suc k) (s ∷ ss) j n h g = omega (arith, length-append s (flat ss), long k ss j n (omega arith) g)
+
+  pub sweep-part : (ws : List ℕ) (ss : List (List ℕ)) → Wide ws ss → (k j n at : ℕ) → k < length ws → j + w * n ≤ getD ws k 0 → at ≡ startOf ws k + j
+      → sweep f w (flat ss) at n ≡ flat (set ss k (sweep f w (getD ss k []) j n))
+  sweep-part ws ss wide k j n at h g e =
+      let b = before-start ws ss k wide in
+      let m = wide-count ws ss wide in
+      let l = wide-at ws ss k wide in
+      let p : at ≡ before ss k + j = omega arith in
+      rw p (sweep-flat ss k j n (omega arith) (omega arith))
+
+  -- a loop over the cells of a list of cells
+  pub sweep-cells : (n : ℕ) (cs : List (List ℕ)) (i at : ℕ) → Uniform w cs → i + n ≤ length cs → at ≡ w * i → sweep f w (flat cs) at n ≡ flat (over f i n cs)
+  unfolding flat over sweep
+  sweep-cells zero cs i at u h e = refl
+  sweep-cells (suc n) [] i at u h e = absurd (omega arith)
+  sweep-cells (suc n) (c ∷ cs) zero at u h e =
+      let p : at ≡ 0 = omega arith in
+      let t : take w (c ++ flat cs) ≡ c = take-at c (flat cs) w (u .0) in
+      let lx : length (f c) ≡ w = keeps c (u .0) in
+      let lc = length-uniform w cs (u .1) in
+      let s : splice (c ++ flat cs) 0 (f c) ≡ f c ++ flat cs = splice-left c (flat cs) 0 (f c) (omega (arith, u .0)) ∙ rw (splice-all c (f c) (lx ∙ sym (u .0))) in
+      rw (p, t, s) (sweep-right n (f c) (flat cs) (0 + w) 0 (omega arith) (omega (arith, mul-le-mul-left {m = n} {n = length cs} w (omega arith))) ∙ ap (λ (t : List ℕ). f c ++ t) (sweep-cells n cs zero 0 (u .1) (omega arith) (omega arith)))
+  sweep-cells (suc n) (c ∷ cs) (suc i) at u h e =
+      let lc = length-uniform w cs (u .1) in
+      sweep-right (suc n) c (flat cs) at (w * i) (omega (arith, u .0)) (omega (arith, mul-le-mul-left {m = i + suc n} {n = length cs} w (omega arith)))
+      ∙ ap (λ (t : List ℕ). c ++ t) (sweep-cells (suc n) cs i (w * i) (u .1) (omega arith) refl)
