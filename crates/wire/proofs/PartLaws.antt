@@ -1,17 +1,18 @@
--- A part is read and replaced where its width says, in its own list, and cutting undoes putting side by side, there and back.
-use Prim.Native.Nat.{ℕ, zero, suc, _+_, _^_, _≤_, _<_}
+-- A part is read and replaced at the sum of the widths before it, and cutting undoes putting side by side, there and back.
+use Prim.Native.Nat.{ℕ, zero, suc, _+_, _-_, _≤_, _<_}
 use mathlib.Core.Path.{_≡_, refl, sym, ap, _∙_}
 use mathlib.Core.List.{List, [], _∷_, _++_, map, append-assoc}
+use mathlib.Core.Bool.{true}
 use native.Mathlib.Nat.{zero-add, add-assoc}
 use native.Mathlib.Omega.{arith}
-use lib.ListN.{length, getD, set, take, drop, length-append, length-map, length-drop, take-append-drop, List·getD-map}
+use lib.ListN.{length, getD, set, take, drop, length-append, length-drop, take-append-drop}
 use lib.Seq.{take-at, drop-at, take-append-le, drop-append-le, drop-append-add, length-take-le, take-all, take-take, drop-drop}
-use Rattle.wire.specs.Numbers.{number, numberAt, le, Bytes, none, more}
-use Rattle.wire.specs.Regions.{splice}
-use Rattle.wire.specs.Parts.{zeros, flat, cut, startOf, Wide, pieces, pack, unpack, Small}
-use Rattle.wire.proofs.NumberLaws.{length-le, number-le, le-number-wide, bytes-le, bytes-take, bytes-drop, bytes-append, number-at-small}
+use Rattle.wire.specs.Numbers.{number, numberAt, Bytes}
+use Rattle.wire.specs.Regions.{splice, zerosFrom}
+use Rattle.wire.specs.Parts.{zeros, flat, cut, startOf, Wide}
+use Rattle.wire.proofs.NumberLaws.{bytes-take, bytes-drop}
 use Rattle.wire.proofs.RegionLaws.{splice-left, splice-right, splice-all}
-use Rattle.wire.proofs.ZeroLaws.{length-zeros, zeros-none, zeros-add}
+use Rattle.wire.proofs.ZeroLaws.{length-zeros, zeros-none, zeros-add, zeros-read, zeros-tested}
 
 -- ---- parts side by side
 
@@ -188,82 +189,22 @@ pub number-inner : (n j m at : ℕ) (s : List ℕ) → j + n ≤ m → numberAt 
 unfolding numberAt
 number-inner n j m at s h = ap number (inner n j m at s h)
 
--- ---- numbers, each in its width
+-- part k past its first n bytes
+pub cut-rest : (ws s : List ℕ) (k n : ℕ) → n ≤ getD ws k 0 → startOf ws k + getD ws k 0 ≤ length s
+    → drop n (getD (cut ws s) k []) ≡ take (getD ws k 0 - n) (drop (startOf ws k + n) s)
+cut-rest ws s k n l h =
+    let w : ℕ = getD ws k 0 in
+    let at : ℕ = startOf ws k in
+    let d : List ℕ = take w (drop at s) in
+    let m : length d ≡ w = length-take-le w (drop at s) (omega (arith, length-drop at s)) in
+    ap (drop n) (cut-at ws s k)
+    ∙ sym (take-all (w - n) (drop n d) (omega (arith, length-drop n d)))
+    ∙ inner (w - n) n w at s (omega arith)
 
-pub wide-pieces : (ws vs : List ℕ) → length ws ≡ length vs → Wide ws (pieces ws vs)
-unfolding pieces
-wide-pieces [] [] h = tt
-wide-pieces [] (v ∷ vs) h = absurd (omega arith)
-wide-pieces (w ∷ ws) [] h = absurd (omega arith)
-wide-pieces (w ∷ ws) (v ∷ vs) h = (length-le w v, wide-pieces ws vs (omega arith))
+-- the test of the whole bytes says whether that is zero
+module _ (ws s : List ℕ) (k n : ℕ) (l : n ≤ getD ws k 0) (h : startOf ws k + getD ws k 0 ≤ length s) where
+  pub rest-zeros-read : zerosFrom s (startOf ws k + n) (getD ws k 0 - n) ≡ true → drop n (getD (cut ws s) k []) ≡ zeros (getD ws k 0 - n)
+  rest-zeros-read t = cut-rest ws s k n l h ∙ zeros-read (getD ws k 0 - n) s (startOf ws k + n) (omega arith) t
 
-pub length-pack : (ws vs : List ℕ) → length ws ≡ length vs → length (pack ws vs) ≡ startOf ws (length ws)
-unfolding pack
-length-pack ws vs h = length-flat ws (pieces ws vs) (wide-pieces ws vs h)
-
-pub bytes-pack : (ws vs : List ℕ) → Bytes (pack ws vs)
-unfolding pack flat pieces
-bytes-pack [] vs = none
-bytes-pack (w ∷ ws) [] = none
-bytes-pack (w ∷ ws) (v ∷ vs) = bytes-append (bytes-le w v) (bytes-pack ws vs)
-
-pub small-count : (ws vs : List ℕ) → Small ws vs → length ws ≡ length vs
-small-count [] [] h = refl
-small-count [] (v ∷ vs) h = absurd h
-small-count (w ∷ ws) [] h = absurd h
-small-count (w ∷ ws) (v ∷ vs) h = ap suc (small-count ws vs (h .1))
-
--- what was packed is read back
-pub unpack-pack : (ws vs : List ℕ) → Small ws vs → unpack ws (pack ws vs) ≡ vs
-unfolding pack unpack pieces
-unpack-pack ws vs h = rw (cut-flat ws (pieces ws vs) (wide-pieces ws vs (small-count ws vs h))) (numbers-pieces ws vs h)
-  where
-    numbers-pieces : (ws vs : List ℕ) → Small ws vs → map number (pieces ws vs) ≡ vs
-    numbers-pieces [] [] h = refl
-    numbers-pieces [] (v ∷ vs) h = absurd h
-    numbers-pieces (w ∷ ws) [] h = absurd h
-    numbers-pieces (w ∷ ws) (v ∷ vs) h = rw (number-le w v (h .0), numbers-pieces ws vs (h .1))
-
--- what was read packs to the same bytes
-pub pack-unpack : (ws : List ℕ) {s : List ℕ} → Bytes s → length s ≡ startOf ws (length ws) → pack ws (unpack ws s) ≡ s
-unfolding pack unpack pieces cut
-pack-unpack ws {s} h l = rw (pieces-cut ws s h (omega arith)) (flat-cut ws s l)
-  where
-    pieces-cut : (ws s : List ℕ) → Bytes s → startOf ws (length ws) ≤ length s → pieces ws (map number (cut ws s)) ≡ cut ws s
-    pieces-cut [] s h l = refl
-    pieces-cut (w ∷ ws) s h l =
-        rw (le-number-wide (bytes-take w h) w (length-take-le w s (omega arith)), pieces-cut ws (drop w s) (bytes-drop w h) (omega (arith, length-drop w s)))
-
-pub length-unpack : (ws s : List ℕ) → length (unpack ws s) ≡ length ws
-unfolding unpack
-length-unpack ws s = length-map (cut ws s) number ∙ length-cut ws s
-
--- number k is the number at its place
-pub unpack-at : (ws s : List ℕ) (k : ℕ) → getD (unpack ws s) k 0 ≡ numberAt s (startOf ws k) (getD ws k 0)
-unfolding unpack numberAt number
-unpack-at ws s k = List·getD-map number (cut ws s) k [] ∙ ap number (cut-at ws s k)
-
-pub number-in-pack : (ws vs : List ℕ) (k : ℕ) → Small ws vs → numberAt (pack ws vs) (startOf ws k) (getD ws k 0) ≡ getD vs k 0
-number-in-pack ws vs k h = sym (unpack-at ws (pack ws vs) k) ∙ ap (λ (l : List ℕ). getD l k 0) (unpack-pack ws vs h)
-
-pub small-unpack : (ws : List ℕ) {s : List ℕ} → Bytes s → Small ws (unpack ws s)
-unfolding unpack cut numberAt
-small-unpack [] h = tt
-small-unpack (w ∷ ws) {s} h = (small h 0 w, small-unpack ws (bytes-drop w h))
-  where
-    small : {s : List ℕ} → Bytes s → (at w : ℕ) → number (take w (drop at s)) < 256 ^ w
-    small h at w = number-at-small h at w
-
--- one number replaced
-pub write-number : (ws vs : List ℕ) (k at v : ℕ) → length ws ≡ length vs → k < length ws → at ≡ startOf ws k
-    → splice (pack ws vs) at (le (getD ws k 0) v) ≡ pack ws (set vs k v)
-unfolding pack pieces
-write-number ws vs k at v n h e =
-    write-whole ws (pieces ws vs) (wide-pieces ws vs n) k at (le (getD ws k 0) v) h (length-le (getD ws k 0) v) e
-    ∙ ap flat (pieces-set ws vs k v n)
-  where
-    pieces-set : (ws vs : List ℕ) (k v : ℕ) → length ws ≡ length vs → set (pieces ws vs) k (le (getD ws k 0) v) ≡ pieces ws (set vs k v)
-    pieces-set [] vs k v n = refl
-    pieces-set (w ∷ ws) [] k v n = absurd (omega arith)
-    pieces-set (w ∷ ws) (x ∷ vs) zero v n = refl
-    pieces-set (w ∷ ws) (x ∷ vs) (suc k) v n = ap (λ (l : List (List ℕ)). le w x ∷ l) (pieces-set ws vs k v (omega arith))
+  pub rest-zeros-tested : drop n (getD (cut ws s) k []) ≡ zeros (getD ws k 0 - n) → zerosFrom s (startOf ws k + n) (getD ws k 0 - n) ≡ true
+  rest-zeros-tested e = zeros-tested (getD ws k 0 - n) s (startOf ws k + n) (omega arith) (sym (cut-rest ws s k n l h) ∙ e)

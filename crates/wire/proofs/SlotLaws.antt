@@ -1,12 +1,12 @@
 -- Cells of one width: cell i stands at w * i, so an element is read, replaced or added there, and the zeros behind stay zeros.
 use Prim.Native.Nat.{ℕ, zero, suc, _+_, _-_, _*_, _≤_, _<_}
 use mathlib.Core.Path.{_≡_, refl, sym, ap, _∙_}
-use mathlib.Core.List.{List, [], _∷_, _++_, map, map-map, map-append, append-assoc, append-nil}
+use mathlib.Core.List.{List, [], _∷_, _++_, map, map-map, map-append, append-assoc}
 use native.Mathlib.Nat.{mul-zero, mul-le-mul-left, mul-sub}
 use native.Mathlib.Omega.{arith}
-use lib.ListN.{length, getD, set, take, drop, replicate, length-append, length-replicate, length-map, length-take, length-drop, length-set, List·getD-append, take-append-drop}
-use lib.Seq.{take-at, drop-at, take-all, take-add, take-length, length-take-le, drop-drop, set-append-left, getD-at, set-at, ext-getD}
-use Rattle.wire.specs.Numbers.{Bytes}
+use lib.ListN.{length, getD, set, take, drop, replicate, length-append, length-replicate, length-map, length-drop, length-set, List·getD-append, take-append-drop}
+use lib.Seq.{take-at, drop-at, take-all, take-add, length-take-le, drop-drop, set-append-left, getD-at, set-at, ext-getD}
+use Rattle.wire.specs.Numbers.{number, numberAt, Bytes}
 use Rattle.wire.specs.Regions.{splice}
 use Rattle.wire.specs.Parts.{zeros, flat, cells, slots, chunks}
 use Rattle.wire.proofs.NumberLaws.{bytes-take, bytes-drop}
@@ -142,19 +142,19 @@ module _ {A : Type 0} (w n : ℕ) (enc : A → List ℕ) (wide : (x : A) → len
   length-slots xs h = length-uniform w _ (uniform-cells xs) ∙ rw (length-cells xs h)
 
   -- the elements, then zeros
-  pub slots-split : (xs : List A) → slots w n enc xs ≡ flat (map enc xs) ++ zeros (w * (n - length xs))
+  pub slots-split : (xs : List A) → slots w n enc xs ≡ flat (map enc xs) ++ zeros (w * n - w * length xs)
   unfolding slots cells
-  slots-split xs = flat-append (map enc xs) (replicate (n - length xs) (zeros w)) ∙ rw (flat-zero-cells w (n - length xs))
+  slots-split xs = flat-append (map enc xs) (replicate (n - length xs) (zeros w)) ∙ rw (flat-zero-cells w (n - length xs), mul-sub w n (length xs))
 
   pub slots-none : slots w n enc [] ≡ zeros (w * n)
   unfolding flat
-  slots-none = slots-split [] ∙ (let e : n - 0 ≡ n = omega arith in rw e)
+  slots-none = slots-split [] ∙ (let e : w * n - w * 0 ≡ w * n = omega arith in rw e)
 
   -- behind the elements stand zeros
-  pub slots-rest : (xs : List A) → drop (w * length xs) (slots w n enc xs) ≡ zeros (w * (n - length xs))
+  pub slots-rest : (xs : List A) → drop (w * length xs) (slots w n enc xs) ≡ zeros (w * n - w * length xs)
   slots-rest xs =
       ap (drop (w * length xs)) (slots-split xs)
-      ∙ drop-at (flat (map enc xs)) (zeros (w * (n - length xs))) (w * length xs)
+      ∙ drop-at (flat (map enc xs)) (zeros (w * n - w * length xs)) (w * length xs)
       (length-uniform w (map enc xs) (uniform-map w enc xs wide) ∙ rw length-map)
 
   cell-of : (xs : List A) (i : ℕ) (d : A) → i < length xs → getD (cells w n enc xs) i [] ≡ enc (getD xs i d)
@@ -170,6 +170,12 @@ module _ {A : Type 0} (w n : ℕ) (enc : A → List ℕ) (wide : (x : A) → len
   slots-get xs i j m at d h hi hj e =
       let c = length-cells xs h in
       read-cell w (cells w n enc xs) (uniform-cells xs) i j m at (omega arith) hj e ∙ rw (cell-of xs i d hi)
+
+  -- a number in an element
+  pub slots-number : (xs : List A) (i j m at : ℕ) (d : A) → length xs ≤ n → i < length xs → j + m ≤ w → at ≡ w * i + j
+      → numberAt (slots w n enc xs) at m ≡ numberAt (enc (getD xs i d)) j m
+  unfolding numberAt
+  slots-number xs i j m at d h hi hj e = ap number (slots-get xs i j m at d h hi hj e)
 
   -- one element changed, by a piece of it
   pub slots-set : (xs : List A) (i j at : ℕ) (y : List ℕ) (d x′ : A) → length xs ≤ n → i < length xs → j + length y ≤ w → at ≡ w * i + j
@@ -219,11 +225,11 @@ module _ {A : Type 0} (w : ℕ) (enc : A → List ℕ) (dec : List ℕ → A) (a
       rw (again (take w s) (bytes-take w h) (length-take-le w s (omega arith)), chunks-again k (bytes-drop w h) (omega (arith, length-drop w s)))
 
   -- and the same bytes, where those behind are zero
-  pub slots-again : (n k : ℕ) {s : List ℕ} → Bytes s → length s ≡ w * n → k ≤ n → drop (w * k) s ≡ zeros (w * (n - k))
+  pub slots-again : (n k : ℕ) {s : List ℕ} → Bytes s → length s ≡ w * n → k ≤ n → drop (w * k) s ≡ zeros (w * n - w * k)
       → slots w n enc (map dec (chunks w k s)) ≡ s
   unfolding slots cells
   slots-again n k {s} h l m z =
       let c : length (map dec (chunks w k s)) ≡ k = length-map (chunks w k s) dec ∙ length-chunks w k s in
       let q = mul-le-mul-left {m = k} {n = n} w m in
       flat-append (map enc (map dec (chunks w k s))) _
-      ∙ rw (chunks-again k h (omega arith), c, flat-zero-cells w (n - k), flat-chunks w k s, ← z) (take-append-drop (w * k) s)
+      ∙ rw (chunks-again k h (omega arith), c, flat-zero-cells w (n - k), mul-sub w n k, flat-chunks w k s, ← z) (take-append-drop (w * k) s)

@@ -22,8 +22,9 @@ module _ (f : List ℕ → List ℕ) (w : ℕ) (keeps : (c : List ℕ) → lengt
       let ls : length (splice s j (f (take w (drop j s)))) ≡ length s = length-splice s j _ (omega arith) in
       length-sweep n (splice s j (f (take w (drop j s)))) (j + w) (omega arith) ∙ ls
 
-  -- a loop inside the first of two lists, or inside the second
-  pub sweep-right : (n : ℕ) (a b : List ℕ) (at j : ℕ) → at ≡ length a + j → j + w * n ≤ length b → sweep f w (a ++ b) at n ≡ a ++ sweep f w b j n
+  -- a loop inside the second of two lists side by side
+  pub sweep-right : (n : ℕ) (a b : List ℕ) (at j : ℕ) → at ≡ length a + j → j + w * n ≤ length b
+      → sweep f w (a ++ b) at n ≡ a ++ sweep f w b j n
   unfolding sweep
   sweep-right zero a b at j e h = refl
   sweep-right (suc n) a b at j e h =
@@ -34,12 +35,13 @@ module _ (f : List ℕ → List ℕ) (w : ℕ) (keeps : (c : List ℕ) → lengt
       let ls : length (splice b j x) ≡ length b = length-splice b j x (omega arith) in
       rw (d, splice-right a b at j x e) (sweep-right n a (splice b j x) (at + w) (j + w) (omega arith) (omega arith))
 
+  -- or inside the first
   pub sweep-left : (n : ℕ) (a b : List ℕ) (j : ℕ) → j + w * n ≤ length a → sweep f w (a ++ b) j n ≡ sweep f w a j n ++ b
   unfolding sweep
   sweep-left zero a b j h = refl
   sweep-left (suc n) a b j h =
       let t : take w (drop j (a ++ b)) ≡ take w (drop j a) =
-          ap (take w) (drop-append-le j a b (omega arith)) ∙ take-append-le w (drop j a) b (omega (arith, length-drop j a)) in
+      ap (take w) (drop-append-le j a b (omega arith)) ∙ take-append-le w (drop j a) b (omega (arith, length-drop j a)) in
       let x : List ℕ = f (take w (drop j a)) in
       let c : length (take w (drop j a)) ≡ w = length-take-le w (drop j a) (omega (arith, length-drop j a)) in
       let lx : length x ≡ w = keeps (take w (drop j a)) c in
@@ -61,7 +63,9 @@ module _ (f : List ℕ → List ℕ) (w : ℕ) (keeps : (c : List ℕ) → lengt
       long zero (s ∷ ss) j n h g = omega (arith, length-append s (flat ss))
       long (suc k) (s ∷ ss) j n h g = omega (arith, length-append s (flat ss), long k ss j n (omega arith) g)
 
-  pub sweep-part : (ws : List ℕ) (ss : List (List ℕ)) → Wide ws ss → (k j n at : ℕ) → k < length ws → j + w * n ≤ getD ws k 0 → at ≡ startOf ws k + j
+  -- the same, by the table of widths
+  pub sweep-part : (ws : List ℕ) (ss : List (List ℕ)) → Wide ws ss → (k j n at : ℕ) → k < length ws → j + w * n ≤ getD ws k 0
+      → at ≡ startOf ws k + j
       → sweep f w (flat ss) at n ≡ flat (set ss k (sweep f w (getD ss k []) j n))
   sweep-part ws ss wide k j n at h g e =
       let b = before-start ws ss k wide in
@@ -70,8 +74,9 @@ module _ (f : List ℕ → List ℕ) (w : ℕ) (keeps : (c : List ℕ) → lengt
       let p : at ≡ before ss k + j = omega arith in
       rw p (sweep-flat ss k j n (omega arith) (omega arith))
 
-  -- a loop over the cells of a list of cells
-  pub sweep-cells : (n : ℕ) (cs : List (List ℕ)) (i at : ℕ) → Uniform w cs → i + n ≤ length cs → at ≡ w * i → sweep f w (flat cs) at n ≡ flat (over f i n cs)
+  -- a loop over cells is f put to the cells
+  pub sweep-cells : (n : ℕ) (cs : List (List ℕ)) (i at : ℕ) → Uniform w cs → i + n ≤ length cs → at ≡ w * i
+      → sweep f w (flat cs) at n ≡ flat (over f i n cs)
   unfolding flat over sweep
   sweep-cells zero cs i at u h e = refl
   sweep-cells (suc n) [] i at u h e = absurd (omega arith)
@@ -80,9 +85,13 @@ module _ (f : List ℕ → List ℕ) (w : ℕ) (keeps : (c : List ℕ) → lengt
       let t : take w (c ++ flat cs) ≡ c = take-at c (flat cs) w (u .0) in
       let lx : length (f c) ≡ w = keeps c (u .0) in
       let lc = length-uniform w cs (u .1) in
-      let s : splice (c ++ flat cs) 0 (f c) ≡ f c ++ flat cs = splice-left c (flat cs) 0 (f c) (omega (arith, u .0)) ∙ rw (splice-all c (f c) (lx ∙ sym (u .0))) in
-      rw (p, t, s) (sweep-right n (f c) (flat cs) (0 + w) 0 (omega arith) (omega (arith, mul-le-mul-left {m = n} {n = length cs} w (omega arith))) ∙ ap (λ (t : List ℕ). f c ++ t) (sweep-cells n cs zero 0 (u .1) (omega arith) (omega arith)))
+      let s : splice (c ++ flat cs) 0 (f c) ≡ f c ++ flat cs =
+      splice-left c (flat cs) 0 (f c) (omega (arith, u .0)) ∙ rw (splice-all c (f c) (lx ∙ sym (u .0))) in
+      let fits = mul-le-mul-left {m = n} {n = length cs} w (omega arith) in
+      rw (p, t, s) (sweep-right n (f c) (flat cs) (0 + w) 0 (omega arith) (omega arith)
+      ∙ ap (λ (t : List ℕ). f c ++ t) (sweep-cells n cs zero 0 (u .1) (omega arith) (omega arith)))
   sweep-cells (suc n) (c ∷ cs) (suc i) at u h e =
       let lc = length-uniform w cs (u .1) in
-      sweep-right (suc n) c (flat cs) at (w * i) (omega (arith, u .0)) (omega (arith, mul-le-mul-left {m = i + suc n} {n = length cs} w (omega arith)))
+      let fits = mul-le-mul-left {m = i + suc n} {n = length cs} w (omega arith) in
+      sweep-right (suc n) c (flat cs) at (w * i) (omega (arith, u .0)) (omega arith)
       ∙ ap (λ (t : List ℕ). c ++ t) (sweep-cells (suc n) cs i (w * i) (u .1) (omega arith) refl)
