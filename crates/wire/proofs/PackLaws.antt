@@ -1,5 +1,5 @@
 -- Numbers, each in its width, are packed and read back, there and back, and one is read or replaced at its place.
-use Prim.Native.Nat.{ℕ, zero, suc, _+_, _^_, _≤_, _<_}
+use Prim.Native.Nat.{ℕ, zero, suc, _+_, _≤_, _<_}
 use mathlib.Core.Path.{_≡_, refl, sym, ap, _∙_}
 use mathlib.Core.List.{List, [], _∷_, map}
 use native.Mathlib.Omega.{arith}
@@ -75,10 +75,7 @@ number-in-pack ws vs k h = sym (unpack-at ws (pack ws vs) k) ∙ ap (λ (l : Lis
 pub small-unpack : (ws : List ℕ) {s : List ℕ} → Bytes s → Small ws (unpack ws s)
 unfolding unpack cut numberAt
 small-unpack [] h = tt
-small-unpack (w ∷ ws) {s} h = (small h 0 w, small-unpack ws (bytes-drop w h))
-  where
-    small : {s : List ℕ} → Bytes s → (at w : ℕ) → number (take w (drop at s)) < 256 ^ w
-    small h at w = number-at-small h at w
+small-unpack (w ∷ ws) h = (number-at-small h 0 w, small-unpack ws (bytes-drop w h))
 
 -- one number replaced
 pub write-number : (ws vs : List ℕ) (k at v : ℕ) → length ws ≡ length vs → k < length ws → at ≡ startOf ws k

@@ -1,16 +1,54 @@
 -- A loop over cells touches only the part that it runs in, and there it is f put to each cell.
-use Prim.Native.Nat.{ℕ, zero, suc, _+_, _*_, _≤_, _<_}
+use Prim.Native.Nat.{ℕ, zero, suc, _+_, _-_, _*_, _≤_, _<_}
 use mathlib.Core.Path.{_≡_, refl, sym, ap, _∙_}
-use mathlib.Core.List.{List, [], _∷_, _++_}
+use mathlib.Core.Logic.{_⊎_, inl, inr, ⊎-elim}
+use mathlib.Core.List.{List, [], _∷_, _++_, map, map-map}
 use native.Mathlib.Nat.{zero-add, mul-le-mul-left}
 use native.Mathlib.Omega.{arith}
-use lib.ListN.{length, getD, set, take, drop, length-append, length-drop}
+use lib.ListN.{length, getD, set, take, drop, replicate, length-append, length-drop, length-map}
 use lib.Seq.{take-at, take-append-le, drop-append-le, drop-append-add, length-take-le}
 use Rattle.wire.specs.Regions.{splice}
-use Rattle.wire.specs.Parts.{flat, startOf, Wide, sweep, over}
+use Rattle.wire.specs.Parts.{flat, startOf, Wide, zeros, cells, slots, sweep, over}
 use Rattle.wire.proofs.RegionLaws.{splice-left, splice-right, splice-all, length-splice}
 use Rattle.wire.proofs.PartLaws.{before, before-start, wide-count, wide-at}
-use Rattle.wire.proofs.SlotLaws.{Uniform, length-uniform}
+use Rattle.wire.proofs.SlotLaws.{Uniform, length-uniform, uniform-cells, length-cells}
+
+-- ---- f put to n elements of a list
+
+module _ {A : Type 0} (f : A → A) where
+  pub length-over : (i n : ℕ) (xs : List A) → length (over f i n xs) ≡ length xs
+  unfolding over
+  length-over i zero xs = refl
+  length-over i (suc n) [] = refl
+  length-over zero (suc n) (x ∷ xs) = ap suc (length-over zero n xs)
+  length-over (suc i) (suc n) (x ∷ xs) = ap suc (length-over i (suc n) xs)
+
+  -- those that it reaches, and those that it does not
+  pub over-in : (i n : ℕ) (xs : List A) (k : ℕ) (d : A) → i ≤ k → k < i + n → k < length xs → getD (over f i n xs) k d ≡ f (getD xs k d)
+  unfolding over
+  over-in i zero xs k d a b h = absurd (omega arith)
+  over-in i (suc n) [] k d a b h = absurd (omega arith)
+  over-in zero (suc n) (x ∷ xs) zero d a b h = refl
+  over-in zero (suc n) (x ∷ xs) (suc k) d a b h = over-in zero n xs k d (omega arith) (omega arith) (omega arith)
+  over-in (suc i) (suc n) (x ∷ xs) zero d a b h = absurd (omega arith)
+  over-in (suc i) (suc n) (x ∷ xs) (suc k) d a b h = over-in i (suc n) xs k d (omega arith) (omega arith) (omega arith)
+
+  pub over-out : (i n : ℕ) (xs : List A) (k : ℕ) (d : A) → (k < i) ⊎ (i + n ≤ k) → getD (over f i n xs) k d ≡ getD xs k d
+  unfolding over
+  over-out i zero xs k d o = refl
+  over-out i (suc n) [] k d o = refl
+  over-out zero (suc n) (x ∷ xs) zero d o = absurd (⊎-elim (λ a. omega arith) (λ a. omega arith) o)
+  over-out zero (suc n) (x ∷ xs) (suc k) d o = over-out zero n xs k d (⊎-elim (λ a. absurd (omega arith)) (λ a. inr (omega arith)) o)
+  over-out (suc i) (suc n) (x ∷ xs) zero d o = refl
+  over-out (suc i) (suc n) (x ∷ xs) (suc k) d o = over-out i (suc n) xs k d (⊎-elim (λ a. inl (omega arith)) (λ a. inr (omega arith)) o)
+
+  -- the first of two lists side by side, whole
+  pub over-front : (xs ys : List A) → over f 0 (length xs) (xs ++ ys) ≡ map f xs ++ ys
+  unfolding over
+  over-front [] ys = refl
+  over-front (x ∷ xs) ys = ap (λ (l : List A). f x ∷ l) (over-front xs ys)
+
+-- ---- the loop
 
 module _ (f : List ℕ → List ℕ) (w : ℕ) (keeps : (c : List ℕ) → length c ≡ w → length (f c) ≡ w) where
   pub length-sweep : (n : ℕ) (s : List ℕ) (j : ℕ) → j + w * n ≤ length s → length (sweep f w s j n) ≡ length s
@@ -95,3 +133,16 @@ module _ (f : List ℕ → List ℕ) (w : ℕ) (keeps : (c : List ℕ) → lengt
       let fits = mul-le-mul-left {m = i + suc n} {n = length cs} w (omega arith) in
       sweep-right (suc n) c (flat cs) at (w * i) (omega (arith, u .0)) (omega arith)
       ∙ ap (λ (t : List ℕ). c ++ t) (sweep-cells (suc n) cs i (w * i) (u .1) (omega arith) refl)
+
+  -- a loop over the elements in cells, where f on an element's bytes is g on the element
+  pub sweep-slots : {A : Type 0} (n : ℕ) (enc : A → List ℕ) → ((x : A) → length (enc x) ≡ w) → (g : A → A) (xs : List A) → length xs ≤ n
+      → map (λ x. f (enc x)) xs ≡ map (λ x. enc (g x)) xs → sweep f w (slots w n enc xs) 0 (length xs) ≡ slots w n enc (map g xs)
+  unfolding slots cells
+  sweep-slots n enc wide g xs h e =
+      let z : List (List ℕ) = replicate (n - length xs) (zeros w) in
+      let l : length (map enc xs) ≡ length xs = length-map xs enc in
+      let c = length-cells w n enc wide xs h in
+      sweep-cells (length xs) (map enc xs ++ z) 0 0 (uniform-cells w n enc wide xs) (omega arith) (omega arith)
+      ∙ ap (λ (k : ℕ). flat (over f 0 k (map enc xs ++ z))) (sym l)
+      ∙ ap flat (over-front f (map enc xs) z)
+      ∙ rw (map-map f enc xs, e, ← map-map enc g xs, length-map xs g)
