@@ -3,3 +3,5 @@
 pub mod Numbers
 -- Regions: bytes of a list replaced, copied, and tested for zero.
 pub mod Regions
+-- Parts: bytes made of parts of fixed width, of numbers in their widths, and of equal cells.
+pub mod Parts
