@@ -1,5 +1,6 @@
 -- All definitions that compute a replay, opened at once: an example says `unfolding everything`.
 use Rattle.wire.specs.Numbers.{number, numberAt, le, signed}
+use Rattle.wire.specs.Parts.{flat, pieces, pack}
 use Rattle.rules.specs.Basics.{total, any, every, find, indexOf, entries, joined, allOf, counting, bit}
 use Rattle.rules.specs.Verdicts.{lowest}
 use Rattle.rules.specs.Opening.{priceIn, operatorIn, accountIn, pointIn, estimatesIn, operatorsIn, accountsIn, pointsIn, setupOf, guaranteesOf, badCounts, misshapen, operatorsOf, setupBytes, valuesOf, estimateValues, operatorValues, accountValues, pointValues, values, faultyOffset, setupRefusal, openOutcome, opened}
@@ -12,7 +13,7 @@ use Rattle.rules.specs.Replay.{itemsWithin, items, callOf, numbered, sum
 use Rattle.rules.specs.Ledger.{blank, newLedger, without, turn, feed, fed, traded, ledgerNet, ledgerWaiting, ledgerHour, ledgerExposure, ledgerAvailable, ledgerSettled}
 
 unfoldable pub everything : Unit {0}
-unfolding number numberAt le signed
+unfolding number numberAt le signed flat pieces pack
     total any every find indexOf entries joined allOf counting bit
     lowest
     priceIn operatorIn accountIn pointIn estimatesIn operatorsIn accountsIn pointsIn setupOf guaranteesOf badCounts misshapen operatorsOf

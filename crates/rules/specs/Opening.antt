@@ -6,6 +6,7 @@ use mathlib.Core.Bool.{Bool, not, _&&_, _||_}
 use lib.ListN.{length, getD, drop}
 use lib.Dec.{eqb, leb, ltb}
 use Rattle.wire.specs.Numbers.{number, numberAt, le}
+use Rattle.wire.specs.Parts.{pack}
 use Rattle.units.specs.declared.Cents.{Cents}
 use Rattle.units.specs.declared.CentsPerMwh.{CentsPerMwh}
 use Rattle.units.specs.Units.{kwh, cents, centsPerMwh}
@@ -101,14 +102,14 @@ guaranteesOf s = map (λ x. x .guarantee) (operatorsIn s)
 -- ---- the bytes of a set-up
 
 abbrev pub operatorBytes : Operator → List ℕ
-operatorBytes x = le 8 (x .guarantee .0) ++ le 2 (x .maintenance)
+operatorBytes x = pack (8 ∷ 2 ∷ []) (x .guarantee .0 ∷ x .maintenance ∷ [])
 
 abbrev pub accountBytes : Account → List ℕ
-accountBytes x = le 1 (x .operator) ++ le 1 (x .kind) ++ le 4 (x .lower .0) ++ le 4 (x .upper .0)
+accountBytes x = pack (1 ∷ 1 ∷ 4 ∷ 4 ∷ []) (x .operator ∷ x .kind ∷ x .lower .0 ∷ x .upper .0 ∷ [])
 
 abbrev pub pointBytes : Point → List ℕ
 pointBytes x =
-    le 1 (x .account) ++ le 1 (x .kind) ++ le 1 (x .zone) ++ le 4 (x .injection .0) ++ le 4 (x .withdrawal .0)
+    pack (1 ∷ 1 ∷ 1 ∷ 4 ∷ 4 ∷ []) (x .account ∷ x .kind ∷ x .zone ∷ x .injection .0 ∷ x .withdrawal .0 ∷ [])
 
 -- operators, by guarantee and maintenance
 unfoldable pub operatorsOf : List Cents → List ℕ → List Operator

@@ -1,0 +1,1 @@
+// The book in its bytes.
