@@ -1,0 +1,3 @@
+-- Laws of the definitions, for the proofs of the crates above.
+-- SetupEntries: entries that stand side by side in bytes, by number, and there and back.
+pub mod SetupEntries
