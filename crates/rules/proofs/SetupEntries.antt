@@ -40,6 +40,11 @@ module _ {ℓ} {A : Type ℓ} (w : ℕ) (say : List ℕ → A) where
       let e : suc i - 1 ≡ i = omega arith in
       entry-at n i (drop at s) d (omega arith) ∙ rw (drop-drop (w * i) at s, e)
 
+  -- the same, of an entry that was read at its place
+  pub entry-by-number : (n k at from : ℕ) (s : List ℕ) (d : A) {r : A} → from ≡ at → 1 ≤ k → k ≤ n
+      → r ≡ say (take w (drop (from + w * (k - 1)) s)) → r ≡ nth (entries w say n (drop at s)) k d
+  entry-by-number n k at from s d e l h read = rw (nth-entry n k at s d l h, ← e) read
+
 -- ---- there and back
 
 module _ {ℓ} {A : Type ℓ} (w : ℕ) (bytes : A → List ℕ) (say : List ℕ → A) where

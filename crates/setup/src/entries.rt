@@ -3,7 +3,14 @@ ghost use mathlib.Core.Path.{_≡_};
 ghost use Prim.Native.Nat.{_+_, _≤_};
 ghost use lib.ListN.{length, take, drop};
 ghost use Rattle.units.specs.Units.{centsPerMwh};
-ghost use Rattle.rules.specs.Opening.{priceIn, operatorIn, accountIn, pointIn};
+ghost use Rattle.rules.specs.Basics.{nth};
+ghost use Rattle.rules.specs.Books.{noAccount, noPoint};
+ghost use Rattle.rules.specs.Opening.{countsIn, priceIn, operatorIn, accountIn, pointIn, estimatesIn, operatorsIn, accountsIn, pointsIn};
+ghost use Rattle.setup.specs.Faults.{Whole, noOperator};
+use crate::counts::accounts_from;
+use crate::counts::counts;
+use crate::counts::operators_from;
+use crate::counts::points_from;
 use rules::Account;
 use rules::Operator;
 use rules::Point;
@@ -59,4 +66,36 @@ pub fn point_at(bytes: &[u8], at: usize) -> Point
         injection: Kwh(get_u32(bytes, at + 3)),
         withdrawal: Kwh(get_u32(bytes, at + 7)),
     }
+}
+
+// The estimated price of an hour.
+pub fn estimate(setup: &[u8], hour: u8) -> CentsPerMwh
+    requires { ⌜ Whole (now setup) × (1 ≤ hour) × (hour ≤ countsIn (now setup) .hours) ⌝ }
+    ensures { λ r. ⌜ r ≡ nth (estimatesIn (now (setup .entry))) hour (centsPerMwh 0) ⌝ }
+{
+    price_at(setup, 5 + 4 * (hour as usize - 1))
+}
+
+pub fn operator(setup: &[u8], number: u8) -> Operator
+    requires { ⌜ Whole (now setup) × (1 ≤ number) × (number ≤ countsIn (now setup) .operators) ⌝ }
+    ensures { λ r. ⌜ r ≡ nth (operatorsIn (now (setup .entry))) number noOperator ⌝ }
+{
+    let from = operators_from(counts(setup));
+    operator_at(setup, from + 10 * (number as usize - 1))
+}
+
+pub fn account(setup: &[u8], number: u8) -> Account
+    requires { ⌜ Whole (now setup) × (1 ≤ number) × (number ≤ countsIn (now setup) .accounts) ⌝ }
+    ensures { λ r. ⌜ r ≡ nth (accountsIn (now (setup .entry))) number noAccount ⌝ }
+{
+    let from = accounts_from(counts(setup));
+    account_at(setup, from + 10 * (number as usize - 1))
+}
+
+pub fn point(setup: &[u8], number: u8) -> Point
+    requires { ⌜ Whole (now setup) × (1 ≤ number) × (number ≤ countsIn (now setup) .points) ⌝ }
+    ensures { λ r. ⌜ r ≡ nth (pointsIn (now (setup .entry))) number noPoint ⌝ }
+{
+    let from = points_from(counts(setup));
+    point_at(setup, from + 11 * (number as usize - 1))
 }
