@@ -25,3 +25,5 @@ pub mod KindTables
 pub mod Fields
 -- RoundTrip: a request that is written reads back, and a record that is read writes back.
 pub mod RoundTrip
+-- SetupEntries: entries that stand side by side in bytes, by number, and there and back.
+pub mod SetupEntries

@@ -1,0 +1,42 @@
+-- The entry that was read at its place is the one of that number.
+use mathlib.Core.Path.{_∙_, ap}
+use native.Mathlib.Omega.{arith}
+use Rattle.rules.specs.Opening.{operatorsIn, operatorsFrom}
+use Rattle.rules.proofs.SetupEntries.{entry-by-number}
+use borrow.Author.Needs.{needs}
+use Rattle.setup.proofs.entries.operator.Statement.{statement}
+use Rattle.setup.proofs.entries.operator.Tie as tie
+
+counts-requires : tie.Need-counts-requires
+counts-requires c κs = search needs
+
+operators-from-requires : tie.Need-operators-from-requires
+operators-from-requires c κs = search needs
+
+sub-operator-at : tie.Need-sub-operator-at
+sub-operator-at c = search needs
+
+mul-operator-at : tie.Need-mul-operator-at
+mul-operator-at c = search needs
+
+add-operator-at : tie.Need-add-operator-at
+add-operator-at c = search needs
+
+operator-at-requires : tie.Need-operator-at-requires
+operator-at-requires c κs = omega (arith, c .operators-from .ensures ∙ ap operatorsFrom (c .before .counts .ensures))
+
+returns : tie.Need-returns
+unfolding operatorsIn
+returns c = let start = c .before .before .before .before in entry-by-number 10 _ _ _ _ _ _ _ (c .before .operators-from .ensures ∙ ap operatorsFrom (c .before .before .counts .ensures)) (start .pre .1) (start .pre .2) (c .operator-at .ensures)
+
+pub operator-spec : {M : Type 1} → statement M
+operator-spec =
+    tie.close
+    (tie.spec
+    counts-requires
+    operators-from-requires
+    sub-operator-at
+    mul-operator-at
+    add-operator-at
+    operator-at-requires
+    returns)

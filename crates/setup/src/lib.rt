@@ -1,0 +1,3 @@
+// Set-up bytes: what is wrong with them, and their entries by number.
+pub mod counts;
+pub mod entries;
