@@ -5,3 +5,5 @@ pub mod Layout
 pub mod Image
 -- Valid: which plain books are valid, and which bytes are a book.
 pub mod Valid
+-- Sums: the sums of all account hours in one table.
+pub mod Sums

@@ -1,1 +1,2 @@
 // The book in its bytes.
+pub mod layout;
