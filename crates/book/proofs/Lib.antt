@@ -1,3 +1,5 @@
 -- Laws of the bytes of a book.
 -- Soundness: what a valid book's tests say, each by its name.
 pub mod Soundness
+-- KeepsRows: what one row more, a row marked, and the close of the gate do to the tests on rows.
+pub mod KeepsRows
