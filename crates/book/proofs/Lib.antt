@@ -3,3 +3,5 @@
 pub mod Soundness
 -- KeepsRows: what one row more, a row marked, and the close of the gate do to the tests on rows.
 pub mod KeepsRows
+-- Easing: what eases an account hour, and that a confirm eases the other party.
+pub mod Easing
