@@ -5,3 +5,5 @@ pub mod Soundness
 pub mod KeepsRows
 -- Easing: what eases an account hour, and that a confirm eases the other party.
 pub mod Easing
+-- KeepsParts: what an accepted call makes of a sound part is sound.
+pub mod KeepsParts
