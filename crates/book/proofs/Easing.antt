@@ -5,9 +5,9 @@ use mathlib.Core.Path.{_≡_, refl, sym, ap, _∙_}
 use mathlib.Core.Logic.{_⊎_, inl, inr, ⊎-elim}
 use mathlib.Core.List.{List, [], _∷_, _++_}
 use mathlib.Core.Bool.{Bool, true, false, _&&_, and-false, and-true}
-use native.Mathlib.Nat.{mul-le-mul-left}
+use native.Mathlib.Nat.{add-zero, mul-le-mul-left}
 use native.Mathlib.Omega.{arith}
-use lib.Dec.{eqb, leb}
+use lib.Dec.{eqb}
 use lib.IntN.{subℕ}
 use lib.Signed.{_≤ℤ_}
 use borrow.Author.Tests.{eqb-true, eqb-false, leb-true, le-leb, eq-eqb, ne-eqb}
@@ -17,11 +17,11 @@ use Rattle.rules.specs.declared.Row.{Row}
 use Rattle.rules.specs.declared.AccountHour.{AccountHour}
 use Rattle.rules.specs.declared.Request.{Request}
 use Rattle.rules.specs.Basics.{if_then_else_, total, nth, upTo}
-use Rattle.rules.specs.Books.{Setup, Part, noRow, accountCount, estimateAt, operatorOf}
-use Rattle.rules.specs.Registration.{pending, covers, seller, buyer, mark, closed, proposed, accountHour, low, high, keepsMargins, exposed, ofOperator, exposureOf, exposure, available, covered}
+use Rattle.rules.specs.Books.{Setup, noRow, accountCount, estimateAt, operatorOf}
+use Rattle.rules.specs.Registration.{pending, covers, seller, buyer, mark, closed, proposed, bought, sold, pendingSales, pendingPurchases, accountHour, low, high, keepsMargins, exposed, ofOperator, exposureOf, exposure, available, covered}
 use Rattle.rules.proofs.Tests.{and-both}
 use Rattle.rules.proofs.Differences.{difference-order, order-by, difference-more, difference-less}
-use Rattle.rules.proofs.AccountHours.{share, weight, moved-register, moved-confirm, moved-withdraw, moved-close, waiting-register, waiting-end, waiting-close, weight-of-others}
+use Rattle.rules.proofs.AccountHours.{share, weight, moved-confirm, moved-withdraw, moved-close, waiting-end, waiting-close, weight-of-others, hour-register, hour-confirm}
 use Rattle.book.proofs.Soundness.{SoundRow}
 
 -- ---- one account hour and the next, in natural numbers
@@ -30,6 +30,9 @@ pub record Eased (x y : AccountHour) : Type 0 where
   pub low-no-lower : y .net .sold .0 + y .sales .0 + x .net .bought .0 ≤ x .net .sold .0 + x .sales .0 + y .net .bought .0
   pub high-no-higher : y .net .bought .0 + y .purchases .0 + x .net .sold .0 ≤ x .net .bought .0 + x .purchases .0 + y .net .sold .0
   pub no-more-exposed : exposed y ≤ exposed x
+
+eased-refl : (x : AccountHour) → Eased x x
+eased-refl x = record { low-no-lower = omega arith; high-no-higher = omega arith; no-more-exposed = omega arith }
 
 -- the same of the paper's signed figures
 difference-le : (a b c d : ℕ) → a + d ≤ c + b → subℕ a b ≤ℤ subℕ c d
@@ -105,17 +108,16 @@ eased-covered u gs rows later o eased h =
 -- ---- register
 
 -- a register weighs on its caller only
+pub register-leaves-others : (rows : List Row) (q : Request) (a h : ℕ) → (a ≡ q .account → ⊥)
+    → accountHour (rows ++ proposed q ∷ []) a h ≡ accountHour rows a h
+register-leaves-others rows q a h other =
+    let n : eqb (q .account) a ≡ false = ne-eqb _ _ (λ e. other (sym e)) in
+    hour-register rows q a h
+    ∙ rw (weight-of-others 1 a h (proposed q) n, weight-of-others 2 a h (proposed q) n, add-zero (pendingSales rows a h), add-zero (pendingPurchases rows a h))
+
 pub register-eases-others : (rows : List Row) (q : Request) (a h : ℕ) → (a ≡ q .account → ⊥)
     → Eased (accountHour rows a h) (accountHour (rows ++ proposed q ∷ []) a h)
-register-eases-others rows q a h other =
-    let n : eqb (q .account) a ≡ false = ne-eqb _ _ (λ e. other (sym e)) in
-    let b = moved-register buyer a h rows q in
-    let s = moved-register seller a h rows q in
-    let x = waiting-register 1 a h rows q in
-    let y = waiting-register 2 a h rows q in
-    let v = weight-of-others 1 a h (proposed q) n in
-    let w = weight-of-others 2 a h (proposed q) n in
-    record { low-no-lower = omega arith; high-no-higher = omega arith; no-more-exposed = omega arith }
+register-eases-others rows q a h other = rw (register-leaves-others rows q a h other) (eased-refl (accountHour rows a h))
 
 -- ---- withdraw and close gate
 
@@ -178,18 +180,41 @@ confirm-eases-others rows n a h e l m other =
     (side-cases (r .side) l m)
 
 -- the key fact: a confirm eases the other party, the proposer, in each hour
-module _ (u : Setup) (rows : List Row) (n : ℕ) (sound : SoundRow u (nth rows n noRow)) (waits : pending (nth rows n noRow) ≡ true) (h : ℕ) where
-  eases-proposer : Eased (accountHour rows (nth rows n noRow .proposer) h) (accountHour (mark n 2 rows) (nth rows n noRow .proposer) h)
+module _ (u : Setup) (rows : List Row) (n p h : ℕ)
+    (sound : SoundRow u (nth rows n noRow)) (waits : pending (nth rows n noRow) ≡ true) (proposes : nth rows n noRow .proposer ≡ p) where
+  eases-proposer : Eased (accountHour rows p h) (accountHour (mark n 2 rows) p h)
   eases-proposer =
-      confirm-eases-others rows n (nth rows n noRow .proposer) h waits (sound .side-low) (sound .side-high) (sound .two-accounts)
+      confirm-eases-others rows n p h waits (sound .side-low) (sound .side-high) (λ e. sound .two-accounts (proposes ∙ e))
 
   -- its low is no lower and its high no higher
-  pub confirm-eases-proposer :
-      (low (accountHour rows (nth rows n noRow .proposer) h) ≤ℤ low (accountHour (mark n 2 rows) (nth rows n noRow .proposer) h))
-      × (high (accountHour (mark n 2 rows) (nth rows n noRow .proposer) h) ≤ℤ high (accountHour rows (nth rows n noRow .proposer) h))
+  pub confirm-eases-proposer : (low (accountHour rows p h) ≤ℤ low (accountHour (mark n 2 rows) p h))
+      × (high (accountHour (mark n 2 rows) p h) ≤ℤ high (accountHour rows p h))
   confirm-eases-proposer = (eased-low _ _ eases-proposer, eased-high _ _ eases-proposer)
 
   -- it is exposed no more
-  pub confirm-eases-exposure :
-      exposed (accountHour (mark n 2 rows) (nth rows n noRow .proposer) h) ≤ exposed (accountHour rows (nth rows n noRow .proposer) h)
+  pub confirm-eases-exposure : exposed (accountHour (mark n 2 rows) p h) ≤ exposed (accountHour rows p h)
   confirm-eases-exposure = eases-proposer .no-more-exposed
+
+-- so no operator but the caller's is exposed more
+pub confirm-eases-operators : (u : Setup) (rows : List Row) (n o : ℕ) → SoundRow u (nth rows n noRow)
+    → pending (nth rows n noRow) ≡ true → (operatorOf u (nth rows n noRow .counterparty) ≡ o → ⊥)
+    → exposure u (mark n 2 rows) o ≤ exposure u rows o
+confirm-eases-operators u rows n o sound waits other =
+    eased-exposure u rows (mark n 2 rows) o
+    (λ a h owns. confirm-eases-others rows n a h waits (sound .side-low) (sound .side-high) (λ same. other (ap (operatorOf u) (sym same) ∙ owns)))
+
+share-of-neither : (a h : ℕ) (r : Row) (party : Row → ℕ) → (party r ≡ a → ⊥) → share party a h r ≡ 0
+share-of-neither a h r party other = rw (ne-eqb (party r) a other, and-false (covers h r))
+
+-- an account that is no party of the row holds what it held
+pub confirm-leaves-others : (rows : List Row) (n a h : ℕ) → pending (nth rows n noRow) ≡ true
+    → (nth rows n noRow .proposer ≡ a → ⊥) → (nth rows n noRow .counterparty ≡ a → ⊥)
+    → accountHour (mark n 2 rows) a h ≡ accountHour rows a h
+confirm-leaves-others rows n a h waits p c =
+    let r : Row = nth rows n noRow in
+    hour-confirm rows n a h waits (ne-eqb (r .proposer) a p)
+    ∙ rw (share-of-neither a h r buyer (go (eqb (r .side) 1) c p), share-of-neither a h r seller (go (eqb (r .side) 1) p c), add-zero (bought rows a h), add-zero (sold rows a h))
+  where
+    go : {x y : ℕ} (t : Bool) → (x ≡ a → ⊥) → (y ≡ a → ⊥) → (if t then x else y) ≡ a → ⊥
+    go true f g e = f e
+    go false f g e = g e

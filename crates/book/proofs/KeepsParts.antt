@@ -15,7 +15,7 @@ use Rattle.rules.specs.declared.Row.{Row}
 use Rattle.rules.specs.declared.Request.{Request}
 use Rattle.rules.specs.Basics.{any, nth, put, upTo, Each}
 use Rattle.rules.specs.Limits.{mostGuarantee, mostRows}
-use Rattle.rules.specs.Books.{Setup, Part, noRow, accountAt, accountCount, operatorCount, operatorOf}
+use Rattle.rules.specs.Books.{Setup, Part, noRow, accountAt, operatorOf}
 use Rattle.rules.specs.Registration.{pending, alike, mark, closed, proposed, accountHour, keepsMargins, brokenHour, available, covered}
 use Rattle.rules.proofs.Searches.{find-none, counted-has}
 use Rattle.rules.proofs.AccountHours.{pending-inside}
@@ -28,11 +28,13 @@ pub unbroken : (u : Setup) (rows : List Row) (a : ℕ) → brokenHour u rows a �
     → (h : ℕ) → 1 ≤ h → h ≤ u .hours → keepsMargins (accountAt u a) (accountHour rows a h) ≡ true
 unfolding brokenHour
 unbroken u rows a e h l m =
-    not-false _ (counted-has (u .hours) 1 h (find-none (λ h. not (keepsMargins (accountAt u a) (accountHour rows a h))) (upTo (u .hours)) e) l (omega arith))
+    let unbroken = find-none (λ h. not (keepsMargins (accountAt u a) (accountHour rows a h))) (upTo (u .hours)) e in
+    not-false _ (counted-has (u .hours) 1 h unbroken l (omega arith))
 
 -- ---- every account but the caller's is eased, the caller's and its operator's sums are checked
 
-module _ (u : Setup) (gs : List Cents) (rows later : List Row) (caller : ℕ) (eased : (a h : ℕ) → (a ≡ caller → ⊥) → Eased (accountHour rows a h) (accountHour later a h)) where
+module _ (u : Setup) (gs : List Cents) (rows later : List Row) (caller : ℕ)
+    (eased : (a h : ℕ) → (a ≡ caller → ⊥) → Eased (accountHour rows a h) (accountHour later a h)) where
   margins-kept : brokenHour u later caller ≡ none → (a h : ℕ) → 1 ≤ h → h ≤ u .hours
       → keepsMargins (accountAt u a) (accountHour rows a h) ≡ true → keepsMargins (accountAt u a) (accountHour later a h) ≡ true
   margins-kept checked a h l m old = go (eqb a caller) refl

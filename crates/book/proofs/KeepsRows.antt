@@ -1,6 +1,6 @@
 -- What one row more, a row marked, and the close of the gate do to the tests on rows: a row that ends is like no other, and a row
 -- that was pending may end in a batch.
-use Prim.Native.Nat.{ℕ, zero, suc, _≤_, _<_}
+use Prim.Native.Nat.{ℕ, zero, suc, _≤_}
 use mathlib.Core.Path.{_≡_, refl, sym, _∙_}
 use mathlib.Core.Logic.{_↔_}
 use mathlib.Core.List.{List, [], _∷_, _++_, map}
@@ -13,7 +13,7 @@ use Rattle.rules.specs.declared.Row.{Row}
 use Rattle.rules.specs.Basics.{if_then_else_, any, nth, Each, nil, cons}
 use Rattle.rules.specs.Books.{Setup, noRow}
 use Rattle.rules.specs.Registration.{pending, alike, withStatus, mark, closed}
-use Rattle.rules.proofs.Tests.{and-both, and-spared}
+use Rattle.rules.proofs.Tests.{and-both}
 use Rattle.rules.proofs.Searches.{any-none, none-any}
 use Rattle.rules.proofs.RowTests.{alike-true}
 use Rattle.book.specs.Valid.{noTwins, sameTerms, follows}

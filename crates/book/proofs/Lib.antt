@@ -7,3 +7,7 @@ pub mod KeepsRows
 pub mod Easing
 -- KeepsParts: what an accepted call makes of a sound part is sound.
 pub mod KeepsParts
+-- KeepsKinds: each kind keeps a book sound.
+pub mod KeepsKinds
+-- Keeps: every call leaves a valid book valid, its set-up as it was, and all but three kinds what is saved.
+pub mod Keeps
