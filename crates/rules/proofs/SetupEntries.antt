@@ -7,7 +7,7 @@ use mathlib.Core.Bool.{Bool, true, false}
 use native.Mathlib.Nat.{add-zero, mul-zero, mul-suc, add-comm}
 use native.Mathlib.Numerals.{add-one}
 use native.Mathlib.Omega.{arith}
-use lib.ListN.{length, getD, take, drop, length-drop, length-map}
+use lib.ListN.{length, getD, take, drop, length-drop, length-map, List·getD-eq-default}
 use lib.Seq.{take-at, drop-at, take-take, take-add, drop-drop, length-take-le}
 use Rattle.wire.specs.Numbers.{number, numberAt, Bytes}
 use Rattle.wire.proofs.NumberLaws.{bytes-take, bytes-drop}
@@ -44,6 +44,15 @@ module _ {ℓ} {A : Type ℓ} (w : ℕ) (say : List ℕ → A) where
   pub entry-by-number : (n k at from : ℕ) (s : List ℕ) (d : A) {r : A} → from ≡ at → 1 ≤ k → k ≤ n
       → r ≡ say (take w (drop (from + w * (k - 1)) s)) → r ≡ nth (entries w say n (drop at s)) k d
   entry-by-number n k at from s d e l h read = rw (nth-entry n k at s d l h, ← e) read
+
+  -- numbers that no entry has
+  pub no-entry-zero : (n k : ℕ) (s : List ℕ) (d : A) → k < 1 → nth (entries w say n s) k d ≡ d
+  no-entry-zero n zero s d h = refl
+  no-entry-zero n (suc i) s d h = absurd (omega arith)
+
+  pub no-entry-past : (n k : ℕ) (s : List ℕ) (d : A) → n < k → nth (entries w say n s) k d ≡ d
+  no-entry-past n zero s d h = refl
+  no-entry-past n (suc i) s d h = List·getD-eq-default (entries w say n s) d (omega (arith, length-entries n s))
 
 -- ---- there and back
 

@@ -1,0 +1,91 @@
+-- A row of values is judged in parts: the first part that fails decides. So a loop over entries may stop there, and goes on otherwise.
+use Prim.Native.Nat.{ℕ, zero, suc, _+_, _*_, _^_, _≤_, _<_}
+use mathlib.Core.Path.{_≡_, refl, sym, ap, _∙_}
+use mathlib.Core.List.{List, [], _∷_, _++_}
+use mathlib.Core.Option.{Option, none, some, Option·map}
+use mathlib.Core.Bool.{Bool, true, false, not}
+use native.Mathlib.Omega.{arith}
+use lib.ListN.{length, getD, take, drop}
+use Rattle.rules.specs.declared.Checked.{Checked}
+use Rattle.rules.specs.declared.Checked.the-variants.{Clear, Fails}
+use Rattle.rules.specs.declared.Refusal.{Refusal}
+use Rattle.rules.specs.declared.Refusal.the-variants.{SetupShape, SetupValue}
+use Rattle.rules.specs.Basics.{find, entries, nth}
+use Rattle.rules.specs.Verdicts.{_⇒_, _⇒↑_, applies, lowest, checked}
+use Rattle.rules.specs.Opening.{Value, valuesOf, values, misshapen, faultyOffset, setupOf, setupRefusal, operatorsIn}
+use Rattle.rules.proofs.SetupEntries.{values-done, values-step}
+use Rattle.setup.specs.Faults.{orElse, orFault, judgedFrom, judged}
+
+-- ---- one value
+
+pub in-range : (found : Checked) (at : ℕ) {fine : Bool} → fine ≡ true → found ≡ orFault found (at, fine)
+unfolding orFault
+in-range Clear at e = rw e
+in-range (Fails r) at e = refl
+
+pub out-of-range : (found : Checked) (at : ℕ) {fine : Bool} {r : Checked} → fine ≡ false → r ≡ orElse found (Fails (SetupValue at))
+    → r ≡ orFault found (at, fine)
+unfolding orFault orElse
+out-of-range Clear at e h = rw e h
+out-of-range (Fails r) at e h = h
+
+-- ---- in parts
+
+-- what failed stays
+pub judged-fails : (r : Refusal) (vs : List Value) → judgedFrom (Fails r) vs ≡ Fails r
+unfolding judgedFrom orFault
+judged-fails r [] = refl
+judged-fails r (v ∷ vs) = judged-fails r vs
+
+pub judged-append-from : (found : Checked) (vs ws : List Value) → judgedFrom found (vs ++ ws) ≡ judgedFrom (judgedFrom found vs) ws
+unfolding judgedFrom
+judged-append-from found [] ws = refl
+judged-append-from found (v ∷ vs) ws = judged-append-from (orFault found v) vs ws
+
+judged-from : (found : Checked) (vs : List Value) → judgedFrom found vs ≡ orElse found (judged vs)
+unfolding orElse
+judged-from Clear vs = refl
+judged-from (Fails r) vs = judged-fails r vs
+
+pub judged-append : (vs ws : List Value) → judged (vs ++ ws) ≡ orElse (judged vs) (judged ws)
+judged-append vs ws = judged-append-from Clear vs ws ∙ judged-from (judged vs) ws
+
+-- ---- entry by entry
+
+module _ {A : Type 0} (w : ℕ) (read : List ℕ → A) (say : ℕ → A → List Value) (at : ℕ) (s : List ℕ) where
+  -- no entry is left
+  pub entries-done : (n : ℕ) → n ≤ 0 → judged (valuesOf w say at (entries w read n (drop at s))) ≡ Clear
+  unfolding judgedFrom
+  entries-done n h = rw (values-done w read say at n (drop at s) h)
+
+  -- the first that is left has no fault
+  pub entry-clear : (n m : ℕ) {x : A} {f : Checked} → n ≡ m + 1 → x ≡ read (take w (drop at s)) → f ≡ judged (say at x) → f ≡ Clear
+      → judged (valuesOf w say at (entries w read n (drop at s)))
+      ≡ judged (valuesOf w say (at + w) (entries w read m (drop (at + w) s)))
+  entry-clear n m e x f c =
+      rw (values-step w read say at n m s e, judged-append-from, ← x, ← f, c)
+
+  -- it has one
+  pub entry-fails : (n m : ℕ) {x : A} {f : Checked} {r : Refusal} → n ≡ m + 1 → x ≡ read (take w (drop at s)) → f ≡ judged (say at x) → f ≡ Fails r
+      → judged (valuesOf w say at (entries w read n (drop at s))) ≡ Fails r
+  entry-fails n m {r = r} e x f c =
+      rw (values-step w read say at n m s e, judged-append-from, ← x, ← f, c) (judged-fails r _)
+
+-- ---- what a set-up is refused for
+
+-- the first value that is out of range, as `rules` finds it
+pub judged-is-found : (vs : List Value)
+    → checked (lowest ((Option·map (λ v. v .0) (find (λ v. not (v .1)) vs) ⇒↑ SetupValue) ∷ [])) ≡ judged vs
+unfolding lowest find judgedFrom orFault
+judged-is-found [] = refl
+judged-is-found ((at, true) ∷ vs) = judged-is-found vs
+judged-is-found ((at, false) ∷ vs) = sym (judged-fails (SetupValue at) vs)
+
+module _ (s : List ℕ) where
+  pub refused-shape : misshapen s ≡ true → checked (setupRefusal s) ≡ Fails SetupShape
+  unfolding setupRefusal lowest
+  refused-shape e = rw e
+
+  pub refused-value : misshapen s ≡ false → checked (setupRefusal s) ≡ judged (values (setupOf s) (operatorsIn s))
+  unfolding setupRefusal lowest faultyOffset
+  refused-value e = rw e (judged-is-found (values (setupOf s) (operatorsIn s)))
