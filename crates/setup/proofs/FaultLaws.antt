@@ -50,26 +50,24 @@ judged-from (Fails r) vs = judged-fails r vs
 pub judged-append : (vs ws : List Value) → judged (vs ++ ws) ≡ orElse (judged vs) (judged ws)
 judged-append vs ws = judged-append-from Clear vs ws ∙ judged-from (judged vs) ws
 
--- ---- entry by entry
+-- ---- entry by entry: `whole` is what all of the entries come to
 
-module _ {A : Type 0} (w : ℕ) (read : List ℕ → A) (say : ℕ → A → List Value) (at : ℕ) (s : List ℕ) where
+module _ {A : Type 0} (w : ℕ) (read : List ℕ → A) (say : ℕ → A → List Value) (at : ℕ) (s : List ℕ) (n : ℕ) {whole : Checked}
+    (left : judged (valuesOf w say at (entries w read n (drop at s))) ≡ whole) where
   -- no entry is left
-  pub entries-done : (n : ℕ) → n ≤ 0 → judged (valuesOf w say at (entries w read n (drop at s))) ≡ Clear
+  pub none-left : n ≤ 0 → Clear ≡ whole
   unfolding judgedFrom
-  entries-done n h = rw (values-done w read say at n (drop at s) h)
+  none-left h = rw (values-done w read say at n (drop at s) h) at left
 
   -- the first that is left has no fault
-  pub entry-clear : (n m : ℕ) {x : A} {f : Checked} → n ≡ m + 1 → x ≡ read (take w (drop at s)) → f ≡ judged (say at x) → f ≡ Clear
-      → judged (valuesOf w say at (entries w read n (drop at s)))
-      ≡ judged (valuesOf w say (at + w) (entries w read m (drop (at + w) s)))
-  entry-clear n m e x f c =
-      rw (values-step w read say at n m s e, judged-append-from, ← x, ← f, c)
+  pub first-clear : (m : ℕ) {x : A} {f : Checked} → n ≡ m + 1 → x ≡ read (take w (drop at s)) → f ≡ judged (say at x) → f ≡ Clear
+      → judged (valuesOf w say (at + w) (entries w read m (drop (at + w) s))) ≡ whole
+  first-clear m e x f c = rw (values-step w read say at n m s e, judged-append-from, ← x, ← f, c) at left
 
   -- it has one
-  pub entry-fails : (n m : ℕ) {x : A} {f : Checked} {r : Refusal} → n ≡ m + 1 → x ≡ read (take w (drop at s)) → f ≡ judged (say at x) → f ≡ Fails r
-      → judged (valuesOf w say at (entries w read n (drop at s))) ≡ Fails r
-  entry-fails n m {r = r} e x f c =
-      rw (values-step w read say at n m s e, judged-append-from, ← x, ← f, c) (judged-fails r _)
+  pub first-fails : (m : ℕ) {x : A} {f : Checked} {r : Refusal} → n ≡ m + 1 → x ≡ read (take w (drop at s)) → f ≡ judged (say at x) → f ≡ Fails r
+      → Fails r ≡ whole
+  first-fails m {r = r} e x f c = sym (judged-fails r _) ∙ (rw (values-step w read say at n m s e, judged-append-from, ← x, ← f, c) at left)
 
 -- ---- what a set-up is refused for
 
