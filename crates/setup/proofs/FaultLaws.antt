@@ -6,13 +6,14 @@ use mathlib.Core.Option.{Option, none, some, Option·map}
 use mathlib.Core.Bool.{Bool, true, false, not}
 use native.Mathlib.Omega.{arith}
 use lib.ListN.{length, getD, take, drop}
+use Rattle.rules.specs.declared.Counts.{Counts}
 use Rattle.rules.specs.declared.Checked.{Checked}
 use Rattle.rules.specs.declared.Checked.the-variants.{Clear, Fails}
 use Rattle.rules.specs.declared.Refusal.{Refusal}
 use Rattle.rules.specs.declared.Refusal.the-variants.{SetupShape, SetupValue}
 use Rattle.rules.specs.Basics.{find, entries, nth}
 use Rattle.rules.specs.Verdicts.{_⇒_, _⇒↑_, applies, lowest, checked}
-use Rattle.rules.specs.Opening.{Value, valuesOf, values, misshapen, faultyOffset, setupOf, setupRefusal, operatorsIn}
+use Rattle.rules.specs.Opening.{countsIn, Value, valuesOf, values, misshapen, faultyOffset, setupOf, setupRefusal, operatorsIn}
 use Rattle.rules.proofs.SetupEntries.{values-done, values-step}
 use Rattle.setup.specs.Faults.{orElse, orFault, judgedFrom, judged}
 
@@ -68,6 +69,10 @@ module _ {A : Type 0} (w : ℕ) (read : List ℕ → A) (say : ℕ → A → Lis
   pub first-fails : (m : ℕ) {x : A} {f : Checked} {r : Refusal} → n ≡ m + 1 → x ≡ read (take w (drop at s)) → f ≡ judged (say at x) → f ≡ Fails r
       → Fails r ≡ whole
   first-fails m {r = r} e x f c = sym (judged-fails r _) ∙ (rw (values-step w read say at n m s e, judged-append-from, ← x, ← f, c) at left)
+
+-- what begins where the counts say, begins where equal counts say
+pub at-counts : (F : Counts → ℕ → Checked) (from : Counts → ℕ) {n k : Counts} {at : ℕ} → n ≡ k → at ≡ from n → F n at ≡ F k (from k)
+at-counts F from e a = rw (a, e)
 
 -- ---- what a set-up is refused for
 

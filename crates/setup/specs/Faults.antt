@@ -14,7 +14,7 @@ use Rattle.rules.specs.declared.Checked.the-variants.{Clear, Fails}
 use Rattle.rules.specs.declared.Refusal.the-variants.{SetupValue}
 use Rattle.rules.specs.Basics.{if_then_else_}
 use Rattle.rules.specs.Limits.{mostEnergy}
-use Rattle.rules.specs.Opening.{Value, countsIn, setupLength}
+use Rattle.rules.specs.Opening.{Value, valuesOf, estimateValues, operatorValues, accountValues, pointValues, countsIn, setupLength, estimatesFrom, operatorsFrom, accountsFrom, pointsFrom, estimatesIn, operatorsIn, accountsIn, pointsIn}
 
 -- ---- faults
 
@@ -36,6 +36,19 @@ judgedFrom found (v ∷ vs) = judgedFrom (orFault found v) vs
 -- the first value that is out of range
 abbrev pub judged : List Value → Checked
 judged vs = judgedFrom Clear vs
+
+-- the first fault among the estimates, the operators, the accounts and the points of set-up bytes
+unfoldable pub estimateFaults : List ℕ → Checked
+estimateFaults s = judged (valuesOf 4 estimateValues estimatesFrom (estimatesIn s))
+
+unfoldable pub operatorFaults : List ℕ → Checked
+operatorFaults s = judged (valuesOf 10 operatorValues (operatorsFrom (countsIn s)) (operatorsIn s))
+
+unfoldable pub accountFaults : List ℕ → Checked
+accountFaults s = judged (valuesOf 10 (accountValues (countsIn s .operators)) (accountsFrom (countsIn s)) (accountsIn s))
+
+unfoldable pub pointFaults : List ℕ → Checked
+pointFaults s = judged (valuesOf 11 (pointValues (accountsIn s) (countsIn s .zones)) (pointsFrom (countsIn s)) (pointsIn s))
 
 -- a point's greatest amount in a direction that its kind has, or has not
 abbrev pub mostAmount : Bool → ℕ

@@ -2,8 +2,8 @@
 ghost use mathlib.Core.Path.{_≡_};
 ghost use lib.ListN.{length};
 ghost use Rattle.rules.specs.Verdicts.{checked};
-ghost use Rattle.rules.specs.Opening.{badCounts, misshapen, estimatesFrom, operatorsFrom, accountsFrom, pointsFrom, estimatesIn, operatorsIn, accountsIn, pointsIn, estimateValues, operatorValues, accountValues, pointValues, valuesOf, values, setupOf, setupRefusal};
-ghost use Rattle.setup.specs.Faults.{judged, Shaped};
+ghost use Rattle.rules.specs.Opening.{badCounts, misshapen, operatorsIn, values, setupOf, setupRefusal};
+ghost use Rattle.setup.specs.Faults.{judged, estimateFaults, operatorFaults, accountFaults, pointFaults, Shaped};
 use crate::counts::accounts_from;
 use crate::counts::counts;
 use crate::counts::length_of;
@@ -53,7 +53,7 @@ pub fn misshapen(setup: &[u8]) -> bool
 // The lowest offset of an estimate that is out of range.
 fn estimate_faults(setup: &[u8], n: Counts) -> Checked
     requires { ⌜ Shaped n (now setup) ⌝ }
-    ensures { λ r. ⌜ r ≡ judged (valuesOf 4 estimateValues estimatesFrom (estimatesIn (now (setup .entry)))) ⌝ }
+    ensures { λ r. ⌜ r ≡ estimateFaults (now (setup .entry)) ⌝ }
 {
     let mut at: usize = 5;
     let mut left = n.hours;
@@ -63,6 +63,61 @@ fn estimate_faults(setup: &[u8], n: Counts) -> Checked
             return Checked::Fails(r);
         }
         at = at + 4;
+        left = left - 1;
+    }
+    Checked::Clear
+}
+
+// The lowest offset of an operator's value that is out of range.
+fn operator_faults(setup: &[u8], n: Counts) -> Checked
+    requires { ⌜ Shaped n (now setup) ⌝ }
+    ensures { λ r. ⌜ r ≡ operatorFaults (now (setup .entry)) ⌝ }
+{
+    let mut at = operators_from(n);
+    let mut left = n.operators;
+    while 0 < left {
+        let x = operator_at(setup, at);
+        if let Checked::Fails(r) = operator_fault(x, at) {
+            return Checked::Fails(r);
+        }
+        at = at + 10;
+        left = left - 1;
+    }
+    Checked::Clear
+}
+
+// The lowest offset of an account's value that is out of range.
+fn account_faults(setup: &[u8], n: Counts) -> Checked
+    requires { ⌜ Shaped n (now setup) ⌝ }
+    ensures { λ r. ⌜ r ≡ accountFaults (now (setup .entry)) ⌝ }
+{
+    let mut at = accounts_from(n);
+    let mut left = n.accounts;
+    while 0 < left {
+        let x = account_at(setup, at);
+        if let Checked::Fails(r) = account_fault(x, n.operators, at) {
+            return Checked::Fails(r);
+        }
+        at = at + 10;
+        left = left - 1;
+    }
+    Checked::Clear
+}
+
+// The lowest offset of a point's value that is out of range.
+fn point_faults(setup: &[u8], n: Counts) -> Checked
+    requires { ⌜ Shaped n (now setup) ⌝ }
+    ensures { λ r. ⌜ r ≡ pointFaults (now (setup .entry)) ⌝ }
+{
+    let accounts = accounts_from(n);
+    let mut at = points_from(n);
+    let mut left = n.points;
+    while 0 < left {
+        let x = point_at(setup, at);
+        if let Checked::Fails(r) = point_fault(setup, accounts, n.accounts, n.zones, x, at) {
+            return Checked::Fails(r);
+        }
+        at = at + 11;
         left = left - 1;
     }
     Checked::Clear

@@ -5,8 +5,8 @@ use lib.ListN.{length, drop}
 use native.Mathlib.Omega.{arith}
 use Rattle.rules.specs.declared.Counts.{Counts}
 use Rattle.rules.specs.Basics.{entries}
-use Rattle.rules.specs.Opening.{priceIn, estimatesFrom, estimatesIn, estimateValues, valuesOf}
-use Rattle.setup.specs.Faults.{judged}
+use Rattle.rules.specs.Opening.{priceIn, estimatesIn, estimateValues, valuesOf}
+use Rattle.setup.specs.Faults.{judged, estimateFaults}
 use Rattle.setup.proofs.FaultLaws.{none-left, first-clear, first-fails}
 use borrow.Author.Needs.{needs}
 use Rattle.setup.proofs.fault.estimate_faults.Statement.{statement}
@@ -16,13 +16,13 @@ abbrev Inv-loop : tie.InvT-loop
 Inv-loop setup at₀ left₀ at left =
     (at + 4 * left ≤ length setup)
     × (judged (valuesOf 4 estimateValues at (entries 4 priceIn left (drop at setup)))
-    ≡ judged (valuesOf 4 estimateValues estimatesFrom (estimatesIn setup)))
+    ≡ estimateFaults setup)
 
 abbrev μ-loop : tie.MeasureT-loop
 μ-loop setup at₀ left₀ at left = left
 
 loop-holds : tie.Need-loop-holds Inv-loop μ-loop
-unfolding estimatesIn
+unfolding estimateFaults estimatesIn
 loop-holds c =
     (search needs, ap (λ (n : Counts). judged (valuesOf 4 estimateValues 5 (entries 4 priceIn (n .hours) (drop 5 (c .before .args .setup .now))))) (c .before .pre .counted))
 
