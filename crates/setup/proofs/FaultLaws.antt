@@ -5,7 +5,9 @@ use mathlib.Core.List.{List, [], _∷_, _++_}
 use mathlib.Core.Option.{Option, none, some, Option·map}
 use mathlib.Core.Bool.{Bool, true, false, not}
 use native.Mathlib.Omega.{arith}
-use lib.ListN.{length, getD, take, drop}
+use lib.ListN.{length, getD, take, drop, length-map}
+use mir.Syntax.{w8}
+use mir.Val.{Fits}
 use Rattle.rules.specs.declared.Counts.{Counts}
 use Rattle.rules.specs.declared.Checked.{Checked}
 use Rattle.rules.specs.declared.Checked.the-variants.{Clear, Fails}
@@ -13,9 +15,9 @@ use Rattle.rules.specs.declared.Refusal.{Refusal}
 use Rattle.rules.specs.declared.Refusal.the-variants.{SetupShape, SetupValue}
 use Rattle.rules.specs.Basics.{find, entries, nth}
 use Rattle.rules.specs.Verdicts.{_⇒_, _⇒↑_, applies, lowest, checked}
-use Rattle.rules.specs.Opening.{countsIn, Value, valuesOf, values, misshapen, faultyOffset, setupOf, setupRefusal, operatorsIn}
-use Rattle.rules.proofs.SetupEntries.{values-done, values-step}
-use Rattle.setup.specs.Faults.{orElse, orFault, judgedFrom, judged}
+use Rattle.rules.specs.Opening.{countsIn, setupLength, Value, valuesOf, values, misshapen, faultyOffset, setupOf, setupRefusal, operatorsIn}
+use Rattle.rules.proofs.SetupEntries.{shape-of, length-operators, length-accounts, values-done, values-step}
+use Rattle.setup.specs.Faults.{orElse, orFault, judgedFrom, judged, estimateFaults, operatorFaults, accountFaults, pointFaults, Shaped}
 
 -- ---- one value
 
@@ -85,6 +87,22 @@ judged-is-found ((at, true) ∷ vs) = judged-is-found vs
 judged-is-found ((at, false) ∷ vs) = sym (judged-fails (SetupValue at) vs)
 
 module _ (s : List ℕ) where
+  -- the values of a set-up are those of its four lists
+  pub list-by-list : orElse (orElse (orElse (estimateFaults s) (operatorFaults s)) (accountFaults s)) (pointFaults s)
+      ≡ judged (values (setupOf s) (operatorsIn s))
+  unfolding values setupOf estimateFaults operatorFaults accountFaults pointFaults
+  list-by-list = sym (simp (judged-append, length-map, length-operators, length-accounts))
+
+  -- bytes in shape hold what their counts say
+  pub shaped : ((k : ℕ) → Fits w8 (getD s k 0)) → misshapen s ≡ false → {n : Counts} → n ≡ countsIn s → Shaped n s
+  shaped byte h e =
+      let x : length s ≡ setupLength (countsIn s) = shape-of s h .exact in
+      record {
+        counted = e;
+        whole = rw e (omega arith);
+        short = omega (arith, byte 0, byte 1, byte 2, byte 3);
+      }
+
   pub refused-shape : misshapen s ≡ true → checked (setupRefusal s) ≡ Fails SetupShape
   unfolding setupRefusal lowest
   refused-shape e = rw e

@@ -122,3 +122,26 @@ fn point_faults(setup: &[u8], n: Counts) -> Checked
     }
     Checked::Clear
 }
+
+// The lowest offset of a value that is out of range.
+fn value_fault(setup: &[u8], n: Counts) -> Checked
+    requires { ⌜ Shaped n (now setup) ⌝ }
+    ensures { λ r. ⌜ r ≡ judged (values (setupOf (now (setup .entry))) (operatorsIn (now (setup .entry)))) ⌝ }
+{
+    let estimates = estimate_faults(setup, n);
+    let operators = operator_faults(setup, n);
+    let accounts = account_faults(setup, n);
+    let points = point_faults(setup, n);
+    or_else(or_else(or_else(estimates, operators), accounts), points)
+}
+
+// What set-up bytes are refused for: their shape (8), or the lowest offset of a value at fault (9).
+pub fn fault(setup: &[u8]) -> Checked
+    ensures { λ r. ⌜ r ≡ checked (setupRefusal (now (setup .entry))) ⌝ }
+{
+    if misshapen(setup) {
+        return Checked::Fails(Refusal::SetupShape);
+    }
+    let n = counts(setup);
+    value_fault(setup, n)
+}

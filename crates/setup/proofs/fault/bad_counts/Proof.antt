@@ -2,10 +2,7 @@ use mathlib.Core.Path.{refl}
 use Rattle.rules.specs.Opening.{badCounts}
 use Rattle.setup.proofs.fault.bad_counts.Statement.{statement}
 use Rattle.setup.proofs.fault.bad_counts.Tie as tie
-use Rattle.setup.proofs.fault.bad_counts.Reads as reads
-use Rattle.setup.proofs.fault.bad_counts.Lts as lts
 
--- src/fault.rt:32:1
 returns : tie.Need-returns
 unfolding badCounts
 returns c = refl

@@ -3,30 +3,20 @@ use Rattle.rules.specs.Opening.{misshapen}
 use borrow.Author.Needs.{needs}
 use Rattle.setup.proofs.fault.misshapen.Statement.{statement}
 use Rattle.setup.proofs.fault.misshapen.Tie as tie
-use Rattle.setup.proofs.fault.misshapen.Reads as reads
-use Rattle.setup.proofs.fault.misshapen.Lts as lts
-use Rattle.setup.proofs.counts.counts.Reads as counts-reads
-use Rattle.setup.proofs.counts.length_of.Reads as length-of-reads
-use Rattle.setup.proofs.fault.bad_counts.Reads as bad-counts-reads
 
--- src/fault.rt:47:9
 returns : tie.Need-returns
 unfolding misshapen
 returns c = simp (lt-ltb _ _ (c .if1 .taken))
 
--- src/fault.rt:49:9
 counts-requires : tie.Need-counts-requires
 counts-requires c κs = search needs
 
--- src/fault.rt:50:5
 bad-counts-requires : tie.Need-bad-counts-requires
 bad-counts-requires c κs = search needs
 
--- src/fault.rt:50:37
 length-of-requires : tie.Need-length-of-requires
 length-of-requires c κs = search needs
 
--- src/fault.rt:43:1
 returns-2 : tie.Need-returns-2
 unfolding misshapen
 returns-2 c = simp (le-ltb _ _ (c .before .before .before .if1 .left), c .length-of .ensures, c .before .bad-counts .ensures, c .before .before .counts .ensures)

@@ -3,39 +3,28 @@ use Rattle.setup.specs.Faults.{judgedFrom}
 use borrow.Author.Needs.{needs}
 use Rattle.setup.proofs.values.account_fault.Statement.{statement}
 use Rattle.setup.proofs.values.account_fault.Tie as tie
-use Rattle.setup.proofs.values.account_fault.Reads as reads
-use Rattle.setup.proofs.values.account_fault.Lts as lts
-use Rattle.setup.proofs.values.or_fault.Reads as or-fault-reads
 
--- src/values.rt:64:9
 or-fault-requires : tie.Need-or-fault-requires
 or-fault-requires c κs = search needs
 
--- src/values.rt:65:66
 add-or-fault : tie.Need-add-or-fault
 add-or-fault c = search needs
 
--- src/values.rt:65:9
 or-fault-requires-2 : tie.Need-or-fault-requires-2
 or-fault-requires-2 c κs = search needs
 
--- src/values.rt:66:58
 add-or-fault-2 : tie.Need-add-or-fault-2
 add-or-fault-2 c = search needs
 
--- src/values.rt:66:9
 or-fault-requires-3 : tie.Need-or-fault-requires-3
 or-fault-requires-3 c κs = search needs
 
--- src/values.rt:67:47
 add-or-fault-3 : tie.Need-add-or-fault-3
 add-or-fault-3 c = search needs
 
--- src/values.rt:67:5
 or-fault-requires-4 : tie.Need-or-fault-requires-4
 or-fault-requires-4 c κs = search needs
 
--- src/values.rt:60:1
 returns : tie.Need-returns
 unfolding accountValues judgedFrom
 returns c = cc

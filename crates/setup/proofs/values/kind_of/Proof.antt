@@ -6,35 +6,25 @@ use Rattle.rules.proofs.SetupEntries.{entry-by-number, no-entry-zero, no-entry-
 use borrow.Author.Needs.{needs}
 use Rattle.setup.proofs.values.kind_of.Statement.{statement}
 use Rattle.setup.proofs.values.kind_of.Tie as tie
-use Rattle.setup.proofs.values.kind_of.Reads as reads
-use Rattle.setup.proofs.values.kind_of.Lts as lts
-use Rattle.setup.proofs.entries.account_at.Reads as account-at-reads
 
--- src/values.rt:76:9
 returns : tie.Need-returns
 returns c = ap (λ (x : Account). x .kind) (sym (no-entry-zero 10 accountIn _ _ _ noAccount (c .if1 .taken)))
 
--- src/values.rt:79:9
 returns-2 : tie.Need-returns-2
 returns-2 c = ap (λ (x : Account). x .kind) (sym (no-entry-past 10 accountIn _ _ _ noAccount (c .if2 .taken)))
 
--- src/values.rt:81:44
 sub-account-at : tie.Need-sub-account-at
 sub-account-at c = search needs
 
--- src/values.rt:81:38
 mul-account-at : tie.Need-mul-account-at
 mul-account-at c = search needs
 
--- src/values.rt:81:31
 add-account-at : tie.Need-add-account-at
 add-account-at c = search needs
 
--- src/values.rt:81:9
 account-at-requires : tie.Need-account-at-requires
 account-at-requires c κs = search needs
 
--- src/values.rt:71:1
 returns-3 : tie.Need-returns-3
 returns-3 c = ap (λ (x : Account). x .kind) (entry-by-number 10 accountIn _ _ _ _ _ noAccount refl (c .before .before .if1 .left) (c .before .if2 .left) (c .account-at .ensures))
 

@@ -3,23 +3,16 @@ use Rattle.setup.specs.Faults.{judgedFrom}
 use borrow.Author.Needs.{needs}
 use Rattle.setup.proofs.values.operator_fault.Statement.{statement}
 use Rattle.setup.proofs.values.operator_fault.Tie as tie
-use Rattle.setup.proofs.values.operator_fault.Reads as reads
-use Rattle.setup.proofs.values.operator_fault.Lts as lts
-use Rattle.setup.proofs.values.or_fault.Reads as or-fault-reads
 
--- src/values.rt:55:9
 or-fault-requires : tie.Need-or-fault-requires
 or-fault-requires c κs = search needs
 
--- src/values.rt:56:52
 add-or-fault : tie.Need-add-or-fault
 add-or-fault c = search needs
 
--- src/values.rt:56:5
 or-fault-requires-2 : tie.Need-or-fault-requires-2
 or-fault-requires-2 c κs = search needs
 
--- src/values.rt:51:1
 returns : tie.Need-returns
 unfolding operatorValues judgedFrom
 returns c = cc

@@ -2,23 +2,17 @@ use Rattle.setup.specs.Faults.{orElse}
 use borrow.Author.Needs.{needs}
 use Rattle.setup.proofs.values.or_else.Statement.{statement}
 use Rattle.setup.proofs.values.or_else.Tie as tie
-use Rattle.setup.proofs.values.or_else.Reads as reads
-use Rattle.setup.proofs.values.or_else.Lts as lts
 
--- src/values.rt:26:27
 enum-told : tie.Need-enum-told
 enum-told c = search needs
 
--- src/values.rt:27:24
 enum-known-first : tie.Need-enum-known-first
 enum-known-first c = search needs
 
--- src/values.rt:22:1
 returns : tie.Need-returns
 unfolding orElse
 returns c = rw (c .enum-told .given .1)
 
--- src/values.rt:22:1
 returns-2 : tie.Need-returns-2
 unfolding orElse
 returns-2 c = rw (c .before .first .given .1)

@@ -2,23 +2,16 @@ use Rattle.setup.proofs.FaultLaws.{in-range, out-of-range}
 use borrow.Author.Needs.{needs}
 use Rattle.setup.proofs.values.or_fault.Statement.{statement}
 use Rattle.setup.proofs.values.or_fault.Tie as tie
-use Rattle.setup.proofs.values.or_fault.Reads as reads
-use Rattle.setup.proofs.values.or_fault.Lts as lts
-use Rattle.setup.proofs.values.or_else.Reads as or-else-reads
 
--- src/values.rt:37:9
 returns : tie.Need-returns
 returns c = in-range _ _ (c .if1 .taken)
 
--- src/values.rt:39:65
 cast-t5 : tie.Need-cast-t5
 cast-t5 c = search needs
 
--- src/values.rt:39:5
 or-else-requires : tie.Need-or-else-requires
 or-else-requires c κs = search needs
 
--- src/values.rt:32:1
 returns-2 : tie.Need-returns-2
 returns-2 c = out-of-range _ _ (c .before .if1 .left) (c .or-else .ensures)
 
