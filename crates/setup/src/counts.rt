@@ -41,5 +41,9 @@ pub fn points_from(n: Counts) -> usize
 pub fn length_of(n: Counts) -> usize
     ensures { λ r. ⌜ r ≡ setupLength n ⌝ }
 {
-    5 + 4 * (n.hours as usize) + 10 * (n.operators as usize) + 10 * (n.accounts as usize) + 11 * (n.points as usize)
+    5
+        + 4 * (n.hours as usize)
+        + 10 * (n.operators as usize)
+        + 10 * (n.accounts as usize)
+        + 11 * (n.points as usize)
 }

@@ -17,10 +17,10 @@ use rules::Point;
 use units::Cents;
 use units::CentsPerMwh;
 use units::Kwh;
+use wire::numbers::get_u8;
 use wire::numbers::get_u16;
 use wire::numbers::get_u32;
 use wire::numbers::get_u64;
-use wire::numbers::get_u8;
 
 // The price in the 4 bytes from `at` on.
 pub fn price_at(bytes: &[u8], at: usize) -> CentsPerMwh

@@ -1,9 +1,14 @@
 // The paper's figures for a set-up.
 pub const FEWEST_HOURS: u8 = 23;
+
 pub const MOST_HOURS: u8 = 25;
+
 pub const MOST_OPERATORS: u8 = 16;
+
 pub const MOST_ACCOUNTS: u8 = 32;
+
 pub const MOST_POINTS: u8 = 64;
+
 pub const MOST_ZONES: u8 = 8;
 
 // Cents per MWh.

@@ -36,7 +36,8 @@ fn or_fault(found: Checked, fine: bool, at: usize) -> Checked
     if fine {
         return found;
     }
-    or_else(found, Checked::Fails(Refusal::SetupValue { offset: at as u16 }))
+    let offset = at as u16;
+    or_else(found, Checked::Fails(Refusal::SetupValue { offset }))
 }
 
 // Of the price at `at`.
@@ -61,7 +62,11 @@ pub fn account_fault(x: Account, operators: u8, at: usize) -> Checked
     requires { ⌜ at + 10 ≤ 2 ^ 16 ⌝ }
     ensures { λ r. ⌜ r ≡ judged (accountValues operators at x) ⌝ }
 {
-    let operator = or_fault(Checked::Clear, (1 <= x.operator) & (x.operator <= operators), at);
+    let operator = or_fault(
+        Checked::Clear,
+        (1 <= x.operator) & (x.operator <= operators),
+        at,
+    );
     let kind = or_fault(operator, (1 <= x.kind) & (x.kind <= 2), at + 1);
     let lower = or_fault(kind, x.lower.0 <= MOST_ENERGY, at + 2);
     or_fault(lower, x.upper.0 <= MOST_ENERGY, at + 6)
@@ -94,7 +99,11 @@ fn amounts_fault(found: Checked, x: Point, at: usize) -> Checked
     ensures { λ r. ⌜ r ≡ judgedFrom found (amountValues at x) ⌝ }
 {
     let injection = or_fault(found, x.injection.0 <= most_amount(x.kind == 2), at + 3);
-    or_fault(injection, x.withdrawal.0 <= most_amount(x.kind == 1), at + 7)
+    or_fault(
+        injection,
+        x.withdrawal.0 <= most_amount(x.kind == 1),
+        at + 7,
+    )
 }
 
 // Of the point at `at`, in a set-up whose accounts, `n` of them, stand from `from` on.
@@ -104,7 +113,8 @@ pub fn point_fault(setup: &[u8], from: usize, n: u8, zones: u8, x: Point, at: us
 {
     let own = kind_of(setup, from, n, x.account);
     let account = or_fault(Checked::Clear, (1 <= x.account) & (x.account <= n), at);
-    let kind = or_fault(account, (1 <= x.kind) & (x.kind <= 3) & ((x.kind == 3) | (x.kind == own)), at + 1);
+    let suits = (x.kind == 3) | (x.kind == own);
+    let kind = or_fault(account, (1 <= x.kind) & (x.kind <= 3) & suits, at + 1);
     let zone = or_fault(kind, (1 <= x.zone) & (x.zone <= zones), at + 2);
     amounts_fault(zone, x, at)
 }

@@ -1,3 +1,4 @@
+-- The tests are those of the definition, in its order.
 use mathlib.Core.Path.{refl}
 use Rattle.rules.specs.Opening.{badCounts}
 use Rattle.setup.proofs.fault.bad_counts.Statement.{statement}

@@ -1,3 +1,4 @@
+-- Under 5 bytes there are no counts to read; else the tests are those of the definition.
 use borrow.Author.Tests.{lt-ltb, le-ltb}
 use Rattle.rules.specs.Opening.{misshapen}
 use borrow.Author.Needs.{needs}

@@ -1,3 +1,4 @@
+-- The four values are judged in the order of their offsets.
 use Rattle.rules.specs.Opening.{accountValues}
 use Rattle.setup.specs.Faults.{judgedFrom}
 use borrow.Author.Needs.{needs}

@@ -1,3 +1,4 @@
+-- There is one value.
 use Rattle.rules.specs.Opening.{estimateValues}
 use Rattle.setup.specs.Faults.{judgedFrom}
 use borrow.Author.Needs.{needs}

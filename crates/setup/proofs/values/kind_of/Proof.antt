@@ -1,3 +1,4 @@
+-- The account's entry is read at its place; a number that no account has gives the kind of none, 0.
 use Rattle.rules.specs.Books.{noAccount}
 use mathlib.Core.Path.{refl, ap, sym}
 use Rattle.rules.specs.declared.Account.{Account}

@@ -1,3 +1,4 @@
+-- The two values are judged in the order of their offsets.
 use Rattle.rules.specs.Opening.{operatorValues}
 use Rattle.setup.specs.Faults.{judgedFrom}
 use borrow.Author.Needs.{needs}

@@ -1,3 +1,4 @@
+-- By cases on what the first says.
 use Rattle.setup.specs.Faults.{orElse}
 use borrow.Author.Needs.{needs}
 use Rattle.setup.proofs.values.or_else.Statement.{statement}

@@ -1,3 +1,4 @@
+-- The values are judged in the order of their offsets, the kind against that of the point's account.
 use lib.ListN.{drop}
 use Rattle.rules.specs.Opening.{accountIn}
 use Rattle.rules.proofs.SetupEntries.{length-entries}
