@@ -1,10 +1,10 @@
 -- Entries side by side in bytes: each by its number, there and back; what set-up bytes say, read at their own places.
 use Prim.Native.Nat.{ℕ, zero, suc, _+_, _-_, _*_, _≤_, _<_}
-use mathlib.Core.Path.{_≡_, refl, sym, ap, _∙_}
+use mathlib.Core.Path.{_≡_, refl, ap, _∙_}
 use mathlib.Core.List.{List, [], _∷_, _++_, append-assoc}
-use mathlib.Core.Option.{Option, none, some}
+use mathlib.Core.Option.{none, some}
 use mathlib.Core.Bool.{Bool, true, false, not, _||_}
-use native.Mathlib.Nat.{add-zero, mul-zero, mul-suc, add-comm}
+use native.Mathlib.Nat.{add-zero, mul-zero, mul-suc}
 use native.Mathlib.Numerals.{add-one}
 use native.Mathlib.Omega.{arith}
 use lib.ListN.{length, getD, take, drop, length-drop, length-map, List·getD-eq-default}
@@ -14,7 +14,7 @@ use lib.Seq.{take-at, drop-at, take-take, take-add, drop-drop, length-take-le}
 use Rattle.wire.specs.Numbers.{number, numberAt, Bytes}
 use Rattle.wire.proofs.NumberLaws.{bytes-take, bytes-drop}
 use Rattle.units.specs.Units.{kwh, cents, centsPerMwh}
-use Rattle.rules.specs.Basics.{find, nth, entries, joined, Each, nil, cons}
+use Rattle.rules.specs.Basics.{find, nth, entries, joined, Each, cons}
 use Rattle.rules.specs.Books.{countsOf}
 use Rattle.rules.specs.Opening.{countsIn, setupLength, badCounts, misshapen, setupOf, estimatesIn, operatorsIn, accountsIn, pointsIn, priceIn, operatorIn, accountIn, pointIn, Value, valuesOf}
 

@@ -1,8 +1,8 @@
 -- A row of values is judged in parts: the first part that fails decides. So a loop over entries may stop there, and goes on otherwise.
-use Prim.Native.Nat.{ℕ, zero, suc, _+_, _*_, _^_, _≤_, _<_}
-use mathlib.Core.Path.{_≡_, refl, sym, ap, _∙_}
+use Prim.Native.Nat.{ℕ, _+_, _≤_}
+use mathlib.Core.Path.{_≡_, refl, sym, _∙_}
 use mathlib.Core.List.{List, [], _∷_, _++_}
-use mathlib.Core.Option.{Option, none, some, Option·map}
+use mathlib.Core.Option.{Option·map}
 use mathlib.Core.Bool.{Bool, true, false, not}
 use native.Mathlib.Omega.{arith}
 use lib.ListN.{length, getD, take, drop, length-map}
@@ -13,8 +13,8 @@ use Rattle.rules.specs.declared.Checked.{Checked}
 use Rattle.rules.specs.declared.Checked.the-variants.{Clear, Fails}
 use Rattle.rules.specs.declared.Refusal.{Refusal}
 use Rattle.rules.specs.declared.Refusal.the-variants.{SetupShape, SetupValue}
-use Rattle.rules.specs.Basics.{find, entries, nth}
-use Rattle.rules.specs.Verdicts.{_⇒_, _⇒↑_, applies, lowest, checked}
+use Rattle.rules.specs.Basics.{find, entries}
+use Rattle.rules.specs.Verdicts.{_⇒_, _⇒↑_, lowest, checked}
 use Rattle.rules.specs.Opening.{countsIn, setupLength, Value, valuesOf, values, misshapen, faultyOffset, setupOf, setupRefusal, operatorsIn}
 use Rattle.rules.proofs.SetupEntries.{shape-of, length-operators, length-accounts, values-done, values-step}
 use Rattle.setup.specs.Faults.{orElse, orFault, judgedFrom, judged, estimateFaults, operatorFaults, accountFaults, pointFaults, Shaped}

@@ -28,7 +28,11 @@ or-fault-requires-4 c κs = search needs
 
 returns : tie.Need-returns
 unfolding accountValues judgedFrom
-returns c = cc
+returns c =
+    let lower = c .before .before .or-fault3 .ensures in
+    let kind = c .before .before .before .before .or-fault2 .ensures in
+    let operator = c .before .before .before .before .before .before .before .or-fault .ensures in
+    rw (c .or-fault4 .ensures, lower, kind, operator)
 
 pub account-fault-spec : {M : Type 1} → statement M
 account-fault-spec =

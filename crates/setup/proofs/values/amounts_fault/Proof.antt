@@ -24,7 +24,8 @@ or-fault-requires-2 c κs = search needs
 
 returns : tie.Need-returns
 unfolding judgedFrom
-returns c = cc
+returns c =
+    rw (c .or-fault2 .ensures, c .before .before .most-amount2 .ensures, c .before .before .before .before .or-fault .ensures, c .before .before .before .before .before .before .most-amount .ensures)
 
 pub amounts-fault-spec : {M : Type 1} → statement M
 amounts-fault-spec =

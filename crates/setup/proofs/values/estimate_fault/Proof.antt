@@ -10,7 +10,7 @@ or-fault-requires c κs = search needs
 
 returns : tie.Need-returns
 unfolding estimateValues judgedFrom
-returns c = cc
+returns c = c .or-fault .ensures
 
 pub estimate-fault-spec : {M : Type 1} → statement M
 estimate-fault-spec = tie.close (tie.spec or-fault-requires returns)

@@ -16,7 +16,7 @@ or-fault-requires-2 c κs = search needs
 
 returns : tie.Need-returns
 unfolding operatorValues judgedFrom
-returns c = cc
+returns c = rw (c .or-fault2 .ensures, c .before .before .or-fault .ensures)
 
 pub operator-fault-spec : {M : Type 1} → statement M
 operator-fault-spec =

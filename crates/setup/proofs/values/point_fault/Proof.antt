@@ -1,6 +1,4 @@
 -- The values are judged in the order of their offsets, the kind against that of the point's account.
-use lib.ListN.{drop}
-use Rattle.rules.specs.Opening.{accountIn}
 use Rattle.rules.proofs.SetupEntries.{length-entries}
 use native.Mathlib.Omega.{arith}
 use Rattle.rules.specs.Opening.{pointValues}
@@ -32,7 +30,12 @@ amounts-fault-requires c κs = omega (arith, c .before .before .before .before .
 
 returns : tie.Need-returns
 unfolding pointValues judgedFrom
-returns c = let a = c .before .before .before .before .before .before .before .before .before .before .before .before .before .before .args in cc (length-entries 10 accountIn (a .n) (drop (a .from) (a .setup .now)))
+returns c =
+    let zone = c .before .or-fault3 .ensures in
+    let kind = c .before .before .before .before .or-fault2 .ensures in
+    let account = c .before .before .before .before .before .before .before .before .before .or-fault .ensures in
+    let own = c .before .before .before .before .before .before .before .before .before .before .before .before .kind-of .ensures in
+    rw (c .amounts-fault .ensures, zone, kind, account, own, length-entries)
 
 pub point-fault-spec : {M : Type 1} → statement M
 point-fault-spec =
