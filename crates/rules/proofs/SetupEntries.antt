@@ -1,20 +1,22 @@
 -- Entries side by side in bytes: each by its number, there and back; what set-up bytes say, read at their own places.
 use Prim.Native.Nat.{ℕ, zero, suc, _+_, _-_, _*_, _≤_, _<_}
-use mathlib.Core.Path.{_≡_, refl, sym, ap, _∙_}
+use mathlib.Core.Path.{_≡_, refl, ap, _∙_}
 use mathlib.Core.List.{List, [], _∷_, _++_, append-assoc}
-use mathlib.Core.Option.{Option, none, some}
-use mathlib.Core.Bool.{Bool, true, false}
-use native.Mathlib.Nat.{add-zero, mul-zero, mul-suc, add-comm}
+use mathlib.Core.Option.{none, some}
+use mathlib.Core.Bool.{Bool, true, false, not, _||_}
+use native.Mathlib.Nat.{add-zero, mul-zero, mul-suc}
 use native.Mathlib.Numerals.{add-one}
 use native.Mathlib.Omega.{arith}
-use lib.ListN.{length, getD, take, drop, length-drop, length-map}
+use lib.ListN.{length, getD, take, drop, length-drop, length-map, List·getD-eq-default}
+use lib.Dec.{eqb, ltb}
+use borrow.Author.Tests.{ltb-false, eqb-true, not-false}
 use lib.Seq.{take-at, drop-at, take-take, take-add, drop-drop, length-take-le}
 use Rattle.wire.specs.Numbers.{number, numberAt, Bytes}
 use Rattle.wire.proofs.NumberLaws.{bytes-take, bytes-drop}
 use Rattle.units.specs.Units.{kwh, cents, centsPerMwh}
-use Rattle.rules.specs.Basics.{find, nth, entries, joined, Each, nil, cons}
+use Rattle.rules.specs.Basics.{find, nth, entries, joined, Each, cons}
 use Rattle.rules.specs.Books.{countsOf}
-use Rattle.rules.specs.Opening.{countsIn, setupOf, estimatesIn, operatorsIn, accountsIn, pointsIn, priceIn, operatorIn, accountIn, pointIn, Value, valuesOf}
+use Rattle.rules.specs.Opening.{countsIn, setupLength, badCounts, misshapen, setupOf, estimatesIn, operatorsIn, accountsIn, pointsIn, priceIn, operatorIn, accountIn, pointIn, Value, valuesOf}
 
 -- ---- entries by number
 
@@ -44,6 +46,15 @@ module _ {ℓ} {A : Type ℓ} (w : ℕ) (say : List ℕ → A) where
   pub entry-by-number : (n k at from : ℕ) (s : List ℕ) (d : A) {r : A} → from ≡ at → 1 ≤ k → k ≤ n
       → r ≡ say (take w (drop (from + w * (k - 1)) s)) → r ≡ nth (entries w say n (drop at s)) k d
   entry-by-number n k at from s d e l h read = rw (nth-entry n k at s d l h, ← e) read
+
+  -- numbers that no entry has
+  pub no-entry-zero : (n k : ℕ) (s : List ℕ) (d : A) → k < 1 → nth (entries w say n s) k d ≡ d
+  no-entry-zero n zero s d h = refl
+  no-entry-zero n (suc i) s d h = absurd (omega arith)
+
+  pub no-entry-past : (n k : ℕ) (s : List ℕ) (d : A) → n < k → nth (entries w say n s) k d ≡ d
+  no-entry-past n zero s d h = refl
+  no-entry-past n (suc i) s d h = List·getD-eq-default (entries w say n s) d (omega (arith, length-entries n s))
 
 -- ---- there and back
 
@@ -109,9 +120,50 @@ module _ (s : List ℕ) (at : ℕ) where
 
 -- ---- what set-up bytes say
 
-pub counts-of-setup : (s : List ℕ) → countsOf (setupOf s) ≡ countsIn s
-unfolding setupOf operatorsIn accountsIn pointsIn
-counts-of-setup s = simp (length-map, length-entries)
+module _ (s : List ℕ) where
+  pub length-estimates : length (estimatesIn s) ≡ countsIn s .hours
+  unfolding estimatesIn
+  length-estimates = simp length-entries
+
+  pub length-operators : length (operatorsIn s) ≡ countsIn s .operators
+  unfolding operatorsIn
+  length-operators = simp length-entries
+
+  pub length-accounts : length (accountsIn s) ≡ countsIn s .accounts
+  unfolding accountsIn
+  length-accounts = simp length-entries
+
+  pub length-points : length (pointsIn s) ≡ countsIn s .points
+  unfolding pointsIn
+  length-points = simp length-entries
+
+  pub counts-of-setup : countsOf (setupOf s) ≡ countsIn s
+  unfolding setupOf
+  counts-of-setup = simp (length-map, length-operators, length-accounts, length-points)
+
+-- ---- the shape
+
+or-false : (a b : Bool) → (a || b) ≡ false → (a ≡ false) × (b ≡ false)
+or-false true b h = let z : _≡_ {A = ℕ} 0 1 = cc in absurd (omega arith)
+or-false false b h = (refl, h)
+
+pub record Shape (s : List ℕ) : Type 0 where
+  pub long : 5 ≤ length s
+  pub counts : badCounts (countsIn s) ≡ false
+  pub exact : length s ≡ setupLength (countsIn s)
+
+pub shape-of : (s : List ℕ) → misshapen s ≡ false → Shape s
+unfolding misshapen
+shape-of s h =
+    let short = ltb (length s) 5 in
+    let bad = badCounts (countsIn s) in
+    let p = or-false (short || bad) (not (eqb (length s) (setupLength (countsIn s)))) h in
+    let q = or-false short bad (p .0) in
+    record {
+      long = ltb-false _ _ (q .0);
+      counts = q .1;
+      exact = eqb-true _ _ (not-false _ (p .1));
+    }
 
 -- ---- values, entry by entry
 

@@ -1,32 +1,77 @@
--- The refusal that a row of values comes to (document 01, "Verdicts", 9), value by value; bytes that hold what their counts say.
-use Prim.Native.Nat.{ℕ, _≤_}
+-- What a row of values comes to (document 01, "Verdicts", 9), value by value; bytes that hold the entries that their counts say.
+use Prim.Native.Nat.{ℕ, _+_, _≤_, _^_}
+use mathlib.Core.Path.{_≡_}
+use mathlib.Core.Bool.{Bool}
 use mathlib.Core.List.{List, [], _∷_}
 use lib.ListN.{length}
+use lib.Dec.{eqb, leb}
 use Rattle.units.specs.Units.{cents}
+use Rattle.rules.specs.declared.Counts.{Counts}
 use Rattle.rules.specs.declared.Operator.{Operator}
+use Rattle.rules.specs.declared.Point.{Point}
 use Rattle.rules.specs.declared.Checked.{Checked}
 use Rattle.rules.specs.declared.Checked.the-variants.{Clear, Fails}
 use Rattle.rules.specs.declared.Refusal.the-variants.{SetupValue}
 use Rattle.rules.specs.Basics.{if_then_else_}
-use Rattle.rules.specs.Opening.{Value, countsIn, setupLength}
+use Rattle.rules.specs.Limits.{mostEnergy}
+use Rattle.rules.specs.Opening.{Value, valuesOf, estimateValues, operatorValues, accountValues, pointValues, countsIn, setupLength, estimatesFrom, operatorsFrom, accountsFrom, pointsFrom, estimatesIn, operatorsIn, accountsIn, pointsIn}
+
+-- ---- faults
 
 -- the first of two that fails
-abbrev pub orElse : Checked → Checked → Checked
+unfoldable pub orElse : Checked → Checked → Checked
 orElse Clear b = b
 orElse (Fails r) b = Fails r
 
--- a value that is out of range fails at its offset
-abbrev pub judge : Value → Checked
-judge v = if v .1 then Clear else Fails (SetupValue (v .0))
+-- what was found so far, or the offset of a value that is out of range
+unfoldable pub orFault : Checked → Value → Checked
+orFault Clear v = if v .1 then Clear else Fails (SetupValue (v .0))
+orFault (Fails r) v = Fails r
+
+-- what was found so far, or the first value that is out of range
+unfoldable pub judgedFrom : Checked → List Value → Checked
+judgedFrom found [] = found
+judgedFrom found (v ∷ vs) = judgedFrom (orFault found v) vs
 
 -- the first value that is out of range
-unfoldable pub judged : List Value → Checked
-judged [] = Clear
-judged (v ∷ vs) = orElse (judge v) (judged vs)
+abbrev pub judged : List Value → Checked
+judged vs = judgedFrom Clear vs
+
+-- the first fault among the estimates, the operators, the accounts and the points of set-up bytes
+unfoldable pub estimateFaults : List ℕ → Checked
+estimateFaults s = judged (valuesOf 4 estimateValues estimatesFrom (estimatesIn s))
+
+unfoldable pub operatorFaults : List ℕ → Checked
+operatorFaults s = judged (valuesOf 10 operatorValues (operatorsFrom (countsIn s)) (operatorsIn s))
+
+unfoldable pub accountFaults : List ℕ → Checked
+accountFaults s = judged (valuesOf 10 (accountValues (countsIn s .operators)) (accountsFrom (countsIn s)) (accountsIn s))
+
+unfoldable pub pointFaults : List ℕ → Checked
+pointFaults s = judged (valuesOf 11 (pointValues (accountsIn s) (countsIn s .zones)) (pointsFrom (countsIn s)) (pointsIn s))
+
+-- a point's greatest amount in a direction that its kind has, or has not
+abbrev pub mostAmount : Bool → ℕ
+mostAmount barred = if barred then 0 else mostEnergy
+
+-- the last two values of a point
+abbrev pub amountValues : ℕ → Point → List Value
+amountValues at x =
+    (at + 3, leb (x .injection .0) (mostAmount (eqb (x .kind) 2)))
+    ∷ (at + 7, leb (x .withdrawal .0) (mostAmount (eqb (x .kind) 1)))
+    ∷ []
+
+-- ---- bytes that are long enough
 
 -- the bytes hold every entry that their counts say
 abbrev pub Whole : List ℕ → Type 0
 Whole s = setupLength (countsIn s) ≤ length s
+
+-- the same, with the counts that were read; each offset fits a detail
+pub record Shaped (n : Counts) (s : List ℕ) : Type 0 where
+  pub counted : n ≡ countsIn s
+  pub whole : setupLength n ≤ length s
+  pub short : length s ≤ 2 ^ 16
 
 -- what stands at a number that no operator has
 abbrev pub noOperator : Operator

@@ -1,3 +1,3 @@
 -- What the contracts of `setup` say besides the definitions of `rules`.
--- Faults: the refusal that a row of values comes to.
+-- Faults: what a row of values comes to, and bytes that hold what their counts say.
 pub mod Faults

@@ -1,3 +1,6 @@
 // Set-up bytes: what is wrong with them, and their entries by number.
 pub mod counts;
 pub mod entries;
+pub mod fault;
+pub mod limits;
+pub mod values;

@@ -1,5 +1,4 @@
 -- The entry that was read at its place is the one of that number.
-use native.Mathlib.Omega.{arith}
 use mathlib.Core.Path.{refl}
 use Rattle.rules.specs.Opening.{estimatesIn}
 use Rattle.rules.proofs.SetupEntries.{entry-by-number}

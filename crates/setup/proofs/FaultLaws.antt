@@ -1,0 +1,112 @@
+-- A row of values is judged in parts: the first part that fails decides. So a loop over entries may stop there, and goes on otherwise.
+use Prim.Native.Nat.{ℕ, _+_, _≤_}
+use mathlib.Core.Path.{_≡_, refl, sym, _∙_}
+use mathlib.Core.List.{List, [], _∷_, _++_}
+use mathlib.Core.Option.{Option·map}
+use mathlib.Core.Bool.{Bool, true, false, not}
+use native.Mathlib.Omega.{arith}
+use lib.ListN.{length, getD, take, drop, length-map}
+use mir.Syntax.{w8}
+use mir.Val.{Fits}
+use Rattle.rules.specs.declared.Counts.{Counts}
+use Rattle.rules.specs.declared.Checked.{Checked}
+use Rattle.rules.specs.declared.Checked.the-variants.{Clear, Fails}
+use Rattle.rules.specs.declared.Refusal.{Refusal}
+use Rattle.rules.specs.declared.Refusal.the-variants.{SetupShape, SetupValue}
+use Rattle.rules.specs.Basics.{find, entries}
+use Rattle.rules.specs.Verdicts.{_⇒_, _⇒↑_, lowest, checked}
+use Rattle.rules.specs.Opening.{countsIn, setupLength, Value, valuesOf, values, misshapen, faultyOffset, setupOf, setupRefusal, operatorsIn}
+use Rattle.rules.proofs.SetupEntries.{shape-of, length-operators, length-accounts, values-done, values-step}
+use Rattle.setup.specs.Faults.{orElse, orFault, judgedFrom, judged, estimateFaults, operatorFaults, accountFaults, pointFaults, Shaped}
+
+-- ---- one value
+
+pub in-range : (found : Checked) (at : ℕ) {fine : Bool} → fine ≡ true → found ≡ orFault found (at, fine)
+unfolding orFault
+in-range Clear at e = rw e
+in-range (Fails r) at e = refl
+
+pub out-of-range : (found : Checked) (at : ℕ) {fine : Bool} {r : Checked} → fine ≡ false → r ≡ orElse found (Fails (SetupValue at))
+    → r ≡ orFault found (at, fine)
+unfolding orFault orElse
+out-of-range Clear at e h = rw e h
+out-of-range (Fails r) at e h = h
+
+-- ---- in parts
+
+-- what failed stays
+pub judged-fails : (r : Refusal) (vs : List Value) → judgedFrom (Fails r) vs ≡ Fails r
+unfolding judgedFrom orFault
+judged-fails r [] = refl
+judged-fails r (v ∷ vs) = judged-fails r vs
+
+pub judged-append-from : (found : Checked) (vs ws : List Value) → judgedFrom found (vs ++ ws) ≡ judgedFrom (judgedFrom found vs) ws
+unfolding judgedFrom
+judged-append-from found [] ws = refl
+judged-append-from found (v ∷ vs) ws = judged-append-from (orFault found v) vs ws
+
+judged-from : (found : Checked) (vs : List Value) → judgedFrom found vs ≡ orElse found (judged vs)
+unfolding orElse
+judged-from Clear vs = refl
+judged-from (Fails r) vs = judged-fails r vs
+
+pub judged-append : (vs ws : List Value) → judged (vs ++ ws) ≡ orElse (judged vs) (judged ws)
+judged-append vs ws = judged-append-from Clear vs ws ∙ judged-from (judged vs) ws
+
+-- ---- entry by entry: `whole` is what all of the entries come to
+
+module _ {A : Type 0} (w : ℕ) (read : List ℕ → A) (say : ℕ → A → List Value) (at : ℕ) (s : List ℕ) (n : ℕ) {whole : Checked}
+    (left : judged (valuesOf w say at (entries w read n (drop at s))) ≡ whole) where
+  -- no entry is left
+  pub none-left : n ≤ 0 → Clear ≡ whole
+  unfolding judgedFrom
+  none-left h = rw (values-done w read say at n (drop at s) h) at left
+
+  -- the first that is left has no fault
+  pub first-clear : (m : ℕ) {x : A} {f : Checked} → n ≡ m + 1 → x ≡ read (take w (drop at s)) → f ≡ judged (say at x) → f ≡ Clear
+      → judged (valuesOf w say (at + w) (entries w read m (drop (at + w) s))) ≡ whole
+  first-clear m e x f c = rw (values-step w read say at n m s e, judged-append-from, ← x, ← f, c) at left
+
+  -- it has one
+  pub first-fails : (m : ℕ) {x : A} {f : Checked} {r : Refusal} → n ≡ m + 1 → x ≡ read (take w (drop at s)) → f ≡ judged (say at x) → f ≡ Fails r
+      → Fails r ≡ whole
+  first-fails m {r = r} e x f c = sym (judged-fails r _) ∙ (rw (values-step w read say at n m s e, judged-append-from, ← x, ← f, c) at left)
+
+-- what begins where the counts say, begins where equal counts say
+pub at-counts : (F : Counts → ℕ → Checked) (from : Counts → ℕ) {n k : Counts} {at : ℕ} → n ≡ k → at ≡ from n → F n at ≡ F k (from k)
+at-counts F from e a = rw (a, e)
+
+-- ---- what a set-up is refused for
+
+-- the first value that is out of range, as `rules` finds it
+pub judged-is-found : (vs : List Value)
+    → checked (lowest ((Option·map (λ v. v .0) (find (λ v. not (v .1)) vs) ⇒↑ SetupValue) ∷ [])) ≡ judged vs
+unfolding lowest find judgedFrom orFault
+judged-is-found [] = refl
+judged-is-found ((at, true) ∷ vs) = judged-is-found vs
+judged-is-found ((at, false) ∷ vs) = sym (judged-fails (SetupValue at) vs)
+
+module _ (s : List ℕ) where
+  -- the values of a set-up are those of its four lists
+  pub list-by-list : orElse (orElse (orElse (estimateFaults s) (operatorFaults s)) (accountFaults s)) (pointFaults s)
+      ≡ judged (values (setupOf s) (operatorsIn s))
+  unfolding values setupOf estimateFaults operatorFaults accountFaults pointFaults
+  list-by-list = sym (simp (judged-append, length-map, length-operators, length-accounts))
+
+  -- bytes in shape hold what their counts say
+  pub shaped : ((k : ℕ) → Fits w8 (getD s k 0)) → misshapen s ≡ false → {n : Counts} → n ≡ countsIn s → Shaped n s
+  shaped byte h e =
+      let x : length s ≡ setupLength (countsIn s) = shape-of s h .exact in
+      record {
+        counted = e;
+        whole = rw e (omega arith);
+        short = omega (arith, byte 0, byte 1, byte 2, byte 3);
+      }
+
+  pub refused-shape : misshapen s ≡ true → checked (setupRefusal s) ≡ Fails SetupShape
+  unfolding setupRefusal lowest
+  refused-shape e = rw e
+
+  pub refused-value : misshapen s ≡ false → checked (setupRefusal s) ≡ judged (values (setupOf s) (operatorsIn s))
+  unfolding setupRefusal lowest faultyOffset
+  refused-value e = rw e (judged-is-found (values (setupOf s) (operatorsIn s)))

@@ -1,0 +1,27 @@
+-- Under 5 bytes there are no counts to read; else the tests are those of the definition.
+use borrow.Author.Tests.{lt-ltb, le-ltb}
+use Rattle.rules.specs.Opening.{misshapen}
+use borrow.Author.Needs.{needs}
+use Rattle.setup.proofs.fault.misshapen.Statement.{statement}
+use Rattle.setup.proofs.fault.misshapen.Tie as tie
+
+returns : tie.Need-returns
+unfolding misshapen
+returns c = simp (lt-ltb _ _ (c .if1 .taken))
+
+counts-requires : tie.Need-counts-requires
+counts-requires c κs = search needs
+
+bad-counts-requires : tie.Need-bad-counts-requires
+bad-counts-requires c κs = search needs
+
+length-of-requires : tie.Need-length-of-requires
+length-of-requires c κs = search needs
+
+returns-2 : tie.Need-returns-2
+unfolding misshapen
+returns-2 c = simp (le-ltb _ _ (c .before .before .before .if1 .left), c .length-of .ensures, c .before .bad-counts .ensures, c .before .before .counts .ensures)
+
+pub misshapen-spec : {M : Type 1} → statement M
+misshapen-spec =
+    tie.close (tie.spec returns counts-requires bad-counts-requires length-of-requires returns-2)

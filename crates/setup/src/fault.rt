@@ -1,0 +1,147 @@
+// What is wrong with set-up bytes: their shape, then the lowest offset of a value that is out of range.
+ghost use mathlib.Core.Path.{_≡_};
+ghost use lib.ListN.{length};
+ghost use Rattle.rules.specs.Verdicts.{checked};
+ghost use Rattle.rules.specs.Opening.{badCounts, misshapen, operatorsIn, values, setupOf, setupRefusal};
+ghost use Rattle.setup.specs.Faults.{judged, estimateFaults, operatorFaults, accountFaults, pointFaults, Shaped};
+use crate::counts::accounts_from;
+use crate::counts::counts;
+use crate::counts::length_of;
+use crate::counts::operators_from;
+use crate::counts::points_from;
+use crate::entries::account_at;
+use crate::entries::operator_at;
+use crate::entries::point_at;
+use crate::entries::price_at;
+use crate::limits::FEWEST_HOURS;
+use crate::limits::MOST_ACCOUNTS;
+use crate::limits::MOST_HOURS;
+use crate::limits::MOST_OPERATORS;
+use crate::limits::MOST_POINTS;
+use crate::limits::MOST_ZONES;
+use crate::values::account_fault;
+use crate::values::estimate_fault;
+use crate::values::operator_fault;
+use crate::values::or_else;
+use crate::values::point_fault;
+use rules::Checked;
+use rules::Counts;
+use rules::Refusal;
+
+// A count is out of range.
+fn bad_counts(n: Counts) -> bool
+    ensures { λ r. ⌜ r ≡ badCounts n ⌝ }
+{
+    !((FEWEST_HOURS <= n.hours) & (n.hours <= MOST_HOURS))
+        | !((1 <= n.operators) & (n.operators <= MOST_OPERATORS))
+        | !((1 <= n.accounts) & (n.accounts <= MOST_ACCOUNTS))
+        | !(n.points <= MOST_POINTS)
+        | !((1 <= n.zones) & (n.zones <= MOST_ZONES))
+}
+
+// Under 5 bytes, a count out of range, or a wrong length.
+pub fn misshapen(setup: &[u8]) -> bool
+    ensures { λ r. ⌜ r ≡ misshapen (now (setup .entry)) ⌝ }
+{
+    if setup.len() < 5 {
+        return true;
+    }
+    let n = counts(setup);
+    bad_counts(n) | (setup.len() != length_of(n))
+}
+
+// The lowest offset of an estimate that is out of range.
+fn estimate_faults(setup: &[u8], n: Counts) -> Checked
+    requires { ⌜ Shaped n (now setup) ⌝ }
+    ensures { λ r. ⌜ r ≡ estimateFaults (now (setup .entry)) ⌝ }
+{
+    let mut at: usize = 5;
+    let mut left = n.hours;
+    while 0 < left {
+        let x = price_at(setup, at);
+        if let Checked::Fails(r) = estimate_fault(x, at) {
+            return Checked::Fails(r);
+        }
+        at = at + 4;
+        left = left - 1;
+    }
+    Checked::Clear
+}
+
+// The lowest offset of an operator's value that is out of range.
+fn operator_faults(setup: &[u8], n: Counts) -> Checked
+    requires { ⌜ Shaped n (now setup) ⌝ }
+    ensures { λ r. ⌜ r ≡ operatorFaults (now (setup .entry)) ⌝ }
+{
+    let mut at = operators_from(n);
+    let mut left = n.operators;
+    while 0 < left {
+        let x = operator_at(setup, at);
+        if let Checked::Fails(r) = operator_fault(x, at) {
+            return Checked::Fails(r);
+        }
+        at = at + 10;
+        left = left - 1;
+    }
+    Checked::Clear
+}
+
+// The lowest offset of an account's value that is out of range.
+fn account_faults(setup: &[u8], n: Counts) -> Checked
+    requires { ⌜ Shaped n (now setup) ⌝ }
+    ensures { λ r. ⌜ r ≡ accountFaults (now (setup .entry)) ⌝ }
+{
+    let mut at = accounts_from(n);
+    let mut left = n.accounts;
+    while 0 < left {
+        let x = account_at(setup, at);
+        if let Checked::Fails(r) = account_fault(x, n.operators, at) {
+            return Checked::Fails(r);
+        }
+        at = at + 10;
+        left = left - 1;
+    }
+    Checked::Clear
+}
+
+// The lowest offset of a point's value that is out of range.
+fn point_faults(setup: &[u8], n: Counts) -> Checked
+    requires { ⌜ Shaped n (now setup) ⌝ }
+    ensures { λ r. ⌜ r ≡ pointFaults (now (setup .entry)) ⌝ }
+{
+    let accounts = accounts_from(n);
+    let mut at = points_from(n);
+    let mut left = n.points;
+    while 0 < left {
+        let x = point_at(setup, at);
+        if let Checked::Fails(r) = point_fault(setup, accounts, n.accounts, n.zones, x, at) {
+            return Checked::Fails(r);
+        }
+        at = at + 11;
+        left = left - 1;
+    }
+    Checked::Clear
+}
+
+// The lowest offset of a value that is out of range.
+fn value_fault(setup: &[u8], n: Counts) -> Checked
+    requires { ⌜ Shaped n (now setup) ⌝ }
+    ensures { λ r. ⌜ r ≡ judged (values (setupOf (now (setup .entry))) (operatorsIn (now (setup .entry)))) ⌝ }
+{
+    let estimates = estimate_faults(setup, n);
+    let operators = operator_faults(setup, n);
+    let accounts = account_faults(setup, n);
+    let points = point_faults(setup, n);
+    or_else(or_else(or_else(estimates, operators), accounts), points)
+}
+
+// What set-up bytes are refused for: their shape (8), or the lowest offset of a value at fault (9).
+pub fn fault(setup: &[u8]) -> Checked
+    ensures { λ r. ⌜ r ≡ checked (setupRefusal (now (setup .entry))) ⌝ }
+{
+    if misshapen(setup) {
+        return Checked::Fails(Refusal::SetupShape);
+    }
+    let n = counts(setup);
+    value_fault(setup, n)
+}

@@ -1,0 +1,120 @@
+// The values of one entry: the lowest offset of those that are out of range.
+ghost use mathlib.Core.Path.{_≡_};
+ghost use Prim.Native.Nat.{_+_, _*_, _≤_, _<_, _^_};
+ghost use lib.ListN.{length, drop};
+ghost use Rattle.rules.specs.Basics.{entries, nth};
+ghost use Rattle.rules.specs.Books.{noAccount};
+ghost use Rattle.rules.specs.Opening.{accountIn, estimateValues, operatorValues, accountValues, pointValues};
+ghost use Rattle.setup.specs.Faults.{orElse, orFault, judgedFrom, judged, mostAmount, amountValues};
+use crate::entries::account_at;
+use crate::limits::MOST_ENERGY;
+use crate::limits::MOST_GUARANTEE;
+use crate::limits::MOST_PRICE;
+use crate::limits::THOUSAND;
+use rules::Account;
+use rules::Checked;
+use rules::Operator;
+use rules::Point;
+use rules::Refusal;
+use units::CentsPerMwh;
+
+// The first of two that fails.
+pub fn or_else(first: Checked, second: Checked) -> Checked
+    ensures { λ r. ⌜ r ≡ orElse first second ⌝ }
+{
+    match first {
+        Checked::Clear => second,
+        Checked::Fails(r) => Checked::Fails(r),
+    }
+}
+
+// What was found so far, or the value at `at`, unless it is in range.
+fn or_fault(found: Checked, fine: bool, at: usize) -> Checked
+    requires { ⌜ at < 2 ^ 16 ⌝ }
+    ensures { λ r. ⌜ r ≡ orFault found (at, fine) ⌝ }
+{
+    if fine {
+        return found;
+    }
+    let offset = at as u16;
+    or_else(found, Checked::Fails(Refusal::SetupValue { offset }))
+}
+
+// Of the price at `at`.
+pub fn estimate_fault(x: CentsPerMwh, at: usize) -> Checked
+    requires { ⌜ at + 4 ≤ 2 ^ 16 ⌝ }
+    ensures { λ r. ⌜ r ≡ judged (estimateValues at x) ⌝ }
+{
+    or_fault(Checked::Clear, x.0 <= MOST_PRICE, at)
+}
+
+// Of the operator at `at`.
+pub fn operator_fault(x: Operator, at: usize) -> Checked
+    requires { ⌜ at + 10 ≤ 2 ^ 16 ⌝ }
+    ensures { λ r. ⌜ r ≡ judged (operatorValues at x) ⌝ }
+{
+    let guarantee = or_fault(Checked::Clear, x.guarantee.0 <= MOST_GUARANTEE, at);
+    or_fault(guarantee, x.maintenance <= THOUSAND, at + 8)
+}
+
+// Of the account at `at`.
+pub fn account_fault(x: Account, operators: u8, at: usize) -> Checked
+    requires { ⌜ at + 10 ≤ 2 ^ 16 ⌝ }
+    ensures { λ r. ⌜ r ≡ judged (accountValues operators at x) ⌝ }
+{
+    let operator = or_fault(
+        Checked::Clear,
+        (1 <= x.operator) & (x.operator <= operators),
+        at,
+    );
+    let kind = or_fault(operator, (1 <= x.kind) & (x.kind <= 2), at + 1);
+    let lower = or_fault(kind, x.lower.0 <= MOST_ENERGY, at + 2);
+    or_fault(lower, x.upper.0 <= MOST_ENERGY, at + 6)
+}
+
+// The kind of an account, of `n` that stand from `from` on; 0 of a number that none has.
+fn kind_of(setup: &[u8], from: usize, n: u8, number: u8) -> u8
+    requires { ⌜ from + 10 * n ≤ length (now setup) ⌝ }
+    ensures { λ r. ⌜ r ≡ nth (entries 10 accountIn n (drop from (now (setup .entry)))) number noAccount .kind ⌝ }
+{
+    if number < 1 {
+        return 0;
+    }
+    if n < number {
+        return 0;
+    }
+    let x = account_at(setup, from + 10 * (number as usize - 1));
+    x.kind
+}
+
+fn most_amount(barred: bool) -> u32
+    ensures { λ r. ⌜ r ≡ mostAmount barred ⌝ }
+{
+    if barred { 0 } else { MOST_ENERGY }
+}
+
+// The amounts of the point at `at`: none in a direction that its kind has not.
+fn amounts_fault(found: Checked, x: Point, at: usize) -> Checked
+    requires { ⌜ at + 11 ≤ 2 ^ 16 ⌝ }
+    ensures { λ r. ⌜ r ≡ judgedFrom found (amountValues at x) ⌝ }
+{
+    let injection = or_fault(found, x.injection.0 <= most_amount(x.kind == 2), at + 3);
+    or_fault(
+        injection,
+        x.withdrawal.0 <= most_amount(x.kind == 1),
+        at + 7,
+    )
+}
+
+// Of the point at `at`, in a set-up whose accounts, `n` of them, stand from `from` on.
+pub fn point_fault(setup: &[u8], from: usize, n: u8, zones: u8, x: Point, at: usize) -> Checked
+    requires { ⌜ (from + 10 * n ≤ length (now setup)) × (at + 11 ≤ 2 ^ 16) ⌝ }
+    ensures { λ r. ⌜ r ≡ judged (pointValues (entries 10 accountIn n (drop from (now (setup .entry)))) zones at x) ⌝ }
+{
+    let own = kind_of(setup, from, n, x.account);
+    let account = or_fault(Checked::Clear, (1 <= x.account) & (x.account <= n), at);
+    let suits = (x.kind == 3) | (x.kind == own);
+    let kind = or_fault(account, (1 <= x.kind) & (x.kind <= 3) & suits, at + 1);
+    let zone = or_fault(kind, (1 <= x.zone) & (x.zone <= zones), at + 2);
+    amounts_fault(zone, x, at)
+}
