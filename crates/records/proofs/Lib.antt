@@ -1,0 +1,2 @@
+-- MapLaws: the bits of a map, counted two ways.
+pub mod MapLaws

@@ -1,0 +1,2 @@
+// Records of requests: read, written, and their fields held against a book's counts.
+pub mod tables;
