@@ -1,2 +1,3 @@
 // Records of requests: read, written, and their fields held against a book's counts.
+pub mod ranges;
 pub mod tables;
