@@ -15,7 +15,10 @@ field-requires-2 c κs = search needs
 
 returns : tie.Need-returns
 unfolding counting bit inRange
-returns c = let s = c .before .before .before .before .before .before in simp (ranges-of (s .args .n) (s .args .q) 0x0601 (s .pre) (omega arith), c .field2 .ensures, c .before .before .before .before .field .ensures)
+returns c =
+    let at-field = c .before .before .before .before in
+    let s = at-field .before .before in
+    simp (ranges-of (s .args .n) (s .args .q) 0x0601 (s .pre) (omega arith), c .field2 .ensures, at-field .field .ensures)
 
 pub guarantee-fields-spec : {M : Type 1} → statement M
 guarantee-fields-spec = tie.close (tie.spec field-requires field-requires-2 returns)

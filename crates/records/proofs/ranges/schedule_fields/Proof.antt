@@ -24,7 +24,13 @@ field-requires-5 c κs = search needs
 
 returns : tie.Need-returns
 unfolding counting bit inRange
-returns c = let s = c .before .before .before .before .before .before .before .before .before .before .before .before .before .before .before .before in simp (ranges-of (s .args .n) (s .args .q) 0x18B1 (s .pre) (omega arith), c .field5 .ensures, c .before .before .before .field4 .ensures, c .before .before .before .before .before .before .before .field3 .ensures, c .before .before .before .before .before .before .before .before .before .before .field2 .ensures, c .before .before .before .before .before .before .before .before .before .before .before .before .before .before .field .ensures)
+returns c =
+    let at-field4 = c .before .before .before in
+    let at-field3 = at-field4 .before .before .before .before in
+    let at-field2 = at-field3 .before .before .before in
+    let at-field = at-field2 .before .before .before .before in
+    let s = at-field .before .before in
+    simp (ranges-of (s .args .n) (s .args .q) 0x18B1 (s .pre) (omega arith), c .field5 .ensures, at-field4 .field4 .ensures, at-field3 .field3 .ensures, at-field2 .field2 .ensures, at-field .field .ensures)
 
 pub schedule-fields-spec : {M : Type 1} → statement M
 schedule-fields-spec =

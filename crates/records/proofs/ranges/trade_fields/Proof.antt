@@ -30,7 +30,15 @@ field-requires-6 c κs = search needs
 
 returns : tie.Need-returns
 unfolding counting bit inRange
-returns c = let s = c .before .before .before .before .before .before .before .before .before .before .before .before .before .before .before .before .before .before .before .before .before .before .before .before in simp (ranges-of (s .args .n) (s .args .q) 0x00FF (s .pre) (omega arith), c .field6 .ensures, c .before .before .before .before .field5 .ensures, c .before .before .before .before .before .before .before .before .field4 .ensures, c .before .before .before .before .before .before .before .before .before .before .before .field3 .ensures, c .before .before .before .before .before .before .before .before .before .before .before .before .before .before .before .field2 .ensures, c .before .before .before .before .before .before .before .before .before .before .before .before .before .before .before .before .before .before .before .field .ensures, c .before .before .before .before .before .before .before .before .before .before .before .before .before .before .before .before .before .before .before .before .before .before .accounts-differ .ensures)
+returns c =
+    let at-field5 = c .before .before .before .before in
+    let at-field4 = at-field5 .before .before .before .before in
+    let at-field3 = at-field4 .before .before .before in
+    let at-field2 = at-field3 .before .before .before .before in
+    let at-field = at-field2 .before .before .before .before in
+    let at-accounts-differ = at-field .before .before .before in
+    let s = at-accounts-differ .before .before in
+    simp (ranges-of (s .args .n) (s .args .q) 0x00FF (s .pre) (omega arith), c .field6 .ensures, at-field5 .field5 .ensures, at-field4 .field4 .ensures, at-field3 .field3 .ensures, at-field2 .field2 .ensures, at-field .field .ensures, at-accounts-differ .accounts-differ .ensures)
 
 pub trade-fields-spec : {M : Type 1} → statement M
 trade-fields-spec =
