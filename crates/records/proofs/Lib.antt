@@ -4,3 +4,7 @@ pub mod MapLaws
 pub mod KindLaws
 -- RangeLaws: the checks of a request's fields, bit by bit.
 pub mod RangeLaws
+-- FieldLaws: where the fields of a record stand, and what they are.
+pub mod FieldLaws
+-- ReadingLaws: what a record reads as, one law for each way out of the reader.
+pub mod ReadingLaws

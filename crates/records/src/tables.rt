@@ -2,7 +2,7 @@
 ghost use mathlib.Core.Path.{_≡_};
 ghost use Prim.Native.Nat.{_≤_, _<_, _^_};
 ghost use Rattle.rules.specs.Basics.{bit};
-ghost use Rattle.rules.specs.Requests.{wantedMap, wantedLength, widthOf, room, more};
+ghost use Rattle.rules.specs.Requests.{isKind, wantedMap, wantedLength, widthOf, room, more};
 
 // The map and the length of a record, by kind. No kind is 0.
 const MAPS: [u16; 11] = [
@@ -23,6 +23,13 @@ const LENGTHS: [usize; 11] = [0, 20, 20, 6, 12, 3, 3, 3, 3, 14, 3];
 
 // The bytes of a field, by bit.
 const WIDTHS: [usize; 13] = [1, 1, 1, 8, 1, 1, 1, 4, 2, 1, 8, 1, 4];
+
+// Whether a number is one of the ten kinds.
+pub fn is_kind(number: u8) -> bool
+    ensures { λ r. ⌜ r ≡ isKind number ⌝ }
+{
+    (1 <= number) & (number <= 10)
+}
 
 // The map of a kind's records.
 pub fn wanted_map(kind: u8) -> u16
