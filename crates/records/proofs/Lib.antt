@@ -8,3 +8,5 @@ pub mod RangeLaws
 pub mod FieldLaws
 -- ReadingLaws: what a record reads as, one law for each way out of the reader.
 pub mod ReadingLaws
+-- WritingLaws: a record put into a buffer, field by field.
+pub mod WritingLaws

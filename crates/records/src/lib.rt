@@ -2,3 +2,4 @@
 pub mod ranges;
 pub mod reader;
 pub mod tables;
+pub mod writer;
