@@ -1,13 +1,13 @@
 -- Where the fields of a record stand, and how large the numbers in them are.
 use Prim.Native.Nat.{ℕ, zero, suc, _+_, _*_, _^_, _≤_, _<_, max}
-use mathlib.Core.Path.{_≡_, refl, _∙_, sym, ap}
+use mathlib.Core.Path.{_≡_, refl, sym, ap}
 use mathlib.Core.List.{List, [], _∷_}
 use mathlib.Core.Logic.{⊎-elim}
 use mathlib.Core.Bool.{Bool, true, false}
 use native.Mathlib.Nat.{pow-le-pow-right, lt-of-lt-of-le, add-zero, zero-add, eq-or-lt-of-le}
 use native.Mathlib.Numerals.{add-one}
 use native.Mathlib.Omega.{arith}
-use lib.ListN.{length, getD, set}
+use lib.ListN.{getD, set}
 use Rattle.wire.specs.Numbers.{numberAt, Bytes}
 use Rattle.wire.proofs.NumberLaws.{number-at-step, number-at-zero, number-at-small}
 use Rattle.rules.specs.Basics.{if_then_else_, total, counting, bit}
@@ -18,11 +18,13 @@ use Rattle.rules.specs.Requests.{widths, widthOf, mapOf, room, offset, fieldIn}
 pub number-at-more : (s : List ℕ) (p q m n v : ℕ) → p ≡ q + 1 → n ≡ m + 1 → v ≡ numberAt s p m → getD s q 0 + 256 * v ≡ numberAt s q n
 number-at-more s p q m n v e f h = rw (f, add-one m, number-at-step s q m, h, e, add-one q)
 
+-- a number of few bytes fits more
 pub number-at-below : {s : List ℕ} → Bytes s → (at w n : ℕ) → w ≤ n → numberAt s at w < 256 ^ n
 number-at-below h at w n l = lt-of-lt-of-le (number-at-small h at w) (pow-le-pow-right (omega arith) l)
 
 -- ---- rooms and offsets
 
+-- the largest entry of a table
 abbrev pub largest : List ℕ → ℕ
 largest [] = 0
 largest (x ∷ xs) = max x (largest xs)
@@ -32,6 +34,7 @@ below-largest [] k = omega arith
 below-largest (x ∷ xs) zero = omega arith
 below-largest (x ∷ xs) (suc k) = omega (arith, below-largest xs k)
 
+-- no field is wider than 8 bytes
 pub room-small : (m k : ℕ) → room m k ≤ 8
 unfolding room
 room-small m k = go (bit m k)
@@ -40,6 +43,7 @@ room-small m k = go (bit m k)
     go true = below-largest widths k
     go false = omega arith
 
+-- a sum over one number more
 total-last : (f : ℕ → ℕ) (n k : ℕ) → total f (counting (suc n) k) ≡ total f (counting n k) + f (k + n)
 unfolding total counting
 total-last f zero k = omega (arith, ap f (add-zero k))

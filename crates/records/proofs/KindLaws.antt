@@ -1,15 +1,22 @@
 -- What the tables say of a kind, and of a number that is none.
-use Prim.Native.Nat.{ℕ, zero, suc, _+_, _-_, _^_, _≤_, _<_}
+use Prim.Native.Nat.{ℕ, zero, suc, _+_, _-_, _≤_, _<_}
 use mathlib.Core.Path.{_≡_, refl, _∙_, sym, ap}
-use mathlib.Core.List.{List, [], _∷_}
 use mathlib.Core.Bool.{Bool, true, false, _&&_}
 use native.Mathlib.Omega.{arith}
 use lib.ListN.{getD, take, drop, replicate, getD-replicate, List·getD-eq-default}
 use lib.Seq.{getD-take, getD-drop}
 use lib.Dec.{leb}
-use borrow.Author.Tests.{le-leb, leb-false}
-use Rattle.rules.specs.Basics.{total, counting, within, bit}
+use borrow.Author.Tests.{le-leb, leb-true, leb-false}
+use Rattle.rules.specs.Basics.{total, counting, bit}
 use Rattle.rules.specs.Requests.{maps, wantedMap, wantedLength, isKind, room, offset}
+
+both : (a b : Bool) → (a && b) ≡ true → (a ≡ true) × (b ≡ true)
+both true b h = (refl, h)
+both false b h = (h, cc)
+
+-- a kind is 1 to 10
+pub kind-bounds : (k : ℕ) → isKind k ≡ true → (1 ≤ k) × (k ≤ 10)
+kind-bounds k h = let t = both (leb 1 k) (leb k 10) h in (leb-true 1 k (t .0), leb-true k 10 (t .1))
 
 -- n kinds side by side that have the same map
 pub wanted-run : (from n m k : ℕ) → take n (drop from maps) ≡ replicate n m → from ≤ k → k < from + n → wantedMap k ≡ m

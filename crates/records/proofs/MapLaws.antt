@@ -1,7 +1,7 @@
 -- The bits of a map: how many stand in one map and not in another, as the machine counts them and as the definition does.
 use Prim.Native.Nat.{ℕ, zero, suc, _+_, _-_, _*_, _/_, _%_, _^_, _<_, min}
 use mathlib.Core.Path.{_≡_, refl, _∙_, sym, ap, ap₂}
-use mathlib.Core.Bool.{Bool, true, false, not, _&&_}
+use mathlib.Core.Bool.{not, _&&_}
 use native.Mathlib.Nat.{min-le-left, lt-of-le-of-lt, pow-succ', div-one, div-div-eq-div-mul}
 use native.Mathlib.Omega.{arith}
 use lib.Arith.{lt-one}
@@ -15,6 +15,7 @@ use Rattle.rules.specs.Requests.{bits, more}
 abbrev only : ℕ → ℕ → ℕ → ℕ
 only a b k = if bit a k && not (bit b k) then 1 else 0
 
+-- halving a map moves its bits down by one
 bit-half : (a k : ℕ) → bit a (suc k) ≡ bit (a / 2) k
 unfolding bit
 bit-half a k = rw (pow-succ' 2 k, ← div-div-eq-div-mul a 2 (2 ^ k))
@@ -24,7 +25,7 @@ unfolding total counting
 only-half a b zero k = refl
 only-half a b (suc d) k = rw (bit-half a k, bit-half b k, only-half a b d (suc k))
 
--- of two digits
+-- of two binary digits, the first and not the second
 digit : (x y : ℕ) → x < 2 → y < 2 → (if eqb x 1 && not (eqb y 1) then 1 else 0) ≡ min x (1 - y)
 digit zero zero h l = refl
 digit zero (suc zero) h l = refl
@@ -52,6 +53,7 @@ only-low : (a b : ℕ) → only a b 0 ≡ min (a % 2) (1 - b % 2)
 unfolding bit
 only-low a b = rw (div-one a, div-one b) (digit (a % 2) (b % 2) (omega arith) (omega arith))
 
+-- of d bits, where the machine's words have d + e
 only-ones : (d e a b : ℕ) → a < 2 ^ d → b < 2 ^ (d + e) → ones (bitAnd a (2 ^ (d + e) - 1 - b)) ≡ total (only a b) (counting d 0)
 unfolding total counting ones
 only-ones zero e a b h l = ap (λ (x : ℕ). ones (bitAnd x (2 ^ (zero + e) - 1 - b))) (lt-one h) ∙ ap ones (and-zero-l (2 ^ (zero + e) - 1 - b))

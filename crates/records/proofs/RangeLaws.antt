@@ -1,8 +1,8 @@
 -- The checks of a request's fields, bit by bit.
-use Prim.Native.Nat.{ℕ, zero, suc, _<_}
-use mathlib.Core.Path.{_≡_, refl, _∙_, sym, ap}
+use Prim.Native.Nat.{ℕ, _<_}
+use mathlib.Core.Path.{_≡_, refl, _∙_, ap}
 use mathlib.Core.List.{List, [], _∷_}
-use mathlib.Core.Option.{Option, none, some}
+use mathlib.Core.Option.{Option, some}
 use mathlib.Core.Bool.{Bool, true, false, not, _&&_, and-false}
 use native.Mathlib.Omega.{arith}
 use lib.ListN.{getD}
@@ -28,6 +28,7 @@ unfolding lowest
 one-more true k o cs z e = refl
 one-more false k o cs z e = e
 
+-- the search for the lowest bit at fault goes along the bits of the wanted map
 found : (n : Counts) (q : Request) (ks : List ℕ) (cs : List Check)
     → checked (lowest ((find (faultyField n q) ks ⇒↑ OutOfRange) ∷ cs)) ≡ along (wantedMap (q .kind)) (inRange n q) ks (checked (lowest cs))
 unfolding find lowest faultyField
@@ -52,12 +53,13 @@ ranges-of n q m e h =
     ∙ ap (along (wantedMap (q .kind)) (inRange n q) bits) (same q)
     ∙ rw (kind, and-false (bit (wantedMap (q .kind)) 0)))
 
--- where no field is wanted, or the kind alone, nothing is out of range
+-- where no field is wanted, nothing is out of range
 pub ranges-none : (n : Counts) (q : Request) → wantedMap (q .kind) ≡ 0 → checked (lowest (rangeChecks n q)) ≡ Clear
 unfolding faultyBit sameAccounts bits counting bit
 ranges-none n q e =
     found n q bits ((sameAccounts q ⇒ SameAccount) ∷ []) ∙ ap (along (wantedMap (q .kind)) (inRange n q) bits) (same q) ∙ rw e
 
+-- nor where the kind alone is
 pub ranges-kind-alone : (n : Counts) (q : Request) → wantedMap (q .kind) ≡ 1 → checked (lowest (rangeChecks n q)) ≡ Clear
 unfolding counting bit
 ranges-kind-alone n q e = ranges-of n q 1 e (omega arith)

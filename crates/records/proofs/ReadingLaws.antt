@@ -1,31 +1,23 @@
 -- What a record reads as, one law for each way out of the reader.
 use Prim.Native.Nat.{ℕ, _^_, _≤_, _<_}
-use mathlib.Core.Path.{_≡_, refl, _∙_, sym, ap}
+use mathlib.Core.Path.{_≡_, refl}
 use mathlib.Core.List.{List}
-use mathlib.Core.Bool.{Bool, true, false, not, _&&_, _||_}
+use mathlib.Core.Bool.{Bool, true, false, not, _||_}
 use native.Mathlib.Omega.{arith}
 use lib.ListN.{length}
 use lib.Dec.{eqb, leb, ltb}
-use borrow.Author.Tests.{leb-true, leb-false, ltb-false, not-false, eq-eqb, ne-eqb}
+use borrow.Author.Tests.{leb-false, ltb-false, not-false, eq-eqb, ne-eqb}
 use Rattle.wire.specs.Numbers.{numberAt}
-use Rattle.rules.specs.declared.Reading.{Reading}
 use Rattle.rules.specs.declared.Reading.the-variants.{Read, Unread}
 use Rattle.rules.specs.declared.Refusal.the-variants.{Unreadable, UnknownKind, WrongMap, WrongLength}
 use Rattle.rules.specs.Basics.{total, counting, bit}
 use Rattle.rules.specs.Verdicts.{lowest}
 use Rattle.rules.specs.Requests.{isKind, wantedMap, wantedLength, mapOf, offset, fieldIn, requestOf, more, unreadable, readChecks, reading}
-use Rattle.records.proofs.KindLaws.{wanted-whole}
+use Rattle.records.proofs.KindLaws.{kind-bounds, wanted-whole}
 
 neither : (a b : Bool) → (a || b) ≡ false → (a ≡ false) × (b ≡ false)
 neither true b h = (h, cc)
 neither false b h = (refl, h)
-
-both : (a b : Bool) → (a && b) ≡ true → (a ≡ true) × (b ≡ true)
-both true b h = (refl, h)
-both false b h = (h, cc)
-
-pub kind-bounds : (k : ℕ) → isKind k ≡ true → (1 ≤ k) × (k ≤ 10)
-kind-bounds k h = let t = both (leb 1 k) (leb k 10) h in (leb-true 1 k (t .0), leb-true k 10 (t .1))
 
 -- a readable record has three bytes, and its map bit 0 and none above 12
 pub readable : (s : List ℕ) → unreadable s ≡ false → (3 ≤ length s) × (bit (mapOf s) 0 ≡ true) × (mapOf s < 2 ^ 13)

@@ -1,8 +1,8 @@
 -- A record put into a buffer, field by field: what is put and what is still to be put are together the whole.
 use Prim.Native.Nat.{ℕ, zero, suc, _+_, _/_, _%_, _≤_, _<_}
-use mathlib.Core.Path.{_≡_, refl, _∙_, sym, ap, ap₂}
+use mathlib.Core.Path.{_≡_, _∙_, sym, ap}
 use mathlib.Core.List.{List, [], _∷_, _++_, append-assoc}
-use mathlib.Core.Bool.{Bool, true, false}
+use mathlib.Core.Bool.{true, false}
 use native.Mathlib.Nat.{add-zero, zero-add}
 use native.Mathlib.Numerals.{add-one}
 use native.Mathlib.Omega.{arith}
@@ -14,10 +14,9 @@ use Rattle.wire.specs.Regions.{splice}
 use Rattle.wire.proofs.NumberLaws.{length-le}
 use Rattle.wire.proofs.RegionLaws.{splice-take-drop, splice-right}
 use Rattle.rules.specs.declared.Request.{Request}
-use Rattle.rules.specs.declared.Outcome.{Outcome}
 use Rattle.rules.specs.declared.Refusal.the-variants.{UnknownKind, BufferShort}
 use Rattle.rules.specs.Verdicts.{lowest, accepted, refused}
-use Rattle.rules.specs.Requests.{isKind, wantedLength, wantedMap, room, fieldOf, fieldBytes, fieldCount, writeOutcome, write, written}
+use Rattle.rules.specs.Requests.{isKind, wantedLength, wantedMap, room, fieldOf, fieldBytes, writeOutcome, write, written}
 
 -- ---- regions put one after the other
 
@@ -70,6 +69,7 @@ fields-next m q s at k n j w v e f g h =
     let t = splice-append s at (le w v) (fieldBytes m q (k + 1) j) h in
     rw (e, add-one j, ← f, ← g, ← add-one k) (ap (λ (i : ℕ). splice (splice s at (le w v)) (at + i) (fieldBytes m q (k + 1) j)) (sym l) ∙ t)
 
+-- the map and the fields behind it are the record
 pub record-put : (q : Request) (s : List ℕ) (m : ℕ) → m ≡ wantedMap (q .kind) → splice (splice s 0 (le 2 m)) 2 (fieldBytes m q 0 13) ≡ splice s 0 (write q)
 unfolding write
 record-put q s m e =

@@ -1,11 +1,13 @@
 // The record reader: what bytes say, or why they say nothing.
 ghost use mathlib.Core.Path.{_≡_};
 ghost use mathlib.Core.Bool.{true, false};
-ghost use Prim.Native.Nat.{_+_, _≤_, _<_, _^_};
+ghost use Prim.Native.Nat.{_+_, _≤_};
 ghost use mathlib.Core.List.{map};
 ghost use lib.ListN.{length};
 ghost use Rattle.wire.specs.Numbers.{numberAt};
-ghost use Rattle.rules.specs.Requests.{mapOf, offset, bits, fieldIn, requestOf, isKind, unreadable, reading};
+ghost use Rattle.rules.specs.Requests.{fieldCount, mapOf, offset, bits, fieldIn, requestOf, isKind, unreadable, reading};
+use crate::tables::FIELDS;
+use crate::tables::PAST_FIELDS;
 use crate::tables::fields_more;
 use crate::tables::is_kind;
 use crate::tables::room_of;
@@ -36,15 +38,15 @@ fn number_at(s: &[u8], at: usize, width: usize) -> u64
 }
 
 // The fields of a record by bit, one after the other. A field that does not stand is 0.
-fn fields(bytes: &[u8]) -> [u64; 13]
-    requires { ⌜ offset (mapOf (now bytes)) 13 ≤ length (now bytes) ⌝ }
+fn fields(bytes: &[u8]) -> [u64; FIELDS]
+    requires { ⌜ offset (mapOf (now bytes)) fieldCount ≤ length (now bytes) ⌝ }
     ensures { λ r. ⌜ r ≡ map (fieldIn (now (bytes .entry))) bits ⌝ }
 {
     let given = get_u16(bytes, 0);
-    let mut found = [0; 13];
+    let mut found = [0; FIELDS];
     let mut at = 2;
     let mut k = 0;
-    while k < 13 {
+    while k < FIELDS {
         let room = room_of(given, k);
         found[k] = number_at(bytes, at, room);
         at = at + room;
@@ -55,7 +57,7 @@ fn fields(bytes: &[u8]) -> [u64; 13]
 
 // The request that a record of the right length says.
 fn request(bytes: &[u8]) -> Request
-    requires { ⌜ offset (mapOf (now bytes)) 13 ≤ length (now bytes) ⌝ }
+    requires { ⌜ offset (mapOf (now bytes)) fieldCount ≤ length (now bytes) ⌝ }
     ensures { λ r. ⌜ r ≡ requestOf (now (bytes .entry)) ⌝ }
 {
     let f = fields(bytes);
@@ -84,7 +86,7 @@ fn no_map(bytes: &[u8]) -> bool
         return true;
     }
     let given = get_u16(bytes, 0);
-    !stands(given, 0) | (8192 <= given)
+    !stands(given, 0) | (PAST_FIELDS <= given)
 }
 
 // What a record of this kind reads as.

@@ -2,7 +2,7 @@
 ghost use mathlib.Core.Path.{_≡_};
 ghost use Prim.Native.Nat.{_≤_, _<_, _^_};
 ghost use Rattle.rules.specs.Basics.{bit};
-ghost use Rattle.rules.specs.Requests.{isKind, wantedMap, wantedLength, widthOf, room, more};
+ghost use Rattle.rules.specs.Requests.{isKind, wantedMap, wantedLength, fieldCount, widthOf, room, more};
 
 // The map and the length of a record, by kind. No kind is 0.
 const MAPS: [u16; 11] = [
@@ -21,8 +21,14 @@ const MAPS: [u16; 11] = [
 
 const LENGTHS: [usize; 11] = [0, 20, 20, 6, 12, 3, 3, 3, 3, 14, 3];
 
+// Bits 0 to 12 have fields.
+pub const FIELDS: usize = 13;
+
+// The least map with a bit past them.
+pub const PAST_FIELDS: u16 = 0x2000;
+
 // The bytes of a field, by bit.
-const WIDTHS: [usize; 13] = [1, 1, 1, 8, 1, 1, 1, 4, 2, 1, 8, 1, 4];
+const WIDTHS: [usize; FIELDS] = [1, 1, 1, 8, 1, 1, 1, 4, 2, 1, 8, 1, 4];
 
 // Whether a number is one of the ten kinds.
 pub fn is_kind(number: u8) -> bool
@@ -51,7 +57,7 @@ pub fn wanted_length(kind: u8) -> usize
 
 // The bytes of the field of a bit.
 pub fn width(k: usize) -> usize
-    requires { ⌜ k < 13 ⌝ }
+    requires { ⌜ k < fieldCount ⌝ }
     ensures { λ r. ⌜ r ≡ widthOf k ⌝ }
 {
     WIDTHS[k]
@@ -67,7 +73,7 @@ pub fn stands(map: u16, k: usize) -> bool
 
 // The bytes that a field takes of a record with this map: none where its bit is clear.
 pub fn room_of(map: u16, k: usize) -> usize
-    requires { ⌜ k < 13 ⌝ }
+    requires { ⌜ k < fieldCount ⌝ }
     ensures { λ r. ⌜ r ≡ room map k ⌝ }
 {
     if stands(map, k) { width(k) } else { 0 }
@@ -75,7 +81,7 @@ pub fn room_of(map: u16, k: usize) -> usize
 
 // How many fields stand in one map and not in the other.
 pub fn fields_more(one: u16, other: u16) -> u8
-    requires { ⌜ one < 2 ^ 13 ⌝ }
+    requires { ⌜ one < 2 ^ fieldCount ⌝ }
     ensures { λ r. ⌜ r ≡ more one other ⌝ }
 {
     u16::count_ones(one & !other) as u8

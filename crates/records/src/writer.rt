@@ -5,7 +5,8 @@ ghost use Prim.Native.Nat.{_+_, _≤_, _<_};
 ghost use lib.ListN.{length};
 ghost use Rattle.wire.specs.Numbers.{le};
 ghost use Rattle.wire.specs.Regions.{splice};
-ghost use Rattle.rules.specs.Requests.{isKind, wantedLength, offset, fieldsOf, fieldOf, fieldBytes, write as bytesOf, writeOutcome, written};
+ghost use Rattle.rules.specs.Requests.{fieldCount, isKind, wantedLength, offset, fieldsOf, fieldOf, fieldBytes, write as bytesOf, writeOutcome, written};
+use crate::tables::FIELDS;
 use crate::tables::is_kind;
 use crate::tables::room_of;
 use crate::tables::wanted_length;
@@ -33,7 +34,7 @@ fn put_number(s: &mut [u8], at: usize, width: usize, v: u64)
 }
 
 // The fields of a request by bit.
-fn fields_of(q: Request) -> [u64; 13]
+fn fields_of(q: Request) -> [u64; FIELDS]
     ensures { λ r. ⌜ r ≡ fieldsOf q ⌝ }
 {
     [
@@ -55,7 +56,7 @@ fn fields_of(q: Request) -> [u64; 13]
 
 // The field of a bit.
 fn field_of(q: Request, k: usize) -> u64
-    requires { ⌜ k < 13 ⌝ }
+    requires { ⌜ k < fieldCount ⌝ }
     ensures { λ r. ⌜ r ≡ fieldOf q k ⌝ }
 {
     let fields = fields_of(q);
@@ -64,12 +65,12 @@ fn field_of(q: Request, k: usize) -> u64
 
 // Puts the fields of a request whose bit stands in the map, one after the other, behind the place of the map.
 fn put_fields(q: Request, map: u16, buffer: &mut [u8])
-    requires { ⌜ offset map 13 ≤ length (now buffer) ⌝ }
-    ensures { λ _. ⌜ now (buffer .exit) ≡ splice (now (buffer .entry)) 2 (fieldBytes map q 0 13) ⌝ }
+    requires { ⌜ offset map fieldCount ≤ length (now buffer) ⌝ }
+    ensures { λ _. ⌜ now (buffer .exit) ≡ splice (now (buffer .entry)) 2 (fieldBytes map q 0 fieldCount) ⌝ }
 {
     let mut at = 2;
     let mut k = 0;
-    while k < 13 {
+    while k < FIELDS {
         let room = room_of(map, k);
         let value = field_of(q, k);
         put_number(buffer, at, room, value);

@@ -1,5 +1,5 @@
 -- The kind says which map is wanted, and the map which fields are checked.
-use mathlib.Core.Path.{_∙_, sym, ap, refl}
+use mathlib.Core.Path.{sym, ap, refl}
 use native.Mathlib.Omega.{arith}
 use borrow.Author.Needs.{needs}
 use Rattle.rules.specs.Requests.{wantedMap}

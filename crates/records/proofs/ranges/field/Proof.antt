@@ -1,5 +1,4 @@
 -- The field's own check comes before the rest.
-use borrow.Author.Needs.{needs}
 use Rattle.records.proofs.ranges.field.Statement.{statement}
 use Rattle.records.proofs.ranges.field.Tie as tie
 

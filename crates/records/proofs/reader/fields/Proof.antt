@@ -1,5 +1,5 @@
 -- The fields below `k` have been read and `at` is where the next begins; filling in the rest gives them all.
-use Prim.Native.Nat.{ℕ, _+_, _-_, _≤_, _<_}
+use Prim.Native.Nat.{ℕ, _+_, _-_, _≤_}
 use mathlib.Core.Path.{_≡_, refl, _∙_, sym, ap}
 use mathlib.Core.List.{List, map}
 use native.Mathlib.Omega.{arith}

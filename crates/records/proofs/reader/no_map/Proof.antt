@@ -1,5 +1,4 @@
 -- The three tests of the map, in their order.
-use mathlib.Core.Path.{_∙_, sym}
 use lib.ListN.{length}
 use borrow.Author.Tests.{lt-ltb, le-ltb}
 use Rattle.rules.specs.Requests.{mapOf, unreadable}

@@ -1,6 +1,5 @@
 -- Refusals 2 and 3 come first; the rest is read by its kind.
 use mathlib.Core.Path.{_∙_, sym}
-use native.Mathlib.Omega.{arith}
 use borrow.Author.Tests.{not-true, not-false}
 use Rattle.records.proofs.ReadingLaws.{readable, kind-third, reads-nothing, reads-no-kind}
 use borrow.Author.Needs.{needs}

@@ -3,7 +3,8 @@ use mathlib.Core.Path.{_∙_, sym}
 use native.Mathlib.Omega.{arith}
 use Rattle.rules.specs.Requests.{maps, mapOf}
 use Rattle.records.proofs.FieldLaws.{below-largest}
-use Rattle.records.proofs.ReadingLaws.{kind-bounds, readable, reads-other-map, reads-other-length, reads-request, holds-fields}
+use Rattle.records.proofs.KindLaws.{kind-bounds}
+use Rattle.records.proofs.ReadingLaws.{readable, reads-other-map, reads-other-length, reads-request, holds-fields}
 use Rattle.records.proofs.reader.read_as.Statement.{statement}
 use Rattle.records.proofs.reader.read_as.Tie as tie
 

@@ -1,5 +1,5 @@
 -- Putting the fields from `k` on at `at`, where they begin, gives the whole.
-use Prim.Native.Nat.{ℕ, _+_, _-_, _≤_}
+use Prim.Native.Nat.{_+_, _-_, _≤_}
 use mathlib.Core.Path.{_≡_, refl, _∙_, sym}
 use lib.ListN.{length}
 use native.Mathlib.Omega.{arith}

@@ -1,9 +1,7 @@
 -- The map, and behind it the fields.
-use mathlib.Core.Path.{_∙_}
 use native.Mathlib.Omega.{arith}
 use Rattle.rules.specs.Requests.{offset}
-use Rattle.records.proofs.KindLaws.{wanted-whole}
-use Rattle.records.proofs.ReadingLaws.{kind-bounds}
+use Rattle.records.proofs.KindLaws.{kind-bounds, wanted-whole}
 use Rattle.records.proofs.WritingLaws.{record-put}
 use borrow.Author.Needs.{needs}
 use Rattle.records.proofs.writer.put_record.Statement.{statement}
