@@ -1,0 +1,24 @@
+-- The checks stand in the order of the bits of the map.
+use native.Mathlib.Omega.{arith}
+use borrow.Author.Needs.{needs}
+use Rattle.rules.specs.Basics.{counting, bit}
+use Rattle.rules.specs.Requests.{inRange}
+use Rattle.records.proofs.RangeLaws.{ranges-of}
+use Rattle.records.proofs.ranges.guarantee_fields.Statement.{statement}
+use Rattle.records.proofs.ranges.guarantee_fields.Tie as tie
+
+field-requires : tie.Need-field-requires
+field-requires c κs = search needs
+
+field-requires-2 : tie.Need-field-requires-2
+field-requires-2 c κs = search needs
+
+returns : tie.Need-returns
+unfolding counting bit inRange
+returns c =
+    let at-field = c .before .before .before .before in
+    let s = at-field .before .before in
+    simp (ranges-of (s .args .n) (s .args .q) 0x0601 (s .pre) (omega arith), c .field2 .ensures, at-field .field .ensures)
+
+pub guarantee-fields-spec : {M : Type 1} → statement M
+guarantee-fields-spec = tie.close (tie.spec field-requires field-requires-2 returns)

@@ -1,0 +1,54 @@
+-- The checks stand in the order of the bits of the map.
+use native.Mathlib.Omega.{arith}
+use borrow.Author.Needs.{needs}
+use Rattle.rules.specs.Basics.{counting, bit}
+use Rattle.rules.specs.Requests.{inRange}
+use Rattle.records.proofs.RangeLaws.{ranges-of}
+use Rattle.records.proofs.ranges.trade_fields.Statement.{statement}
+use Rattle.records.proofs.ranges.trade_fields.Tie as tie
+
+accounts-differ-requires : tie.Need-accounts-differ-requires
+accounts-differ-requires c κs = search needs
+
+field-requires : tie.Need-field-requires
+field-requires c κs = search needs
+
+field-requires-2 : tie.Need-field-requires-2
+field-requires-2 c κs = search needs
+
+field-requires-3 : tie.Need-field-requires-3
+field-requires-3 c κs = search needs
+
+field-requires-4 : tie.Need-field-requires-4
+field-requires-4 c κs = search needs
+
+field-requires-5 : tie.Need-field-requires-5
+field-requires-5 c κs = search needs
+
+field-requires-6 : tie.Need-field-requires-6
+field-requires-6 c κs = search needs
+
+returns : tie.Need-returns
+unfolding counting bit inRange
+returns c =
+    let at-field5 = c .before .before .before .before in
+    let at-field4 = at-field5 .before .before .before .before in
+    let at-field3 = at-field4 .before .before .before in
+    let at-field2 = at-field3 .before .before .before .before in
+    let at-field = at-field2 .before .before .before .before in
+    let at-accounts-differ = at-field .before .before .before in
+    let s = at-accounts-differ .before .before in
+    simp (ranges-of (s .args .n) (s .args .q) 0x00FF (s .pre) (omega arith), c .field6 .ensures, at-field5 .field5 .ensures, at-field4 .field4 .ensures, at-field3 .field3 .ensures, at-field2 .field2 .ensures, at-field .field .ensures, at-accounts-differ .accounts-differ .ensures)
+
+pub trade-fields-spec : {M : Type 1} → statement M
+trade-fields-spec =
+    tie.close
+    (tie.spec
+    accounts-differ-requires
+    field-requires
+    field-requires-2
+    field-requires-3
+    field-requires-4
+    field-requires-5
+    field-requires-6
+    returns)

@@ -1,0 +1,78 @@
+-- What has been read is the number from `p` on; each turn puts one byte more in front.
+use Prim.Native.Nat.{_+_, _-_, _^_, _≤_, _<_}
+use mathlib.Core.Path.{_≡_, _∙_, sym}
+use native.Mathlib.Omega.{arith}
+use borrow.Author.Needs.{needs}
+use Rattle.wire.specs.Numbers.{numberAt}
+use Rattle.wire.proofs.NumberLaws.{bytes-known, number-at-zero}
+use Rattle.records.proofs.FieldLaws.{number-at-more, number-at-below}
+use Rattle.records.proofs.reader.number_at.Statement.{statement}
+use Rattle.records.proofs.reader.number_at.Tie as tie
+
+abbrev Inv-loop : tie.InvT-loop
+Inv-loop s at width v₀ p₀ v p = (at ≤ p) × (p ≤ at + width) × (v ≡ numberAt s p (at + width - p))
+
+abbrev μ-loop : tie.MeasureT-loop
+μ-loop s at width v₀ p₀ v p = p - at
+
+add-p : tie.Need-add-p Inv-loop μ-loop
+add-p c = search needs
+
+loop-holds : tie.Need-loop-holds Inv-loop μ-loop
+loop-holds c = let e : c .args .at + c .args .width - (c .args .at + c .args .width) ≡ 0 = omega arith in (search needs, search needs, rw e (sym (number-at-zero (c .args .s .now) (c .args .at + c .args .width))))
+
+sub-p : tie.Need-sub-p Inv-loop μ-loop
+sub-p c = search needs
+
+shared-slice-read-v : tie.Need-shared-slice-read-v Inv-loop μ-loop
+shared-slice-read-v c = search needs
+
+cast-v : tie.Need-cast-v Inv-loop μ-loop
+cast-v c = omega (arith, c .shared-slice-known .given (c .before .before .loop .p - 1))
+
+-- what has been read so far leaves a byte
+high : (c : tie.After-shared-slice-known Inv-loop μ-loop) → c .before .before .loop .v < 256 ^ 7
+high c =
+    let s = c .before .before .before .args in
+    let l = c .before .before .loop in
+    rw (l .inv .2) (number-at-below (bytes-known (s .s .now) (c .shared-slice-known .given)) (l .p) (s .at + s .width - l .p) 7 (omega arith))
+
+mul-v : tie.Need-mul-v Inv-loop μ-loop
+mul-v c = omega (arith, high c)
+
+add-v : tie.Need-add-v Inv-loop μ-loop
+add-v c = omega (arith, high c, c .shared-slice-known .given (c .before .before .loop .p - 1))
+
+loop-less : tie.Need-loop-less Inv-loop μ-loop
+loop-less c = search needs
+
+loop-again : tie.Need-loop-again Inv-loop μ-loop
+loop-again c =
+    let s = c .before .before .before .args in
+    let l = c .before .before .loop in
+    (search needs, search needs, number-at-more (s .s .now) (l .p) (l .p - 1) (s .at + s .width - l .p) (s .at + s .width - (l .p - 1)) (l .v) (omega arith) (omega arith) (l .inv .2))
+
+returns : tie.Need-returns Inv-loop μ-loop
+returns c =
+    let s = c .before .before .args in
+    let l = c .before .loop in
+    let p : l .p ≡ s .at = omega arith in
+    let w : s .at + s .width - l .p ≡ s .width = omega arith in
+    l .inv .2 ∙ rw (w, p)
+
+pub number-at-spec : {M : Type 1} → statement M
+number-at-spec =
+    tie.close
+    (tie.spec
+    Inv-loop
+    μ-loop
+    add-p
+    loop-holds
+    sub-p
+    shared-slice-read-v
+    cast-v
+    mul-v
+    add-v
+    loop-less
+    loop-again
+    returns)

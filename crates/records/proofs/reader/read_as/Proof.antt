@@ -1,0 +1,73 @@
+-- The map and the length are held against the tables; what passes both is a whole record.
+use mathlib.Core.Path.{_∙_, sym}
+use native.Mathlib.Omega.{arith}
+use Rattle.rules.specs.Requests.{maps, mapOf}
+use Rattle.records.proofs.FieldLaws.{below-largest}
+use Rattle.records.proofs.KindLaws.{kind-bounds}
+use Rattle.records.proofs.ReadingLaws.{readable, reads-other-map, reads-other-length, reads-request, holds-fields}
+use Rattle.records.proofs.reader.read_as.Statement.{statement}
+use Rattle.records.proofs.reader.read_as.Tie as tie
+
+get-u16-requires : tie.Need-get-u16-requires
+get-u16-requires c κs = omega (arith, readable (c .before .args .bytes .now) (c .before .pre .0) .0)
+
+wanted-map-requires : tie.Need-wanted-map-requires
+wanted-map-requires c κs = kind-bounds (c .before .before .args .kind) (c .before .before .pre .2) .1
+
+fields-more-requires : tie.Need-fields-more-requires
+fields-more-requires c κs = omega (arith, c .before .wanted-map .ensures, below-largest maps (c .before .before .before .before .args .kind))
+
+fields-more-requires-2 : tie.Need-fields-more-requires-2
+unfolding mapOf
+fields-more-requires-2 c κs =
+    let s = c .before .before .before .before .before in
+    omega (arith, c .before .before .before .get-u16 .ensures, readable (s .args .bytes .now) (s .pre .0) .2)
+
+returns : tie.Need-returns
+unfolding mapOf
+returns c =
+    let s = c .before .before .before .before .before .before in
+    let given = c .before .before .before .before .get-u16 .ensures in
+    let wanted = c .before .before .before .wanted-map .ensures in
+    rw (c .before .fields-more .ensures, c .fields-more2 .ensures, wanted) (reads-other-map (s .args .bytes .now) (s .args .kind) (s .pre .0) (s .pre .1) (s .pre .2) (given) (λ e. c .before .before .if1 .taken (e ∙ sym wanted)))
+
+wanted-length-requires : tie.Need-wanted-length-requires
+wanted-length-requires c κs = let s = c .before .before .before .before in kind-bounds (s .args .kind) (s .pre .2) .1
+
+returns-2 : tie.Need-returns-2
+unfolding mapOf
+returns-2 c =
+    let s = c .before .before .before .before .before .before in
+    let given = c .before .before .before .before .get-u16 .ensures in
+    let wanted = c .before .before .before .wanted-map .ensures in
+    reads-other-length (s .args .bytes .now) (s .args .kind) (s .pre .0) (s .pre .1) (s .pre .2) (given) (c .before .before .if1 .left ∙ wanted) (λ e. c .if2 .taken (e ∙ sym (c .before .wanted-length .ensures)))
+
+request-requires : tie.Need-request-requires
+unfolding mapOf
+request-requires c κs =
+    let s = c .before .before .before .before .before .before in
+    let given = c .before .before .before .before .get-u16 .ensures in
+    let wanted = c .before .before .before .wanted-map .ensures in
+    holds-fields (s .args .bytes .now) (s .args .kind) (s .pre .0) (s .pre .1) (s .pre .2) (given) (c .before .before .if1 .left ∙ wanted) (c .if2 .left ∙ c .before .wanted-length .ensures)
+
+returns-3 : tie.Need-returns-3
+unfolding mapOf
+returns-3 c =
+    let s = c .before .before .before .before .before .before .before in
+    let given = c .before .before .before .before .before .get-u16 .ensures in
+    let wanted = c .before .before .before .before .wanted-map .ensures in
+    rw (c .request .ensures) (reads-request (s .args .bytes .now) (s .args .kind) (s .pre .0) (s .pre .1) (s .pre .2) (given) (c .before .before .before .if1 .left ∙ wanted) (c .before .if2 .left ∙ c .before .before .wanted-length .ensures))
+
+pub read-as-spec : {M : Type 1} → statement M
+read-as-spec =
+    tie.close
+    (tie.spec
+    get-u16-requires
+    wanted-map-requires
+    fields-more-requires
+    fields-more-requires-2
+    returns
+    wanted-length-requires
+    returns-2
+    request-requires
+    returns-3)

@@ -1,0 +1,5 @@
+// Records of requests: read, written, and their fields held against a book's counts.
+pub mod ranges;
+pub mod reader;
+pub mod tables;
+pub mod writer;

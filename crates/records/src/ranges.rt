@@ -1,0 +1,110 @@
+// The fields of a request held against a book's counts: which is out of range, and whether both accounts are the same.
+ghost use mathlib.Core.Path.{_≡_};
+ghost use mathlib.Core.Bool.{not};
+ghost use Rattle.rules.specs.Basics.{if_then_else_};
+ghost use Rattle.rules.specs.declared.Checked.the-variants.{Clear, Fails};
+ghost use Rattle.rules.specs.declared.Refusal.the-variants.{OutOfRange, SameAccount};
+ghost use Rattle.rules.specs.Verdicts.{lowest, checked};
+ghost use Rattle.rules.specs.Requests.{wantedMap, rangeChecks};
+use rules::Checked;
+use rules::Counts;
+use rules::Refusal;
+use rules::Request;
+
+const MOST_ENERGY: u32 = 10_000_000;
+
+const MOST_PRICE: u32 = 400_000;
+
+const MOST_GUARANTEE: u64 = 1_000_000_000_000;
+
+const MOST_ROWS: u16 = 256;
+
+// A field's check, and then those of higher bits.
+fn field(good: bool, bit: u8, rest: Checked) -> Checked
+    ensures { λ r. ⌜ r ≡ (if not good then Fails (OutOfRange bit) else rest) ⌝ }
+{
+    if good {
+        rest
+    } else {
+        Checked::Fails(Refusal::OutOfRange { bit })
+    }
+}
+
+// The check of both accounts.
+fn accounts_differ(same: bool) -> Checked
+    ensures { λ r. ⌜ r ≡ (if same then Fails SameAccount else Clear) ⌝ }
+{
+    if same {
+        Checked::Fails(Refusal::SameAccount)
+    } else {
+        Checked::Clear
+    }
+}
+
+// The fields of a trade: accounts, side, hours and quantity.
+fn trade_fields(q: Request, n: Counts) -> Checked
+    requires { ⌜ wantedMap (q .kind) ≡ 0x00FF ⌝ }
+    ensures { λ r. ⌜ r ≡ checked (lowest (rangeChecks n q)) ⌝ }
+{
+    let differ = accounts_differ(q.account == q.other);
+    let quantity = field(
+        (1 <= q.quantity.0) & (q.quantity.0 <= MOST_ENERGY),
+        7,
+        differ,
+    );
+    let last = field((q.first <= q.last) & (q.last <= n.hours), 6, quantity);
+    let first = field((1 <= q.first) & (q.first <= n.hours), 5, last);
+    let side = field((1 <= q.side) & (q.side <= 2), 4, first);
+    let other = field((1 <= q.other) & (q.other <= n.accounts), 2, side);
+    field((1 <= q.account) & (q.account <= n.accounts), 1, other)
+}
+
+// The fields of a withdrawal: account and number.
+fn withdrawal_fields(q: Request, n: Counts) -> Checked
+    requires { ⌜ wantedMap (q .kind) ≡ 0x0103 ⌝ }
+    ensures { λ r. ⌜ r ≡ checked (lowest (rangeChecks n q)) ⌝ }
+{
+    let number = field((1 <= q.number) & (q.number <= MOST_ROWS), 8, Checked::Clear);
+    field((1 <= q.account) & (q.account <= n.accounts), 1, number)
+}
+
+// The fields of a guarantee: operator and amount.
+fn guarantee_fields(q: Request, n: Counts) -> Checked
+    requires { ⌜ wantedMap (q .kind) ≡ 0x0601 ⌝ }
+    ensures { λ r. ⌜ r ≡ checked (lowest (rangeChecks n q)) ⌝ }
+{
+    let amount = field(q.guarantee.0 <= MOST_GUARANTEE, 10, Checked::Clear);
+    field((1 <= q.operator) & (q.operator <= n.operators), 9, amount)
+}
+
+// The fields of a schedule: side, hour, quantity, point and price.
+fn schedule_fields(q: Request, n: Counts) -> Checked
+    requires { ⌜ wantedMap (q .kind) ≡ 0x18B1 ⌝ }
+    ensures { λ r. ⌜ r ≡ checked (lowest (rangeChecks n q)) ⌝ }
+{
+    let price = field(q.price.0 <= MOST_PRICE, 12, Checked::Clear);
+    let point = field((1 <= q.point) & (q.point <= n.points), 11, price);
+    let quantity = field(
+        (1 <= q.quantity.0) & (q.quantity.0 <= MOST_ENERGY),
+        7,
+        point,
+    );
+    let first = field((1 <= q.first) & (q.first <= n.hours), 5, quantity);
+    field((1 <= q.side) & (q.side <= 2), 4, first)
+}
+
+// The lowest field out of range of a book with these counts, else both accounts the same.
+pub fn check_ranges(request: Request, counts: Counts) -> Checked
+    ensures { λ r. ⌜ r ≡ checked (lowest (rangeChecks counts request)) ⌝ }
+{
+    let kind = request.kind;
+    match kind {
+        1 | 2 => trade_fields(request, counts),
+        3 => withdrawal_fields(request, counts),
+        4 => guarantee_fields(request, counts),
+        5..=8 => Checked::Clear,
+        9 => schedule_fields(request, counts),
+        10 => Checked::Clear,
+        _ => Checked::Clear,
+    }
+}

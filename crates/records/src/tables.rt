@@ -1,0 +1,88 @@
+// The tables of the ten kinds and of the thirteen fields, and what they say of a map.
+ghost use mathlib.Core.Path.{_≡_};
+ghost use Prim.Native.Nat.{_≤_, _<_, _^_};
+ghost use Rattle.rules.specs.Basics.{bit};
+ghost use Rattle.rules.specs.Requests.{isKind, wantedMap, wantedLength, fieldCount, widthOf, room, more};
+
+// The map and the length of a record, by kind. No kind is 0.
+const MAPS: [u16; 11] = [
+    0,
+    0x00FF,
+    0x00FF,
+    0x0103,
+    0x0601,
+    0x0001,
+    0x0001,
+    0x0001,
+    0x0001,
+    0x18B1,
+    0x0001,
+];
+
+const LENGTHS: [usize; 11] = [0, 20, 20, 6, 12, 3, 3, 3, 3, 14, 3];
+
+// Bits 0 to 12 have fields.
+pub const FIELDS: usize = 13;
+
+// The least map with a bit past them.
+pub const PAST_FIELDS: u16 = 0x2000;
+
+// The bytes of a field, by bit.
+const WIDTHS: [usize; FIELDS] = [1, 1, 1, 8, 1, 1, 1, 4, 2, 1, 8, 1, 4];
+
+// Whether a number is one of the ten kinds.
+pub fn is_kind(number: u8) -> bool
+    ensures { λ r. ⌜ r ≡ isKind number ⌝ }
+{
+    (1 <= number) & (number <= 10)
+}
+
+// The map of a kind's records.
+pub fn wanted_map(kind: u8) -> u16
+    requires { ⌜ kind ≤ 10 ⌝ }
+    ensures { λ r. ⌜ r ≡ wantedMap kind ⌝ }
+{
+    let k = kind as usize;
+    MAPS[k]
+}
+
+// The length of a kind's records.
+pub fn wanted_length(kind: u8) -> usize
+    requires { ⌜ kind ≤ 10 ⌝ }
+    ensures { λ r. ⌜ r ≡ wantedLength kind ⌝ }
+{
+    let k = kind as usize;
+    LENGTHS[k]
+}
+
+// The bytes of the field of a bit.
+pub fn width(k: usize) -> usize
+    requires { ⌜ k < fieldCount ⌝ }
+    ensures { λ r. ⌜ r ≡ widthOf k ⌝ }
+{
+    WIDTHS[k]
+}
+
+// Whether a bit of a map stands.
+pub fn stands(map: u16, k: usize) -> bool
+    requires { ⌜ k < 16 ⌝ }
+    ensures { λ r. ⌜ r ≡ bit map k ⌝ }
+{
+    (map >> k) % 2 == 1
+}
+
+// The bytes that a field takes of a record with this map: none where its bit is clear.
+pub fn room_of(map: u16, k: usize) -> usize
+    requires { ⌜ k < fieldCount ⌝ }
+    ensures { λ r. ⌜ r ≡ room map k ⌝ }
+{
+    if stands(map, k) { width(k) } else { 0 }
+}
+
+// How many fields stand in one map and not in the other.
+pub fn fields_more(one: u16, other: u16) -> u8
+    requires { ⌜ one < 2 ^ fieldCount ⌝ }
+    ensures { λ r. ⌜ r ≡ more one other ⌝ }
+{
+    u16::count_ones(one & !other) as u8
+}
