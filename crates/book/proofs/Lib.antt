@@ -1,3 +1,5 @@
 -- Laws of the bytes of a book.
 -- Soundness: what a valid book's tests say, each by its name.
 pub mod Soundness
+-- Sizes: what fits its room, and how long each section of an image then is.
+pub mod Sizes
