@@ -3,3 +3,5 @@
 pub mod Soundness
 -- Sizes: what fits its room, and how long each section of an image then is.
 pub mod Sizes
+-- Nets: net positions in bytes, and the loop over those of one account.
+pub mod Nets
