@@ -5,3 +5,5 @@ pub mod Soundness
 pub mod Sizes
 -- Nets: net positions in bytes, and the loop over those of one account.
 pub mod Nets
+-- Writes: what is written in a part.
+pub mod Writes
