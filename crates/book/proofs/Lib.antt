@@ -7,3 +7,5 @@ pub mod Sizes
 pub mod Nets
 -- Writes: what is written in a part.
 pub mod Writes
+-- BookWrites: what an accepted call of each kind writes in a book.
+pub mod BookWrites
