@@ -9,3 +9,5 @@ pub mod Nets
 pub mod Writes
 -- BookWrites: what an accepted call of each kind writes in a book.
 pub mod BookWrites
+-- ImageReads: what stands at a place of a book.
+pub mod ImageReads
