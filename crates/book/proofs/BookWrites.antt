@@ -1,12 +1,12 @@
 -- What an accepted call writes: bytes of the image replaced, copied or looped over are the image of the next book. Each write lies in
 -- one section, and the others stand.
-use Prim.Native.Nat.{ℕ, zero, suc, _+_, _-_, _*_, _^_, _≤_, _<_}
-use mathlib.Core.Path.{_≡_, refl, sym, ap, _∙_}
+use Prim.Native.Nat.{ℕ, suc, _+_, _-_, _*_, _^_, _≤_, _<_}
+use mathlib.Core.Path.{_≡_, refl, ap, _∙_}
 use mathlib.Core.List.{List, [], _∷_, _++_}
-use mathlib.Core.Option.{Option, none, some}
+use mathlib.Core.Option.{some}
 use mathlib.Core.Bool.{true}
 use native.Mathlib.Omega.{arith}
-use lib.ListN.{length, set, take, drop, length-append, length-drop}
+use lib.ListN.{length, set, drop, length-append, length-drop}
 use Rattle.wire.specs.Numbers.{le}
 use Rattle.wire.specs.Regions.{splice, pasted}
 use Rattle.wire.specs.Parts.{zeros, flat, slots, sweep}
@@ -20,13 +20,13 @@ use Rattle.rules.specs.declared.Row.{Row}
 use Rattle.rules.specs.declared.Schedule.{Schedule}
 use Rattle.rules.specs.declared.Request.{Request}
 use Rattle.rules.specs.Basics.{nth, Each}
-use Rattle.rules.specs.Limits.{mostAccounts, mostRows, mostSchedules}
+use Rattle.rules.specs.Limits.{mostRows, mostSchedules}
 use Rattle.rules.specs.Books.{Part, Book, noRow}
 use Rattle.rules.specs.Requests.{register, confirm, withdraw, guarantee, openBatch, undo, keep, closeGate, schedule, settle}
 use Rattle.rules.specs.Registration.{pending, seller, buyer, closed, proposed}
 use Rattle.rules.specs.Calls.{withRows, withBatch, withPhase, confirmedNumber, restored, scheduled, next}
 use Rattle.rules.proofs.AccountHours.{pending-inside}
-use Rattle.book.specs.Layout.{rowWidth, scheduleWidth, accountWidth, partSize, usedSize, bookWidths, phaseAt, flagAt, scheduleCountAt, schedulesAt, presentAt, savedAt, guaranteesAt, rowCountAt, rowAt, netAt, statusIn}
+use Rattle.book.specs.Layout.{rowWidth, scheduleWidth, partSize, usedSize, bookWidths, phaseAt, flagAt, scheduleCountAt, schedulesAt, presentAt, savedAt, guaranteesAt, rowCountAt, rowAt, netAt, statusIn}
 use Rattle.book.specs.Image.{rowBytes, scheduleBytes, partBytes, savedBytes, sectionsWith, sections, image}
 use Rattle.book.specs.Changes.{raised, ended}
 use Rattle.book.proofs.Sizes.{RowFits, Fits, length-row, length-schedule, length-part, length-saved, wide-with, wide-book, length-image}

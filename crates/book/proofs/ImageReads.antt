@@ -1,26 +1,23 @@
 -- What stands at a place of an image: each place lies in one section, and there in one cell.
 use Prim.Native.Nat.{ℕ, zero, suc, _+_, _-_, _*_, _%_, _^_, _≤_, _<_}
-use mathlib.Core.Path.{_≡_, refl, sym, ap, _∙_}
+use mathlib.Core.Path.{_≡_, refl, ap, _∙_}
 use mathlib.Core.List.{List, [], _∷_, map}
 use mathlib.Core.Option.{Option, none, some}
-use native.Mathlib.Nat.{mul-le-mul-left}
 use native.Mathlib.Omega.{arith}
 use lib.ListN.{length, getD, take, drop, length-map}
 use lib.Seq.{take-all}
-use lib.IntN.{subℕ}
 use Rattle.wire.specs.Numbers.{number, numberAt, le, signed}
-use Rattle.wire.specs.Parts.{flat, startOf, Wide, Small, pack, padded}
+use Rattle.wire.specs.Parts.{startOf, Small, padded}
 use Rattle.wire.proofs.NumberLaws.{length-le, number-le, number-le-rest, signed-sub}
 use Rattle.wire.proofs.PartLaws.{read-part, read-whole, number-part}
 use Rattle.wire.proofs.PackLaws.{number-in-pack}
 use Rattle.wire.proofs.SlotLaws.{uniform-map, read-cell, slots-get}
-use Rattle.units.specs.declared.Cents.{Cents}
 use Rattle.units.specs.Units.{cents}
 use Rattle.rules.specs.declared.Row.{Row}
 use Rattle.rules.specs.declared.Schedule.{Schedule}
 use Rattle.rules.specs.Basics.{upTo}
 use Rattle.rules.specs.Limits.{mostOperators, mostAccounts, mostRows, mostSchedules}
-use Rattle.rules.specs.Books.{Part, Book, noRow, guaranteeAt}
+use Rattle.rules.specs.Books.{Part, Book, noRow}
 use Rattle.rules.specs.Registration.{bought, sold, netOf, figure}
 use Rattle.rules.proofs.Searches.{counting-length}
 use Rattle.book.specs.Layout.{setupRoom, rowWidths, rowWidth, scheduleWidths, scheduleWidth, accountWidth, partWidths, partSize, bookWidths, phaseAt, flagAt, scheduleCountAt, schedulesAt, presentAt, savedAt, guaranteesAt, rowCountAt, rowAt, netAt}

@@ -11,3 +11,5 @@ pub mod Writes
 pub mod BookWrites
 -- ImageReads: what stands at a place of a book.
 pub mod ImageReads
+-- Loops: a loop over cells, step by step.
+pub mod Loops

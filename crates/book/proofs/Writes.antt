@@ -4,7 +4,6 @@ use Prim.Native.Nat.{ℕ, zero, suc, _+_, _-_, _*_, _^_, _≤_, _<_}
 use mathlib.Core.Path.{_≡_, refl, sym, ap, _∙_}
 use mathlib.Core.List.{List, [], _∷_, _++_, map}
 use mathlib.Core.Bool.{Bool, true, false}
-use native.Mathlib.Numerals.{add-one}
 use native.Mathlib.Omega.{arith}
 use lib.ListN.{length, getD, set, length-append, length-map, length-set}
 use lib.Dec.{eqb}
@@ -26,7 +25,7 @@ use Rattle.rules.specs.Limits.{mostOperators, mostAccounts, mostRows}
 use Rattle.rules.specs.Books.{Part, noRow}
 use Rattle.rules.specs.Registration.{pending, seller, buyer, withStatus, mark, closed, proposed}
 use Rattle.rules.proofs.AccountHours.{pending-inside, moved-register, moved-withdraw, moved-close}
-use Rattle.book.specs.Layout.{rowWidths, rowWidth, accountWidth, partWidths, partSize, rowCountAt, rowAt, netAt, statusIn}
+use Rattle.book.specs.Layout.{rowWidths, rowWidth, accountWidth, partWidths, rowCountAt, rowAt, netAt, statusIn}
 use Rattle.book.specs.Image.{rowValues, rowBytes, netsBytes, partSections, partBytes}
 use Rattle.book.specs.Changes.{raised, ended}
 use Rattle.book.proofs.Sizes.{RowFits, PartFits, length-row, length-guarantee, length-nets, wide-part}
