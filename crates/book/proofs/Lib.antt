@@ -11,3 +11,15 @@ pub mod KeepsParts
 pub mod KeepsKinds
 -- Keeps: every call leaves a valid book valid, its set-up as it was, and all but three kinds what is saved.
 pub mod Keeps
+-- Sizes: what fits its room, and how long each section of an image then is.
+pub mod Sizes
+-- Nets: net positions in bytes, and the loop over those of one account.
+pub mod Nets
+-- Writes: what is written in a part.
+pub mod Writes
+-- BookWrites: what an accepted call of each kind writes in a book.
+pub mod BookWrites
+-- ImageReads: what stands at a place of a book.
+pub mod ImageReads
+-- Loops: a loop over cells, step by step.
+pub mod Loops

@@ -7,3 +7,5 @@ pub mod Image
 pub mod Valid
 -- Sums: the sums of all account hours in one table.
 pub mod Sums
+-- Changes: what a loop over cells of a book puts to each.
+pub mod Changes
