@@ -9,3 +9,5 @@ pub mod Valid
 pub mod Sums
 -- Changes: what a loop over cells of a book puts to each.
 pub mod Changes
+-- Doors: what opening and the two readings answer, on any bytes.
+pub mod Doors

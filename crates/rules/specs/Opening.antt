@@ -198,9 +198,12 @@ setupChecks s = (misshapen s ⇒ SetupShape) ∷ (faultyOffset (setupOf s) (oper
 unfoldable pub setupRefusal : List ℕ → Option Refusal
 setupRefusal s = lowest (setupChecks s)
 
--- opening looks at the length of the book's bytes only
+-- what opening is refused for, if anything; of the book's bytes it looks at the length only
+unfoldable pub openRefusal : List ℕ → List ℕ → Option Refusal
+openRefusal s book = lowest ((not (eqb (length book) bookSize) ⇒ NotABook) ∷ setupChecks s)
+
 unfoldable pub openOutcome : List ℕ → List ℕ → Outcome
-openOutcome s book = outcomeOf (lowest ((not (eqb (length book) bookSize) ⇒ NotABook) ∷ setupChecks s)) 0
+openOutcome s book = outcomeOf (openRefusal s book) 0
 
 -- the fresh book
 unfoldable pub opened : List ℕ → Book
