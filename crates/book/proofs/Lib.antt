@@ -1,6 +1,8 @@
 -- Laws of the bytes of a book.
 -- Soundness: what a valid book's tests say, each by its name.
 pub mod Soundness
+-- Sizes: what fits its room, and how long each section of an image then is.
+pub mod Sizes
 -- SetupRanges: the values of a set-up are in range, entry by entry.
 pub mod SetupRanges
 -- StoredSetup: a set-up and its bytes, there and back.
