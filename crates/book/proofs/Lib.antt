@@ -7,3 +7,5 @@ pub mod Sizes
 pub mod SetupRanges
 -- StoredSetup: a set-up and its bytes, there and back.
 pub mod StoredSetup
+-- SetupAgain: what was read from set-up bytes says them again, and opening accepts them where it is sound.
+pub mod SetupAgain

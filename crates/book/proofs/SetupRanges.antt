@@ -173,13 +173,6 @@ in-range-values u os s =
 
 -- ---- operators with other guarantees
 
-pub length-operators : (gs : List Cents) (ms : List ℕ) → length gs ≡ length ms → length (operatorsOf gs ms) ≡ length ms
-unfolding operatorsOf
-length-operators [] [] h = refl
-length-operators [] (m ∷ ms) h = absurd (omega arith)
-length-operators (g ∷ gs) [] h = refl
-length-operators (g ∷ gs) (m ∷ ms) h = ap suc (length-operators gs ms (omega arith))
-
 pub operators-again : (os : List Operator) → operatorsOf (map (λ x. x .guarantee) os) (map (λ x. x .maintenance) os) ≡ os
 unfolding operatorsOf
 operators-again [] = refl

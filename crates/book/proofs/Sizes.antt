@@ -133,7 +133,7 @@ length-image top size b f h = length-flat (bookWidths top size) (sections top si
 
 -- ---- the stored set-up
 
-length-joined : {A : Type 0} (w : ℕ) (bytes : A → List ℕ) (xs : List A) → ((x : A) → length (bytes x) ≡ w)
+pub length-joined : {A : Type 0} (w : ℕ) (bytes : A → List ℕ) (xs : List A) → ((x : A) → length (bytes x) ≡ w)
     → length (joined bytes xs) ≡ w * length xs
 unfolding joined
 length-joined w bytes [] h = omega arith

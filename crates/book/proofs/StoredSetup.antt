@@ -28,7 +28,8 @@ use Rattle.rules.proofs.SetupEntries.{length-entries, entries-joined, joined-en
 use Rattle.book.specs.Layout.{setupRoom}
 use Rattle.book.specs.Image.{storedSetup}
 use Rattle.book.proofs.Soundness.{SoundSetup}
-use Rattle.book.proofs.SetupRanges.{SoundOperator, SoundAccount, SoundPoint, InRange, values-in-range, length-operators, operators-again, maintenance-of, guarantees-of}
+use Rattle.book.proofs.Sizes.{length-joined, length-operators}
+use Rattle.book.proofs.SetupRanges.{SoundOperator, SoundAccount, SoundPoint, InRange, values-in-range, operators-again, maintenance-of, guarantees-of}
 
 -- ---- an entry
 
@@ -50,7 +51,7 @@ price-back : (x : CentsPerMwh) → x .0 ≤ mostPrice → priceIn (le 4 (x .0)) 
 unfolding priceIn
 price-back x h = rw (number-le 4 (x .0) (omega arith))
 
-price-again : (c : List ℕ) → Bytes c → length c ≡ 4 → le 4 (priceIn c .0) ≡ c
+pub price-again : (c : List ℕ) → Bytes c → length c ≡ 4 → le 4 (priceIn c .0) ≡ c
 unfolding priceIn
 price-again c b l = le-number-wide b 4 l
 
@@ -62,7 +63,7 @@ operator-back x h =
     let fit : Small ws vs = (omega (arith, h .0), (omega (arith, h .1), tt)) in
     rw (number-in-pack ws vs 0 fit, number-in-pack ws vs 1 fit)
 
-operator-again : (c : List ℕ) → Bytes c → length c ≡ 10 → operatorBytes (operatorIn c) ≡ c
+pub operator-again : (c : List ℕ) → Bytes c → length c ≡ 10 → operatorBytes (operatorIn c) ≡ c
 unfolding operatorIn
 operator-again c b l = pack-numbers (8 ∷ 2 ∷ []) b l
 
@@ -74,7 +75,7 @@ account-back n m x s =
     let fit : Small ws vs = (omega arith, (omega arith, (omega arith, (omega arith, tt)))) in
     rw (number-in-pack ws vs 0 fit, number-in-pack ws vs 1 fit, number-in-pack ws vs 2 fit, number-in-pack ws vs 3 fit)
 
-account-again : (c : List ℕ) → Bytes c → length c ≡ 10 → accountBytes (accountIn c) ≡ c
+pub account-again : (c : List ℕ) → Bytes c → length c ≡ 10 → accountBytes (accountIn c) ≡ c
 unfolding accountIn
 account-again c b l = pack-numbers (1 ∷ 1 ∷ 4 ∷ 4 ∷ []) b l
 
@@ -93,7 +94,7 @@ point-back accounts zones m z x s =
     let fit : Small ws vs = (omega arith, (omega arith, (omega arith, (omega arith, (omega arith, tt))))) in
     rw (number-in-pack ws vs 0 fit, number-in-pack ws vs 1 fit, number-in-pack ws vs 2 fit, number-in-pack ws vs 3 fit, number-in-pack ws vs 4 fit)
 
-point-again : (c : List ℕ) → Bytes c → length c ≡ 11 → pointBytes (pointIn c) ≡ c
+pub point-again : (c : List ℕ) → Bytes c → length c ≡ 11 → pointBytes (pointIn c) ≡ c
 unfolding pointIn
 point-again c b l = pack-numbers (1 ∷ 1 ∷ 1 ∷ 4 ∷ 4 ∷ []) b l
 
@@ -107,11 +108,6 @@ length-point : (x : Point) → length (pointBytes x) ≡ 11
 length-point x = length-pack (1 ∷ 1 ∷ 1 ∷ 4 ∷ 4 ∷ []) _ refl
 
 -- ---- the bytes of a set-up
-
-pub length-joined : {A : Type 0} (w : ℕ) (bytes : A → List ℕ) → ((x : A) → length (bytes x) ≡ w) → (xs : List A) → length (joined bytes xs) ≡ w * length xs
-unfolding joined
-length-joined w bytes wide [] = omega arith
-length-joined w bytes wide (x ∷ xs) = length-append (bytes x) (joined bytes xs) ∙ omega (arith, wide x, length-joined w bytes wide xs)
 
 -- what stands from part k on
 drop-flat : (ws : List ℕ) (ss : List (List ℕ)) (k at : ℕ) → Wide ws ss → at ≡ startOf ws k → drop at (flat ss) ≡ flat (drop k ss)
@@ -148,25 +144,16 @@ module _ (u : Setup) (gs : List Cents) (rest : List ℕ) (estimates : length (u 
   wide-setup = (
     refl,
     (
-      length-joined 4 (λ p. le 4 (p .0)) (λ p. length-le 4 (p .0)) (u .estimates) ∙ omega arith,
+      length-joined 4 (λ p. le 4 (p .0)) (u .estimates) (λ p. length-le 4 (p .0)) ∙ omega arith,
       (
-        length-joined 10 operatorBytes length-operator (operatorsOf gs (u .maintenance)) ∙ omega (arith, length-operators gs (u .maintenance) all),
+        length-joined 10 operatorBytes (operatorsOf gs (u .maintenance)) length-operator ∙ omega (arith, length-operators gs (u .maintenance) all),
         (
-          length-joined 10 accountBytes length-account (u .accounts),
-          (length-joined 11 pointBytes length-point (u .points), (refl, tt)),
+          length-joined 10 accountBytes (u .accounts) length-account,
+          (length-joined 11 pointBytes (u .points) length-point, (refl, tt)),
         ),
       ),
     ),
   )
-
--- so many bytes
-pub length-setup : (u : Setup) (gs : List Cents) → length (u .estimates) ≡ u .hours → length gs ≡ operatorCount u
-    → length (setupBytes u gs) ≡ setupLength (countsOf u)
-unfolding setupWidths
-length-setup u gs h all =
-    let w = length-flat (setupWidths (countsOf u) 0) (setupParts u gs []) (wide-setup u gs [] h all) in
-    let e = ap length (sym (append-nil (setupBytes u gs)) ∙ setup-parts u gs []) in
-    omega arith
 
 -- what stands in the bytes of a set-up is read back, whatever follows
 module _ (u : Setup) (gs : List Cents) (rest : List ℕ) (sound : SoundSetup u) (all : length gs ≡ operatorCount u)
@@ -227,10 +214,6 @@ module _ (u : Setup) (gs : List Cents) (rest : List ℕ) (sound : SoundSetup u) 
 module _ (u : Setup) (sound : SoundSetup u) where
   zeros-all : length (replicate (operatorCount u) (cents 0)) ≡ operatorCount u
   zeros-all = length-replicate (operatorCount u) (cents 0)
-
-  pub length-stored : length (storedSetup u) ≡ setupLength (countsOf u)
-  unfolding storedSetup
-  length-stored = length-setup u (replicate (operatorCount u) (cents 0)) (sound .estimates-all) zeros-all
 
   pub setup-back : setupOf (padded setupRoom (storedSetup u)) ≡ u
   unfolding storedSetup padded
