@@ -9,3 +9,5 @@ pub mod SetupRanges
 pub mod StoredSetup
 -- SetupAgain: what was read from set-up bytes says them again, and opening accepts them where it is sound.
 pub mod SetupAgain
+-- Round: bytes are a book exactly when they are the image of a valid one.
+pub mod Round

@@ -123,8 +123,7 @@ module _ (s : List ℕ) (h : setupRefusal s ≡ none) where
   pub accepted-sound : setupOk (setupOf s) ≡ true
   unfolding setupOk setupOf estimatesIn
   accepted-sound =
-      holds-all (setupTests (setupOf s))
-      (
+      holds-all (setupTests (setupOf s)) (
         ap (λ (c : Counts). not (badCounts c)) (counts-of-setup s) ∙ rw accepted-counts,
         (eq-eqb _ _ (length-entries 4 priceIn (countsIn s .hours) (drop 5 s)), (rw (in-range-values (setupOf s) _ without), tt)),
       )
