@@ -11,3 +11,5 @@ pub mod StoredSetup
 pub mod SetupAgain
 -- Round: bytes are a book exactly when they are the image of a valid one.
 pub mod Round
+-- Nets: net positions in bytes, and the loop over those of one account.
+pub mod Nets

@@ -1,5 +1,5 @@
 -- What fits its room, asked as sizes and never as validity: each section of an image then has its width, whatever values stand in it.
-use Prim.Native.Nat.{ℕ, zero, suc, _+_, _-_, _*_, _≤_}
+use Prim.Native.Nat.{ℕ, zero, suc, _+_, _-_, _*_, _^_, _≤_}
 use mathlib.Core.Path.{_≡_, refl, ap, _∙_}
 use mathlib.Core.List.{List, [], _∷_, _++_, map}
 use mathlib.Core.Option.{Option, none, some}
@@ -22,15 +22,26 @@ use Rattle.rules.specs.declared.Account.{Account}
 use Rattle.rules.specs.declared.Point.{Point}
 use Rattle.rules.specs.Basics.{joined, upTo}
 use Rattle.rules.specs.Limits.{mostOperators, mostAccounts, mostRows, mostSchedules}
-use Rattle.rules.specs.Books.{Setup, Part, Book, countsOf, operatorCount}
+use Rattle.rules.specs.Books.{Setup, Part, Book, countsOf, operatorCount, accountCount}
 use Rattle.rules.specs.Opening.{operatorBytes, accountBytes, pointBytes, operatorsOf, setupBytes, setupLength}
 use Rattle.rules.specs.Registration.{netOf, figure}
 use Rattle.rules.proofs.Searches.{counting-length}
 use Rattle.book.specs.Layout.{setupRoom, rowWidths, rowWidth, scheduleWidths, scheduleWidth, accountWidth, partWidths, partSize, usedSize, bookWidths}
 use Rattle.book.specs.Image.{rowValues, rowBytes, scheduleValues, scheduleBytes, accountNets, netsBytes, partSections, partBytes, savedBytes, storedSetup, sectionsWith, sections, image}
-use Rattle.book.proofs.Soundness.{SoundPart, SavedSound, SoundBook}
+use Rattle.book.proofs.Soundness.{SoundRow, SoundPart, SavedSound, SoundBook}
 
 -- ---- what fits its room
+
+-- a row's accounts, hours and quantity have a place
+pub record RowFits (top : ℕ) (r : Row) : Type 0 where
+  pub proposer-low : 1 ≤ r .proposer
+  pub proposer-high : r .proposer ≤ mostAccounts
+  pub counterparty-low : 1 ≤ r .counterparty
+  pub counterparty-high : r .counterparty ≤ mostAccounts
+  pub first-low : 1 ≤ r .first
+  pub in-order : r .first ≤ r .last
+  pub last-high : r .last ≤ top
+  pub quantity-fits : r .quantity .0 ≤ 256 ^ 4
 
 pub record PartFits (p : Part) : Type 0 where
   pub guarantees-fit : length (p .guarantees) ≤ mostOperators
@@ -165,6 +176,19 @@ unfolding storedSetup
 length-stored u e = length-setup u _ (length-replicate (operatorCount u) (cents 0)) e
 
 -- ---- what is sound fits
+
+pub row-fits-of : (top : ℕ) (u : Setup) (r : Row) → accountCount u ≤ mostAccounts → u .hours ≤ top → SoundRow u r → RowFits top r
+row-fits-of top u r a h s =
+    record {
+      proposer-low = s .proposer-low;
+      proposer-high = omega (arith, s .proposer-high);
+      counterparty-low = s .counterparty-low;
+      counterparty-high = omega (arith, s .counterparty-high);
+      first-low = s .first-low;
+      in-order = s .in-order;
+      last-high = omega (arith, s .last-high);
+      quantity-fits = omega (arith, s .quantity-high);
+    }
 
 pub part-fits-of : (u : Setup) (p : Part) → operatorCount u ≤ mostOperators → SoundPart u p → PartFits p
 part-fits-of u p h s = record { guarantees-fit = omega (arith, s .guarantees-all); rows-fit = s .rows-high }

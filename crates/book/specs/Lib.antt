@@ -5,3 +5,5 @@ pub mod Layout
 pub mod Image
 -- Valid: which plain books are valid, and which bytes are a book.
 pub mod Valid
+-- Changes: what a loop over cells of a book puts to each.
+pub mod Changes
