@@ -13,3 +13,7 @@ pub mod SetupAgain
 pub mod Round
 -- Nets: net positions in bytes, and the loop over those of one account.
 pub mod Nets
+-- Opened: the book that a set-up opens is valid.
+pub mod Opened
+-- OpenedBytes: what opening writes is the image of the book that it opens.
+pub mod OpenedBytes

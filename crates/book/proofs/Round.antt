@@ -1,17 +1,17 @@
 -- A valid book is read back from its image, as each value fits its bytes, and so bytes are a book exactly when they are the image of a
 -- valid one.
-use Prim.Native.Nat.{ℕ, zero, suc, _+_, _-_, _*_, _^_, _≤_, _<_}
+use Prim.Native.Nat.{ℕ, _-_, _≤_, _<_}
 use mathlib.Core.Path.{_≡_, refl, sym, ap, _∙_}
 use mathlib.Core.List.{List, [], _∷_, map}
 use mathlib.Core.Option.{Option, none, some}
-use mathlib.Core.Bool.{Bool, true, false, _&&_}
+use mathlib.Core.Bool.{true, _&&_}
 use native.Mathlib.Omega.{arith}
-use lib.ListN.{length, getD, length-map}
+use lib.ListN.{length}
 use lib.Dec.{eqb}
 use borrow.Author.Tests.{eqb-true, eq-eqb}
-use Rattle.wire.specs.Numbers.{number, numberAt, le, Bytes}
-use Rattle.wire.specs.Parts.{cut, Small, slots, chunks}
-use Rattle.wire.proofs.NumberLaws.{length-le, number-le, le-number-wide}
+use Rattle.wire.specs.Numbers.{number, le, Bytes}
+use Rattle.wire.specs.Parts.{Small}
+use Rattle.wire.proofs.NumberLaws.{number-le, le-number-wide}
 use Rattle.wire.proofs.PartLaws.{cut-flat}
 use Rattle.wire.proofs.PackLaws.{number-in-pack}
 use Rattle.wire.proofs.SlotLaws.{unslots}
@@ -27,8 +27,8 @@ use Rattle.rules.proofs.Searches.{each-map}
 use Rattle.book.specs.Layout.{rowWidths, rowWidth, scheduleWidths, scheduleWidth, partWidths, usedSize, bookWidths}
 use Rattle.book.specs.Image.{rowValues, rowBytes, scheduleValues, scheduleBytes, partSections, partBytes, flag, savedBytes, sectionsWith, sections, image, rowIn, scheduleIn, partOf, partIn, savedIn, bookOf, decode}
 use Rattle.book.specs.Valid.{valid, same, isBookOf}
-use Rattle.book.proofs.Soundness.{SoundSetup, SoundRow, SoundSchedule, SoundPart, SavedSound, SoundBook, sound}
-use Rattle.book.proofs.Sizes.{PartFits, Fits, part-fits-of, fits, length-row, length-schedule, length-guarantee, wide-part, wide-book, length-image}
+use Rattle.book.proofs.Soundness.{SoundSetup, SoundRow, SoundSchedule, SoundPart, SavedSound, sound}
+use Rattle.book.proofs.Sizes.{part-fits-of, fits, length-row, length-schedule, length-guarantee, wide-part, wide-book, length-image}
 use Rattle.book.proofs.StoredSetup.{pack-numbers, setup-back}
 
 -- ---- rows and schedules

@@ -1,35 +1,30 @@
 -- Set-up bytes are said again by what was read from them, and opening accepts them exactly where the set-up that they say is sound.
 use Prim.Native.Nat.{ℕ, zero, suc, _+_, _*_, _≤_, _<_}
 use mathlib.Core.Path.{_≡_, refl, sym, ap, _∙_}
-use mathlib.Core.Logic.{⊎-elim}
 use mathlib.Core.List.{List, [], _∷_, _++_, map}
-use mathlib.Core.Option.{Option, none, some}
-use mathlib.Core.Bool.{Bool, true, false, not, _||_}
-use native.Mathlib.Nat.{mul-zero, mul-suc}
+use mathlib.Core.Option.{none}
+use mathlib.Core.Bool.{true, false, not, _||_}
+use native.Mathlib.Nat.{mul-suc}
 use native.Mathlib.Omega.{arith}
 use lib.ListN.{length, getD, take, drop, replicate, length-map, length-drop}
-use lib.Seq.{take-add, take-all, take-take, drop-drop, getD-take, length-take-le}
-use lib.Dec.{eqb, leb, ltb}
-use borrow.Author.Tests.{eqb-true, eq-eqb, ltb-false, le-ltb, not-false, not-true}
-use Rattle.wire.specs.Numbers.{number, numberAt, le, Bytes}
+use lib.Seq.{take-add, drop-drop, getD-take, length-take-le}
+use lib.Dec.{eqb, ltb}
+use borrow.Author.Tests.{eqb-true, eq-eqb, le-ltb, not-false, not-true}
+use Rattle.wire.specs.Numbers.{le, Bytes}
 use Rattle.wire.proofs.NumberLaws.{bytes-drop}
 use Rattle.units.specs.declared.Cents.{Cents}
 use Rattle.units.specs.Units.{cents}
 use Rattle.rules.specs.declared.Counts.{Counts}
-use Rattle.rules.specs.declared.Operator.{Operator}
-use Rattle.rules.specs.Basics.{every, entries, joined, isSome, Each, nil, cons}
-use Rattle.rules.specs.Limits.{mostOperators}
-use Rattle.rules.specs.Books.{Setup, countsOf, operatorCount, accountCount, pointCount}
+use Rattle.rules.specs.Basics.{entries, joined}
+use Rattle.rules.specs.Books.{operatorCount, accountCount, pointCount}
 use Rattle.rules.specs.Opening.{priceIn, operatorIn, accountIn, pointIn, countsIn, operatorsFrom, accountsFrom, pointsFrom, setupLength, estimatesIn, operatorsIn, accountsIn, pointsIn, setupOf, guaranteesOf, operatorBytes, accountBytes, pointBytes, operatorsOf, setupBytes, badCounts, misshapen, faultyOffset, setupChecks, setupRefusal}
-use Rattle.rules.proofs.Tests.{or-neither, and-both}
-use Rattle.rules.proofs.Searches.{each-map}
+use Rattle.rules.proofs.Tests.{or-neither}
 use Rattle.rules.proofs.Clearing.{clear, clear-lowest, spared, spared↑}
 use Rattle.rules.proofs.SetupEntries.{length-entries, joined-entries, counts-of-setup, take-drop-take}
-use Rattle.book.specs.Layout.{setupRoom}
 use Rattle.book.specs.Image.{storedSetup}
 use Rattle.book.specs.Valid.{setupTests, setupOk}
-use Rattle.book.proofs.Soundness.{SoundSetup, sound-setup, holds-all, all-holds}
-use Rattle.book.proofs.SetupRanges.{SoundOperator, InRange, values-in-range, in-range-values, operators-again, sound-without}
+use Rattle.book.proofs.Soundness.{sound-setup, holds-all, all-holds}
+use Rattle.book.proofs.SetupRanges.{InRange, values-in-range, in-range-values, operators-again, sound-without}
 use Rattle.book.proofs.StoredSetup.{price-again, operator-again, account-again, point-again}
 
 -- ---- the bytes again

@@ -1,12 +1,12 @@
 -- The values of a set-up are in range exactly where none is found at fault: entry by entry, whatever their offsets.
-use Prim.Native.Nat.{ℕ, zero, suc, _+_, _≤_}
-use mathlib.Core.Path.{_≡_, refl, sym, ap, _∙_}
+use Prim.Native.Nat.{ℕ, _+_, _≤_}
+use mathlib.Core.Path.{_≡_, refl, ap}
 use mathlib.Core.List.{List, [], _∷_, _++_, map}
 use mathlib.Core.Option.{Option, none, some, Option·map}
-use mathlib.Core.Bool.{Bool, true, false, not, _&&_, _||_}
+use mathlib.Core.Bool.{true, not, _||_}
 use native.Mathlib.Omega.{arith}
 use lib.ListN.{length, replicate}
-use lib.Dec.{eqb, leb}
+use lib.Dec.{eqb}
 use borrow.Author.Tests.{leb-true, le-leb, not-false}
 use Rattle.units.specs.declared.Cents.{Cents}
 use Rattle.units.specs.declared.CentsPerMwh.{CentsPerMwh}
@@ -14,7 +14,7 @@ use Rattle.units.specs.Units.{cents}
 use Rattle.rules.specs.declared.Operator.{Operator}
 use Rattle.rules.specs.declared.Account.{Account}
 use Rattle.rules.specs.declared.Point.{Point}
-use Rattle.rules.specs.Basics.{if_then_else_, find, nth, within, Each, nil, cons}
+use Rattle.rules.specs.Basics.{if_then_else_, nth, within, Each, nil, cons}
 use Rattle.rules.specs.Limits.{mostEnergy, mostPrice, mostGuarantee, thousand}
 use Rattle.rules.specs.Books.{Setup, noAccount, countsOf, operatorCount}
 use Rattle.rules.specs.Opening.{Value, operatorsOf, operatorsFrom, accountsFrom, pointsFrom, estimatesFrom, valuesOf, estimateValues, operatorValues, accountValues, pointValues, values, faultyOffset}

@@ -1,35 +1,34 @@
 -- A set-up and its bytes, there and back: each value in range fits its bytes, and the entries stand side by side, read by their counts.
-use Prim.Native.Nat.{ℕ, zero, suc, _+_, _*_, _^_, _≤_, _<_}
+use Prim.Native.Nat.{ℕ, zero, suc, _+_, _*_, _≤_}
 use mathlib.Core.Path.{_≡_, refl, sym, ap, _∙_}
-use mathlib.Core.List.{List, [], _∷_, _++_, map, append-assoc, append-nil}
+use mathlib.Core.List.{List, [], _∷_, _++_, append-assoc, append-nil}
 use mathlib.Core.Bool.{Bool, true, false}
 use native.Mathlib.Omega.{arith}
-use lib.ListN.{length, getD, take, drop, replicate, length-append, length-map, length-drop, length-replicate}
-use lib.Seq.{take-add, drop-drop, drop-append-add}
+use lib.ListN.{length, getD, drop, replicate, length-replicate}
+use lib.Seq.{drop-drop, drop-append-add}
 use lib.Dec.{eqb}
-use Rattle.wire.specs.Numbers.{number, numberAt, le, Bytes}
-use Rattle.wire.specs.Parts.{flat, startOf, Wide, Small, cut, pack, unpack, padded, zeros}
-use Rattle.wire.proofs.NumberLaws.{length-le, number-le, le-number-wide, bytes-drop}
-use Rattle.wire.proofs.PartLaws.{length-flat}
+use Rattle.wire.specs.Numbers.{numberAt, le, Bytes}
+use Rattle.wire.specs.Parts.{flat, startOf, Wide, Small, cut, pack, unpack, padded}
+use Rattle.wire.proofs.NumberLaws.{length-le, number-le, le-number-wide}
 use Rattle.wire.proofs.PackLaws.{length-pack, number-in-pack, pack-unpack}
 use Rattle.units.specs.declared.Cents.{Cents}
 use Rattle.units.specs.declared.CentsPerMwh.{CentsPerMwh}
-use Rattle.units.specs.Units.{kwh, cents, centsPerMwh}
+use Rattle.units.specs.Units.{cents}
 use Rattle.rules.specs.declared.Counts.{Counts}
 use Rattle.rules.specs.declared.Operator.{Operator}
 use Rattle.rules.specs.declared.Account.{Account}
 use Rattle.rules.specs.declared.Point.{Point}
-use Rattle.rules.specs.Basics.{if_then_else_, entries, joined, Each, nil, cons}
+use Rattle.rules.specs.Basics.{if_then_else_, entries, joined}
 use Rattle.rules.specs.Limits.{mostEnergy, mostPrice, mostAccounts, mostOperators, mostZones}
 use Rattle.rules.specs.Books.{Setup, countsOf, operatorCount, accountCount, pointCount}
-use Rattle.rules.specs.Opening.{priceIn, operatorIn, accountIn, pointIn, countsIn, operatorsFrom, accountsFrom, pointsFrom, setupLength, estimatesIn, operatorsIn, accountsIn, pointsIn, setupOf, guaranteesOf, operatorBytes, accountBytes, pointBytes, operatorsOf, setupBytes}
+use Rattle.rules.specs.Opening.{priceIn, operatorIn, accountIn, pointIn, countsIn, operatorsFrom, accountsFrom, pointsFrom, estimatesIn, operatorsIn, accountsIn, pointsIn, setupOf, guaranteesOf, operatorBytes, accountBytes, pointBytes, operatorsOf, setupBytes}
 use Rattle.rules.proofs.Searches.{each-map}
-use Rattle.rules.proofs.SetupEntries.{length-entries, entries-joined, joined-entries, counts-of-setup}
+use Rattle.rules.proofs.SetupEntries.{entries-joined}
 use Rattle.book.specs.Layout.{setupRoom}
 use Rattle.book.specs.Image.{storedSetup}
 use Rattle.book.proofs.Soundness.{SoundSetup}
 use Rattle.book.proofs.Sizes.{length-joined, length-operators}
-use Rattle.book.proofs.SetupRanges.{SoundOperator, SoundAccount, SoundPoint, InRange, values-in-range, operators-again, maintenance-of, guarantees-of}
+use Rattle.book.proofs.SetupRanges.{SoundOperator, SoundAccount, SoundPoint, InRange, values-in-range, maintenance-of, guarantees-of}
 
 -- ---- an entry
 

@@ -7,3 +7,5 @@ pub mod Image
 pub mod Valid
 -- Changes: what a loop over cells of a book puts to each.
 pub mod Changes
+-- Fresh: the loops by which opening writes a fresh book.
+pub mod Fresh
