@@ -17,3 +17,7 @@ pub mod Nets
 pub mod Opened
 -- OpenedBytes: what opening writes is the image of the book that it opens.
 pub mod OpenedBytes
+-- NetTests: the stored nets, each by a test without signs.
+pub mod NetTests
+-- PartTests: a part that passes its tests is its own image.
+pub mod PartTests

@@ -138,12 +138,17 @@ sound-accepted s l z h =
 -- ---- bytes in which the set-up is the first
 
 module _ {A : Type 0} (w : ℕ) (say : List ℕ → A) where
-  entries-first : (n at m : ℕ) (s : List ℕ) → at + w * n ≤ m → entries w say n (drop at (take m s)) ≡ entries w say n (drop at s)
+  pub entries-first : (n at m : ℕ) (s : List ℕ) → at + w * n ≤ m → entries w say n (drop at (take m s)) ≡ entries w say n (drop at s)
   unfolding entries
   entries-first zero at m s h = refl
   entries-first (suc n) at m s h =
       let e : w * suc n ≡ w + w * n = omega (arith, mul-suc w n) in
       rw (take-drop-take w at m s (omega arith), drop-drop w at (take m s), drop-drop w at s, entries-first n (at + w) m s (omega arith))
+
+pub counts-first-bytes : (m : ℕ) (s : List ℕ) → 5 ≤ m → countsIn (take m s) ≡ countsIn s
+counts-first-bytes m s h =
+    let g : (i : ℕ) → i < 5 → getD (take m s) i 0 ≡ getD s i 0 = λ i l. getD-take m s i 0 (omega arith) in
+    rw (g 0 (omega arith), g 1 (omega arith), g 2 (omega arith), g 3 (omega arith), g 4 (omega arith))
 
 module _ (r : List ℕ) where
   front : List ℕ
@@ -151,9 +156,7 @@ module _ (r : List ℕ) where
 
   counts-front : countsIn front ≡ countsIn r
   unfolding front
-  counts-front =
-      let g : (i : ℕ) → i < 5 → getD (take (setupLength (countsIn r)) r) i 0 ≡ getD r i 0 = λ i l. getD-take (setupLength (countsIn r)) r i 0 (omega arith) in
-      rw (g 0 (omega arith), g 1 (omega arith), g 2 (omega arith), g 3 (omega arith), g 4 (omega arith))
+  counts-front = counts-first-bytes (setupLength (countsIn r)) r (omega arith)
 
   estimates-front : estimatesIn front ≡ estimatesIn r
   unfolding estimatesIn front

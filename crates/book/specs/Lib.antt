@@ -9,3 +9,5 @@ pub mod Valid
 pub mod Changes
 -- Fresh: the loops by which opening writes a fresh book.
 pub mod Fresh
+-- Plain: tests, each of one place, that bytes are an image.
+pub mod Plain
