@@ -23,3 +23,19 @@ pub mod BookWrites
 pub mod ImageReads
 -- Loops: a loop over cells, step by step.
 pub mod Loops
+-- SetupRanges: the values of a set-up are in range, entry by entry.
+pub mod SetupRanges
+-- StoredSetup: a set-up and its bytes, there and back.
+pub mod StoredSetup
+-- SetupAgain: what was read from set-up bytes says them again, and opening accepts them where it is sound.
+pub mod SetupAgain
+-- Round: bytes are a book exactly when they are the image of a valid one.
+pub mod Round
+-- Opened: the book that a set-up opens is valid.
+pub mod Opened
+-- OpenedBytes: what opening writes is the image of the book that it opens.
+pub mod OpenedBytes
+-- NetTests: the stored nets, each by a test without signs.
+pub mod NetTests
+-- PartTests: a part that passes its tests is its own image.
+pub mod PartTests

@@ -11,3 +11,7 @@ pub mod Sums
 pub mod Changes
 -- Doors: what opening and the two readings answer, on any bytes.
 pub mod Doors
+-- Fresh: the loops by which opening writes a fresh book.
+pub mod Fresh
+-- Plain: tests, each of one place, that bytes are an image.
+pub mod Plain

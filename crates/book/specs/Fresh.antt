@@ -1,0 +1,16 @@
+-- What opening writes besides zeros, the set-up and the phase (document 01, "Opening"): two loops over the operators of a set-up.
+use Prim.Native.Nat.{ℕ, zero, suc, _+_}
+use mathlib.Core.List.{List}
+use lib.ListN.{take, drop}
+use Rattle.wire.specs.Regions.{splice}
+use Rattle.wire.specs.Parts.{zeros}
+
+-- the guarantees of n operators, 10 bytes each from `at` on, made zero
+unfoldable pub unlodged : List ℕ → ℕ → ℕ → List ℕ
+unlodged s at zero = s
+unlodged s at (suc n) = unlodged (splice s at (zeros 8)) (at + 10) n
+
+-- the guarantees of n operators, in the set-up `s` from `from` on, put into `d` from `at` on
+unfoldable pub lodged : List ℕ → ℕ → List ℕ → ℕ → ℕ → List ℕ
+lodged d at s from zero = d
+lodged d at s from (suc n) = lodged (splice d at (take 8 (drop from s))) (at + 8) s (from + 10) n
