@@ -5,7 +5,7 @@ use Rattle.rules.specs.Basics.{total, any, every, find, indexOf, entries
 use Rattle.rules.specs.Verdicts.{lowest}
 use Rattle.rules.specs.Opening.{priceIn, operatorIn, accountIn, pointIn, estimatesIn, operatorsIn, accountsIn, pointsIn, setupOf, guaranteesOf, badCounts, misshapen, operatorsOf, setupBytes, valuesOf, estimateValues, operatorValues, accountValues, pointValues, values, faultyOffset, setupRefusal, openRefusal, openOutcome, opened}
 use Rattle.rules.specs.Requests.{bits, mapOf, room, offset, fieldIn, requestOf, more, unreadable, readChecks, reading, fieldBytes, write, writeOutcome, written, inRange, faultyField, faultyBit, sameAccounts}
-use Rattle.rules.specs.Registration.{mark, closed, alike, confirms, withdraws, mirrors, moved, waiting, keepsMargins, brokenHour, ofOperator, exposureOf, available, covered}
+use Rattle.rules.specs.Registration.{mark, closed, alike, confirms, withdraws, mirrors, moved, waiting, takes, keepsMargins, brokenHour, ofOperator, exposureOf, available, covered}
 use Rattle.rules.specs.Settlement.{pricesIn, placed, insert, prioritised, used, judge, judged, settled, resultAt, results, ofRegistered, gained, lost, balances, injectionsWorth, withdrawalsWorth, registeredTotal, balanceBytes}
 use Rattle.rules.specs.Calls.{next, given, inputChecks, stateChecks, checks, refusal, settles, answer, step}
 use Rattle.rules.specs.Readings.{position, netReading, exposureReading}
@@ -20,7 +20,7 @@ unfolding number numberAt le signed flat pieces pack
     setupBytes valuesOf estimateValues operatorValues accountValues pointValues values faultyOffset setupRefusal openRefusal openOutcome opened
     bits mapOf room offset fieldIn requestOf more unreadable readChecks reading fieldBytes write writeOutcome written inRange
     faultyField faultyBit sameAccounts
-    mark closed alike confirms withdraws mirrors moved waiting keepsMargins brokenHour ofOperator exposureOf available covered
+    mark closed alike confirms withdraws mirrors moved waiting takes keepsMargins brokenHour ofOperator exposureOf available covered
     pricesIn placed insert prioritised used judge judged settled resultAt results ofRegistered gained lost balances
     injectionsWorth withdrawalsWorth registeredTotal balanceBytes
     next given inputChecks stateChecks checks refusal settles answer step

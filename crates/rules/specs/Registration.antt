@@ -127,6 +127,18 @@ abbrev pub accountHour : List Row → ℕ → ℕ → AccountHour
 accountHour rows a h =
     record { net = netOf rows a h; sales = kwh (pendingSales rows a h); purchases = kwh (pendingPurchases rows a h) }
 
+-- an account hour takes a trade, by its row, and yields the hour after it
+unfoldable pub takes : ℕ → ℕ → AccountHour → Row → AccountHour
+takes a h x r =
+    record {
+      net = record {
+        bought = kwh (x .net .bought .0 + counted (λ r. confirmed r && covers h r && eqb (buyer r) a) r);
+        sold = kwh (x .net .sold .0 + counted (λ r. confirmed r && covers h r && eqb (seller r) a) r);
+      };
+      sales = kwh (x .sales .0 + counted (λ r. pending r && covers h r && eqb (r .proposer) a && eqb (r .side) 1) r);
+      purchases = kwh (x .purchases .0 + counted (λ r. pending r && covers h r && eqb (r .proposer) a && eqb (r .side) 2) r);
+    }
+
 -- ---- the paper's signed figures: purchases count plus, sales minus
 
 abbrev pub figure : Net → ℤ

@@ -1,0 +1,3 @@
+-- What the contracts of `registration` say.
+-- Kinds: what a request that was read is answered on a book, and the book after it.
+pub mod Kinds

@@ -1,0 +1,1 @@
+// Registration on a book that is known to be one: kinds 1 to 8.
