@@ -19,5 +19,11 @@ pub mod Opened
 pub mod OpenedBytes
 -- NetTests: the stored nets, each by a test without signs.
 pub mod NetTests
+-- SetupTests: the set-up's section of a book that passes its tests is that of its image.
+pub mod SetupTests
 -- PartTests: a part that passes its tests is its own image.
 pub mod PartTests
+-- Places: the book that bytes say, each field at its own place.
+pub mod Places
+-- Local: bytes are a book by tests that each look at one place.
+pub mod Local

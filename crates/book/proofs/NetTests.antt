@@ -44,8 +44,7 @@ net-test b s c h l =
     let w : ℕ = b + 4294967295 * s in
     let e : le 4 (number c) ≡ c = le-number-wide h 4 l in
     let small : number c < 256 ^ length c = number-small h in
-    let low : number c < 4294967296 = rw l at small in
-    (
+    let low : number c < 4294967296 = rw l at small in (
       (λ (t : signed 4 (subℕ b s) ≡ c). eq-eqb _ _ (ahead b s (number c) (sym (number-le-rest 4 w) ∙ ap number (sym (signed-sub 4 b s) ∙ t)))),
       (λ (t : eqb ((number c + s) % 256 ^ 4) (b % 256 ^ 4) ≡ true). signed-sub 4 b s ∙ le-same 4 w (number c) (behind b s (number c) low (eqb-true _ _ t)) ∙ e),
     )
