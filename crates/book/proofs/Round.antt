@@ -1,6 +1,6 @@
 -- A valid book is read back from its image, as each value fits its bytes, and so bytes are a book exactly when they are the image of a
 -- valid one.
-use Prim.Native.Nat.{ℕ, _-_, _≤_, _<_}
+use Prim.Native.Nat.{ℕ, _-_, _≤_}
 use mathlib.Core.Path.{_≡_, refl, sym, ap, _∙_}
 use mathlib.Core.List.{List, [], _∷_, map}
 use mathlib.Core.Option.{Option, none, some}
@@ -39,9 +39,6 @@ module _ (u : Setup) (s : SoundSetup u) where
   row-back r k =
       let ws : List ℕ = rowWidths in
       let vs : List ℕ = rowValues r in
-      let high : r .first ≤ u .hours = omega arith in
-      let few : u .hours < 256 = omega arith in
-      let some-accounts : length (u .accounts) < 256 = omega arith in
       let fit : Small rowWidths vs =
       (omega arith, (omega arith, (k .code-fits, (omega arith, (omega arith, (omega arith, (omega arith, (omega arith, tt)))))))) in
       rw (number-in-pack ws vs 0 fit, number-in-pack ws vs 1 fit, number-in-pack ws vs 2 fit, number-in-pack ws vs 3 fit, number-in-pack ws vs 4 fit, number-in-pack ws vs 5 fit, number-in-pack ws vs 6 fit, number-in-pack ws vs 7 fit)
