@@ -27,3 +27,11 @@ pub mod PartTests
 pub mod Places
 -- Local: bytes are a book by tests that each look at one place.
 pub mod Local
+-- Writes: what is written in a part.
+pub mod Writes
+-- BookWrites: what an accepted call of each kind writes in a book.
+pub mod BookWrites
+-- ImageReads: what stands at a place of a book.
+pub mod ImageReads
+-- Loops: a loop over cells, step by step.
+pub mod Loops

@@ -1,34 +1,31 @@
 -- What fits its room, asked as sizes and never as validity: each section of an image then has its width, whatever values stand in it.
-use Prim.Native.Nat.{ℕ, zero, suc, _+_, _-_, _*_, _^_, _≤_}
+use Prim.Native.Nat.{ℕ, suc, _*_, _^_, _≤_, _<_}
 use mathlib.Core.Path.{_≡_, refl, ap, _∙_}
-use mathlib.Core.List.{List, [], _∷_, _++_, map}
+use mathlib.Core.List.{List, [], _∷_, map}
 use mathlib.Core.Option.{Option, none, some}
 use native.Mathlib.Omega.{arith}
-use lib.ListN.{length, length-append, length-map, length-replicate, replicate}
+use lib.ListN.{length, length-append, length-map, length-replicate}
 use lib.IntN.{ℤ, pos, negsuc}
 use Rattle.wire.specs.Numbers.{le, signed}
-use Rattle.wire.specs.Parts.{Wide}
+use Rattle.wire.specs.Parts.{Wide, Small}
 use Rattle.wire.proofs.NumberLaws.{length-le}
 use Rattle.wire.proofs.ZeroLaws.{length-zeros, length-padded}
 use Rattle.wire.proofs.PartLaws.{length-flat}
 use Rattle.wire.proofs.PackLaws.{length-pack}
-use Rattle.wire.proofs.SlotLaws.{Uniform, uniform-map, length-uniform, length-slots}
+use Rattle.wire.proofs.SlotLaws.{uniform-map, length-uniform, length-slots}
 use Rattle.units.specs.declared.Cents.{Cents}
 use Rattle.units.specs.Units.{cents}
 use Rattle.rules.specs.declared.Row.{Row}
 use Rattle.rules.specs.declared.Schedule.{Schedule}
-use Rattle.rules.specs.declared.Operator.{Operator}
-use Rattle.rules.specs.declared.Account.{Account}
-use Rattle.rules.specs.declared.Point.{Point}
-use Rattle.rules.specs.Basics.{joined, upTo}
+use Rattle.rules.specs.Basics.{joined, upTo, Each}
 use Rattle.rules.specs.Limits.{mostOperators, mostAccounts, mostRows, mostSchedules}
-use Rattle.rules.specs.Books.{Setup, Part, Book, countsOf, operatorCount, accountCount}
+use Rattle.rules.specs.Books.{Setup, Part, Book, countsOf, operatorCount, accountCount, pointCount}
 use Rattle.rules.specs.Opening.{operatorBytes, accountBytes, pointBytes, operatorsOf, setupBytes, setupLength}
 use Rattle.rules.specs.Registration.{netOf, figure}
-use Rattle.rules.proofs.Searches.{counting-length}
+use Rattle.rules.proofs.Searches.{counting-length, each-map}
 use Rattle.book.specs.Layout.{setupRoom, rowWidths, rowWidth, scheduleWidths, scheduleWidth, accountWidth, partWidths, partSize, usedSize, bookWidths}
 use Rattle.book.specs.Image.{rowValues, rowBytes, scheduleValues, scheduleBytes, accountNets, netsBytes, partSections, partBytes, savedBytes, storedSetup, sectionsWith, sections, image}
-use Rattle.book.proofs.Soundness.{SoundRow, SoundPart, SavedSound, SoundBook}
+use Rattle.book.proofs.Soundness.{SoundSetup, SoundRow, SoundSchedule, SoundPart, SavedSound, SoundBook}
 
 -- ---- what fits its room
 
@@ -189,6 +186,41 @@ row-fits-of top u r a h s =
       last-high = omega (arith, s .last-high);
       quantity-fits = omega (arith, s .quantity-high);
     }
+
+-- each value of a row and of a schedule fits its width
+pub row-small : (u : Setup) (r : Row) → SoundSetup u → SoundRow u r → Small rowWidths (rowValues r)
+row-small u r s k =
+    let hours : u .hours < 256 = omega (arith, s .hours-high) in
+    let accounts : accountCount u < 256 = omega (arith, s .accounts-high) in (
+      omega (arith, k .proposer-high),
+      (
+        omega (arith, k .counterparty-high),
+        (
+          k .code-fits,
+          (
+            omega (arith, k .side-high),
+            (
+              omega (arith, k .in-order, k .last-high),
+              (omega (arith, k .last-high), (omega (arith, k .quantity-high), (omega (arith, k .status-high), tt))),
+            ),
+          ),
+        ),
+      ),
+    )
+
+pub schedule-small : (u : Setup) (x : Schedule) → SoundSetup u → SoundSchedule u x → Small scheduleWidths (scheduleValues x)
+schedule-small u x s k =
+    let hours : u .hours < 256 = omega (arith, s .hours-high) in
+    let points : pointCount u < 256 = omega (arith, s .points-high) in (
+      omega (arith, k .point-high),
+      (
+        omega (arith, k .side-high),
+        (omega (arith, k .hour-high), (omega (arith, k .quantity-high), (omega (arith, k .price-high), tt))),
+      ),
+    )
+
+pub statuses-small : {u : Setup} {rows : List Row} → Each (SoundRow u) rows → Each (λ r. r .status < 256) rows
+statuses-small e = each-map (λ r k. omega (arith, k .status-high)) e
 
 pub part-fits-of : (u : Setup) (p : Part) → operatorCount u ≤ mostOperators → SoundPart u p → PartFits p
 part-fits-of u p h s = record { guarantees-fit = omega (arith, s .guarantees-all); rows-fit = s .rows-high }
