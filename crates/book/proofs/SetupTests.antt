@@ -7,6 +7,7 @@ use mathlib.Core.List.{List, _∷_, map}
 use mathlib.Core.Option.{none}
 use mathlib.Core.Bool.{true, _&&_}
 use native.Mathlib.Nat.{zero-add}
+use native.Mathlib.Numerals.{add-one}
 use native.Mathlib.Omega.{arith}
 use lib.ListN.{length, getD, take, drop, replicate, length-drop, take-append-drop}
 use lib.Seq.{take-take, length-take-le, take-all, drop-drop, drop-at}
@@ -35,6 +36,16 @@ use Rattle.book.proofs.SetupAgain.{NoneLodged, setup-again, entries-fir
 use Rattle.book.proofs.Places.{counts-at}
 
 -- ---- no guarantee in the set-up
+
+-- the test, step by step
+pub none-lodged-done : (s : List ℕ) (at n : ℕ) → n ≤ 0 → noneLodged s at n ≡ true
+unfolding noneLodged
+none-lodged-done s at zero h = refl
+none-lodged-done s at (suc n) h = absurd (omega arith)
+
+pub none-lodged-step : (s : List ℕ) (at n m : ℕ) → n ≡ m + 1 → noneLodged s at n ≡ (zerosFrom s at 8 && noneLodged s (at + 10) m)
+unfolding noneLodged
+none-lodged-step s at n m e = rw (e, add-one)
 
 -- the guarantee of an operator is none where its bytes are zero
 lodged-none : (s : List ℕ) (at : ℕ) → Bytes s → at + 10 ≤ length s → (zerosFrom s at 8 ≡ true) ↔ (operatorIn (take 10 (drop at s)) .guarantee ≡ cents 0)
