@@ -32,7 +32,7 @@ use Rattle.book.specs.Plain.{noneLodged}
 use Rattle.book.proofs.Soundness.{SoundSetup, sound-setup}
 use Rattle.book.proofs.Sizes.{length-stored}
 use Rattle.book.proofs.StoredSetup.{guarantees-back}
-use Rattle.book.proofs.SetupAgain.{NoneLodged, setup-again, entries-first, counts-first-bytes, accepted-sound, front-sound, front-accepted}
+use Rattle.book.proofs.SetupAgain.{NoGuarantees, setup-again, entries-first, counts-first-bytes, accepted-sound, front-sound, front-accepted}
 use Rattle.book.proofs.Places.{counts-at}
 
 -- ---- no guarantee in the set-up
@@ -107,7 +107,7 @@ module _ (s : List ℕ) (b : Bytes s) (l : setupRoom ≤ length s) (k : SoundSet
   lodged-test : (noneLodged s (operatorsFrom n) (n .operators) ≡ true) ↔ (map (λ x. x .guarantee) (entries 10 operatorIn (n .operators) (drop (operatorsFrom n) s)) ≡ replicate (n .operators) (cents 0))
   lodged-test = let i = inside in none-lodged (n .operators) s (operatorsFrom n) b (omega arith)
 
-  lodged-here : noneLodged s (operatorsFrom n) (n .operators) ≡ true → NoneLodged first
+  lodged-here : noneLodged s (operatorsFrom n) (n .operators) ≡ true → NoGuarantees first
   lodged-here g = guarantees-at ∙ lodged-test .0 g ∙ ap (λ (c : Counts). replicate (c .operators) (cents 0)) (sym counts)
 
   rest-place : drop (setupLength n) first ≡ take (setupRoom - setupLength n) (drop (setupLength n) s)
