@@ -39,3 +39,9 @@ pub mod OpenedBytes
 pub mod NetTests
 -- PartTests: a part that passes its tests is its own image.
 pub mod PartTests
+-- SetupTests: the set-up's section of a book that passes its tests is that of its image.
+pub mod SetupTests
+-- Places: the book that bytes say, each field at its own place.
+pub mod Places
+-- Local: bytes are a book by tests that each look at one place.
+pub mod Local

@@ -5,6 +5,7 @@ use mathlib.Core.Path.{_≡_, refl, sym, ap, _∙_}
 use mathlib.Core.List.{List, [], _∷_, _++_, map, append-assoc}
 use mathlib.Core.Option.{none}
 use native.Mathlib.Nat.{mul-zero, add-zero}
+use native.Mathlib.Numerals.{add-one}
 use native.Mathlib.Omega.{arith}
 use lib.ListN.{length, set, take, drop, replicate, length-map, length-append, length-drop, take-append-drop}
 use lib.Seq.{take-all, drop-drop, length-take-le}
@@ -36,6 +37,26 @@ use Rattle.book.proofs.Opened.{opened-valid}
 use Rattle.book.proofs.SetupAgain.{bytes-again, length-guarantees, accepted-length, accepted-sound}
 
 -- ---- the two loops over operators
+
+-- their steps
+pub unlodged-done : (s : List ℕ) (at n : ℕ) → n ≤ 0 → unlodged s at n ≡ s
+unfolding unlodged
+unlodged-done s at zero h = refl
+unlodged-done s at (suc n) h = absurd (omega arith)
+
+pub unlodged-step : (s : List ℕ) (at n m : ℕ) → n ≡ m + 1 → unlodged s at n ≡ unlodged (splice s at (zeros 8)) (at + 10) m
+unfolding unlodged
+unlodged-step s at n m e = rw (e, add-one)
+
+pub lodged-done : (d : List ℕ) (at : ℕ) (s : List ℕ) (from n : ℕ) → n ≤ 0 → lodged d at s from n ≡ d
+unfolding lodged
+lodged-done d at s from zero h = refl
+lodged-done d at s from (suc n) h = absurd (omega arith)
+
+pub lodged-step : (d : List ℕ) (at : ℕ) (s : List ℕ) (from n m : ℕ) → n ≡ m + 1
+    → lodged d at s from n ≡ lodged (splice d at (take 8 (drop from s))) (at + 8) s (from + 10) m
+unfolding lodged
+lodged-step d at s from n m e = rw (e, add-one)
 
 -- bytes replaced, and then those that follow them
 splice-next : (d : List ℕ) (at next : ℕ) (x y : List ℕ) → next ≡ at + length x → at + length x ≤ length d → splice (splice d at x) next y ≡ splice d at (x ++ y)

@@ -1,6 +1,6 @@
 -- A valid book is read back from its image, as each value fits its bytes, and so bytes are a book exactly when they are the image of a
 -- valid one.
-use Prim.Native.Nat.{ℕ, _-_, _≤_, _<_}
+use Prim.Native.Nat.{ℕ, _-_, _≤_}
 use mathlib.Core.Path.{_≡_, refl, sym, ap, _∙_}
 use mathlib.Core.List.{List, [], _∷_, map}
 use mathlib.Core.Option.{Option, none, some}
@@ -28,7 +28,7 @@ use Rattle.book.specs.Layout.{rowWidths, rowWidth, scheduleWidths, sched
 use Rattle.book.specs.Image.{rowValues, rowBytes, scheduleValues, scheduleBytes, partSections, partBytes, flag, savedBytes, sectionsWith, sections, image, rowIn, scheduleIn, partOf, partIn, savedIn, bookOf, decode}
 use Rattle.book.specs.Valid.{valid, same, isBookOf}
 use Rattle.book.proofs.Soundness.{SoundSetup, SoundRow, SoundSchedule, SoundPart, SavedSound, sound}
-use Rattle.book.proofs.Sizes.{part-fits-of, fits, length-row, length-schedule, length-guarantee, wide-part, wide-book, length-image}
+use Rattle.book.proofs.Sizes.{row-small, schedule-small, part-fits-of, fits, length-row, length-schedule, length-guarantee, wide-part, wide-book, length-image}
 use Rattle.book.proofs.StoredSetup.{pack-numbers, setup-back}
 
 -- ---- rows and schedules
@@ -39,11 +39,7 @@ module _ (u : Setup) (s : SoundSetup u) where
   row-back r k =
       let ws : List ℕ = rowWidths in
       let vs : List ℕ = rowValues r in
-      let high : r .first ≤ u .hours = omega arith in
-      let few : u .hours < 256 = omega arith in
-      let some-accounts : length (u .accounts) < 256 = omega arith in
-      let fit : Small rowWidths vs =
-      (omega arith, (omega arith, (k .code-fits, (omega arith, (omega arith, (omega arith, (omega arith, (omega arith, tt)))))))) in
+      let fit : Small rowWidths vs = row-small u r s k in
       rw (number-in-pack ws vs 0 fit, number-in-pack ws vs 1 fit, number-in-pack ws vs 2 fit, number-in-pack ws vs 3 fit, number-in-pack ws vs 4 fit, number-in-pack ws vs 5 fit, number-in-pack ws vs 6 fit, number-in-pack ws vs 7 fit)
 
   pub schedule-back : (x : Schedule) → SoundSchedule u x → scheduleIn (scheduleBytes x) ≡ x
@@ -51,7 +47,7 @@ module _ (u : Setup) (s : SoundSetup u) where
   schedule-back x k =
       let ws : List ℕ = scheduleWidths in
       let vs : List ℕ = scheduleValues x in
-      let fit : Small scheduleWidths vs = (omega arith, (omega arith, (omega arith, (omega arith, (omega arith, tt))))) in
+      let fit : Small scheduleWidths vs = schedule-small u x s k in
       rw (number-in-pack ws vs 0 fit, number-in-pack ws vs 1 fit, number-in-pack ws vs 2 fit, number-in-pack ws vs 3 fit, number-in-pack ws vs 4 fit)
 
 pub row-again : (c : List ℕ) → Bytes c → length c ≡ rowWidth → rowBytes (rowIn c) ≡ c

@@ -70,13 +70,13 @@ module _ (s : List ℕ) where
       ∙ rw (take-add at3 (11 * countsIn s .points) s, take-add at2 (10 * countsIn s .accounts) s, take-add at1 (10 * countsIn s .operators) s, take-add 5 (4 * countsIn s .hours) s)
 
   -- the day's guarantees are none, as in a stored set-up
-  abbrev pub NoneLodged : Type 0
-  NoneLodged = guaranteesOf s ≡ replicate (countsIn s .operators) (cents 0)
+  abbrev pub NoGuarantees : Type 0
+  NoGuarantees = guaranteesOf s ≡ replicate (countsIn s .operators) (cents 0)
 
-  stored-guarantees : NoneLodged → replicate (operatorCount (setupOf s)) (cents 0) ≡ guaranteesOf s
+  stored-guarantees : NoGuarantees → replicate (operatorCount (setupOf s)) (cents 0) ≡ guaranteesOf s
   stored-guarantees z = ap (λ (c : Counts). replicate (c .operators) (cents 0)) (counts-of-setup s) ∙ sym z
 
-  pub setup-again : Bytes s → setupLength (countsIn s) ≤ length s → NoneLodged → storedSetup (setupOf s) ≡ take (setupLength (countsIn s)) s
+  pub setup-again : Bytes s → setupLength (countsIn s) ≤ length s → NoGuarantees → storedSetup (setupOf s) ≡ take (setupLength (countsIn s)) s
   unfolding storedSetup
   setup-again b l z = ap (setupBytes (setupOf s)) (stored-guarantees z) ∙ bytes-again b l
 
@@ -124,7 +124,7 @@ module _ (s : List ℕ) (h : setupRefusal s ≡ none) where
       )
 
 -- sound bytes as long as their counts say, with no guarantees, are accepted
-pub sound-accepted : (s : List ℕ) → length s ≡ setupLength (countsIn s) → NoneLodged s → setupOk (setupOf s) ≡ true → setupRefusal s ≡ none
+pub sound-accepted : (s : List ℕ) → length s ≡ setupLength (countsIn s) → NoGuarantees s → setupOk (setupOf s) ≡ true → setupRefusal s ≡ none
 unfolding setupOk setupRefusal misshapen
 sound-accepted s l z h =
     let t = all-holds (setupTests (setupOf s)) h in
@@ -192,7 +192,7 @@ module _ (r : List ℕ) where
   pub front-sound : setupRefusal (take (setupLength (countsIn r)) r) ≡ none → setupOk (setupOf r) ≡ true
   front-sound h = ap setupOk (sym setup-front) ∙ accepted-sound _ h
 
-  pub front-accepted : setupLength (countsIn r) ≤ length r → NoneLodged r → setupOk (setupOf r) ≡ true → setupRefusal (take (setupLength (countsIn r)) r) ≡ none
+  pub front-accepted : setupLength (countsIn r) ≤ length r → NoGuarantees r → setupOk (setupOf r) ≡ true → setupRefusal (take (setupLength (countsIn r)) r) ≡ none
   unfolding front guaranteesOf
   front-accepted l z h =
       sound-accepted front

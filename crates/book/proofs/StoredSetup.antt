@@ -196,17 +196,17 @@ module _ (u : Setup) (gs : List Cents) (rest : List ℕ) (sound : SoundSetup u) 
       ∙ rw (from 4 (pointsFrom (countsOf u)) (omega arith))
       (entries-joined 11 pointBytes pointIn (u .points) _ (each-map (point-back (u .accounts) (u .zones) (sound .accounts-high) (sound .zones-high)) (range .points-sound)) length-point)
 
-  pub setup-read : setupOf (setupBytes u gs ++ rest) ≡ u
+  pub bytes-say-setup : setupOf (setupBytes u gs ++ rest) ≡ u
   unfolding setupOf bytes
-  setup-read =
+  bytes-say-setup =
       let hours : getD bytes 0 0 ≡ u .hours = ap (λ (n : Counts). n .hours) counts-back in
       let zones : getD bytes 4 0 ≡ u .zones = ap (λ (n : Counts). n .zones) counts-back in
       ap setupOf (setup-parts u gs rest)
       ∙ rw (hours, zones, estimates-back, operators-back, accounts-back, points-back, maintenance-of gs (u .maintenance) all)
 
-  pub guarantees-read : guaranteesOf (setupBytes u gs ++ rest) ≡ gs
+  pub bytes-say-guarantees : guaranteesOf (setupBytes u gs ++ rest) ≡ gs
   unfolding guaranteesOf bytes
-  guarantees-read = ap guaranteesOf (setup-parts u gs rest) ∙ rw (operators-back, guarantees-of gs (u .maintenance) all)
+  bytes-say-guarantees = ap guaranteesOf (setup-parts u gs rest) ∙ rw (operators-back, guarantees-of gs (u .maintenance) all)
 
 -- ---- a set-up in its room of a book
 
@@ -216,8 +216,8 @@ module _ (u : Setup) (sound : SoundSetup u) where
 
   pub setup-back : setupOf (padded setupRoom (storedSetup u)) ≡ u
   unfolding storedSetup padded
-  setup-back = setup-read u (replicate (operatorCount u) (cents 0)) _ sound zeros-all (values-in-range u _ (sound .in-range))
+  setup-back = bytes-say-setup u (replicate (operatorCount u) (cents 0)) _ sound zeros-all (values-in-range u _ (sound .in-range))
 
   pub guarantees-back : guaranteesOf (padded setupRoom (storedSetup u)) ≡ replicate (operatorCount u) (cents 0)
   unfolding storedSetup padded
-  guarantees-back = guarantees-read u (replicate (operatorCount u) (cents 0)) _ sound zeros-all (values-in-range u _ (sound .in-range))
+  guarantees-back = bytes-say-guarantees u (replicate (operatorCount u) (cents 0)) _ sound zeros-all (values-in-range u _ (sound .in-range))

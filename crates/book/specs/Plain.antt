@@ -8,12 +8,12 @@ use lib.Dec.{eqb, leb}
 use Rattle.wire.specs.Numbers.{numberAt}
 use Rattle.wire.specs.Regions.{zerosFrom}
 use Rattle.rules.specs.declared.Row.{Row}
-use Rattle.rules.specs.Basics.{if_then_else_, every, allOf, upTo}
+use Rattle.rules.specs.Basics.{every, allOf, upTo}
 use Rattle.rules.specs.Limits.{mostOperators, mostAccounts, mostRows, mostSchedules}
 use Rattle.rules.specs.Books.{Part}
 use Rattle.rules.specs.Registration.{bought, sold}
 use Rattle.rules.specs.Opening.{countsIn, operatorsFrom, setupLength}
-use Rattle.book.specs.Layout.{setupRoom, rowWidth, scheduleWidth, partSize, usedSize, flagAt, scheduleCountAt, schedulesAt, presentAt, savedAt, guaranteesAt, rowCountAt, rowAt, netAt, netsAt, rowsAt}
+use Rattle.book.specs.Layout.{setupRoom, rowWidth, scheduleWidth, partSize, usedSize, flagAt, scheduleCountAt, schedulesAt, presentAt, savedAt, rowCountAt, rowAt, netAt}
 use Rattle.book.specs.Image.{partIn}
 
 -- no guarantee stands in the n operators from `at` on
