@@ -3,3 +3,5 @@
 pub mod SetupEntries
 -- SetupShape: what is known of set-up bytes that are in shape, and of those that are not refused.
 pub mod SetupShape
+-- SetupBytes: the entries of a set-up and their bytes, there and back.
+pub mod SetupBytes
