@@ -5,3 +5,5 @@ pub mod SetupEntries
 pub mod SetupShape
 -- SetupBytes: the entries of a set-up and their bytes, there and back.
 pub mod SetupBytes
+-- SetupFits: a set-up whose figures fit their bytes is what its bytes say.
+pub mod SetupFits
