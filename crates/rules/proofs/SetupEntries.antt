@@ -3,20 +3,18 @@ use Prim.Native.Nat.{ℕ, zero, suc, _+_, _-_, _*_, _≤_, _<_}
 use mathlib.Core.Path.{_≡_, refl, ap, _∙_}
 use mathlib.Core.List.{List, [], _∷_, _++_, append-assoc}
 use mathlib.Core.Option.{none, some}
-use mathlib.Core.Bool.{Bool, true, false, not, _||_}
+use mathlib.Core.Bool.{Bool, true, false}
 use native.Mathlib.Nat.{add-zero, mul-zero, mul-suc}
 use native.Mathlib.Numerals.{add-one}
 use native.Mathlib.Omega.{arith}
 use lib.ListN.{length, getD, take, drop, length-drop, length-map, List·getD-eq-default}
-use lib.Dec.{eqb, ltb}
-use borrow.Author.Tests.{ltb-false, eqb-true, not-false}
 use lib.Seq.{take-at, drop-at, take-take, take-add, drop-drop, length-take-le}
 use Rattle.wire.specs.Numbers.{number, numberAt, Bytes}
 use Rattle.wire.proofs.NumberLaws.{bytes-take, bytes-drop}
 use Rattle.units.specs.Units.{kwh, cents, centsPerMwh}
 use Rattle.rules.specs.Basics.{find, nth, entries, joined, Each, cons}
 use Rattle.rules.specs.Books.{countsOf}
-use Rattle.rules.specs.Opening.{countsIn, setupLength, badCounts, misshapen, setupOf, estimatesIn, operatorsIn, accountsIn, pointsIn, priceIn, operatorIn, accountIn, pointIn, Value, valuesOf}
+use Rattle.rules.specs.Opening.{countsIn, setupOf, estimatesIn, operatorsIn, accountsIn, pointsIn, priceIn, operatorIn, accountIn, pointIn, Value, valuesOf}
 
 -- ---- entries by number
 
@@ -140,30 +138,6 @@ module _ (s : List ℕ) where
   pub counts-of-setup : countsOf (setupOf s) ≡ countsIn s
   unfolding setupOf
   counts-of-setup = simp (length-map, length-operators, length-accounts, length-points)
-
--- ---- the shape
-
-or-false : (a b : Bool) → (a || b) ≡ false → (a ≡ false) × (b ≡ false)
-or-false true b h = let z : _≡_ {A = ℕ} 0 1 = cc in absurd (omega arith)
-or-false false b h = (refl, h)
-
-pub record Shape (s : List ℕ) : Type 0 where
-  pub long : 5 ≤ length s
-  pub counts : badCounts (countsIn s) ≡ false
-  pub exact : length s ≡ setupLength (countsIn s)
-
-pub shape-of : (s : List ℕ) → misshapen s ≡ false → Shape s
-unfolding misshapen
-shape-of s h =
-    let short = ltb (length s) 5 in
-    let bad = badCounts (countsIn s) in
-    let p = or-false (short || bad) (not (eqb (length s) (setupLength (countsIn s)))) h in
-    let q = or-false short bad (p .0) in
-    record {
-      long = ltb-false _ _ (q .0);
-      counts = q .1;
-      exact = eqb-true _ _ (not-false _ (p .1));
-    }
 
 -- ---- values, entry by entry
 

@@ -5,9 +5,7 @@ use mathlib.Core.List.{List, [], _∷_, _++_}
 use mathlib.Core.Option.{Option·map}
 use mathlib.Core.Bool.{Bool, true, false, not}
 use native.Mathlib.Omega.{arith}
-use lib.ListN.{length, getD, take, drop, length-map}
-use mir.Syntax.{w8}
-use mir.Val.{Fits}
+use lib.ListN.{take, drop, length-map}
 use Rattle.rules.specs.declared.Counts.{Counts}
 use Rattle.rules.specs.declared.Checked.{Checked}
 use Rattle.rules.specs.declared.Checked.the-variants.{Clear, Fails}
@@ -15,8 +13,9 @@ use Rattle.rules.specs.declared.Refusal.{Refusal}
 use Rattle.rules.specs.declared.Refusal.the-variants.{SetupShape, SetupValue}
 use Rattle.rules.specs.Basics.{find, entries}
 use Rattle.rules.specs.Verdicts.{_⇒_, _⇒↑_, lowest, checked}
-use Rattle.rules.specs.Opening.{countsIn, setupLength, Value, valuesOf, values, misshapen, faultyOffset, setupOf, setupRefusal, operatorsIn}
-use Rattle.rules.proofs.SetupEntries.{shape-of, length-operators, length-accounts, values-done, values-step}
+use Rattle.rules.specs.Opening.{countsIn, Value, valuesOf, values, misshapen, faultyOffset, setupOf, setupRefusal, operatorsIn}
+use Rattle.rules.proofs.SetupShape.{shape-of, shape-length}
+use Rattle.rules.proofs.SetupEntries.{length-operators, length-accounts, values-done, values-step}
 use Rattle.setup.specs.Faults.{orElse, orFault, judgedFrom, judged, estimateFaults, operatorFaults, accountFaults, pointFaults, Shaped}
 
 -- ---- one value
@@ -94,14 +93,10 @@ module _ (s : List ℕ) where
   list-by-list = sym (simp (judged-append, length-map, length-operators, length-accounts))
 
   -- bytes in shape hold what their counts say
-  pub shaped : ((k : ℕ) → Fits w8 (getD s k 0)) → misshapen s ≡ false → {n : Counts} → n ≡ countsIn s → Shaped n s
-  shaped byte h e =
-      let x : length s ≡ setupLength (countsIn s) = shape-of s h .exact in
-      record {
-        counted = e;
-        whole = rw e (omega arith);
-        short = omega (arith, byte 0, byte 1, byte 2, byte 3);
-      }
+  pub shaped : misshapen s ≡ false → {n : Counts} → n ≡ countsIn s → Shaped n s
+  shaped h e =
+      let shape = shape-of s h in
+      record { counted = e; whole = rw e (omega arith); short = omega (arith, shape-length s shape) }
 
   pub refused-shape : misshapen s ≡ true → checked (setupRefusal s) ≡ Fails SetupShape
   unfolding setupRefusal lowest

@@ -19,18 +19,21 @@ pub fn counts(setup: &[u8]) -> Counts
     }
 }
 
+// Where the operators begin.
 pub fn operators_from(n: Counts) -> usize
     ensures { λ r. ⌜ r ≡ operatorsFrom n ⌝ }
 {
     5 + 4 * (n.hours as usize)
 }
 
+// Where the accounts begin.
 pub fn accounts_from(n: Counts) -> usize
     ensures { λ r. ⌜ r ≡ accountsFrom n ⌝ }
 {
     5 + 4 * (n.hours as usize) + 10 * (n.operators as usize)
 }
 
+// Where the points begin.
 pub fn points_from(n: Counts) -> usize
     ensures { λ r. ⌜ r ≡ pointsFrom n ⌝ }
 {

@@ -68,7 +68,7 @@ pub fn point_at(bytes: &[u8], at: usize) -> Point
     }
 }
 
-// The estimated price of an hour.
+// The estimated price of an hour, from 1.
 pub fn estimate(setup: &[u8], hour: u8) -> CentsPerMwh
     requires { ⌜ Whole (now setup) × (1 ≤ hour) × (hour ≤ countsIn (now setup) .hours) ⌝ }
     ensures { λ r. ⌜ r ≡ nth (estimatesIn (now (setup .entry))) hour (centsPerMwh 0) ⌝ }
@@ -76,6 +76,7 @@ pub fn estimate(setup: &[u8], hour: u8) -> CentsPerMwh
     price_at(setup, 5 + 4 * (hour as usize - 1))
 }
 
+// The operator of a number, from 1.
 pub fn operator(setup: &[u8], number: u8) -> Operator
     requires { ⌜ Whole (now setup) × (1 ≤ number) × (number ≤ countsIn (now setup) .operators) ⌝ }
     ensures { λ r. ⌜ r ≡ nth (operatorsIn (now (setup .entry))) number noOperator ⌝ }
@@ -84,6 +85,7 @@ pub fn operator(setup: &[u8], number: u8) -> Operator
     operator_at(setup, from + 10 * (number as usize - 1))
 }
 
+// The account of a number, from 1.
 pub fn account(setup: &[u8], number: u8) -> Account
     requires { ⌜ Whole (now setup) × (1 ≤ number) × (number ≤ countsIn (now setup) .accounts) ⌝ }
     ensures { λ r. ⌜ r ≡ nth (accountsIn (now (setup .entry))) number noAccount ⌝ }
@@ -92,6 +94,7 @@ pub fn account(setup: &[u8], number: u8) -> Account
     account_at(setup, from + 10 * (number as usize - 1))
 }
 
+// The point of a number, from 1.
 pub fn point(setup: &[u8], number: u8) -> Point
     requires { ⌜ Whole (now setup) × (1 ≤ number) × (number ≤ countsIn (now setup) .points) ⌝ }
     ensures { λ r. ⌜ r ≡ nth (pointsIn (now (setup .entry))) number noPoint ⌝ }

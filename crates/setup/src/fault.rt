@@ -1,24 +1,17 @@
 // What is wrong with set-up bytes: their shape, then the lowest offset of a value that is out of range.
 ghost use mathlib.Core.Path.{_≡_};
-ghost use lib.ListN.{length};
 ghost use Rattle.rules.specs.Verdicts.{checked};
-ghost use Rattle.rules.specs.Opening.{badCounts, misshapen, operatorsIn, values, setupOf, setupRefusal};
+ghost use Rattle.rules.specs.Opening.{operatorsIn, values, setupOf, setupRefusal};
 ghost use Rattle.setup.specs.Faults.{judged, estimateFaults, operatorFaults, accountFaults, pointFaults, Shaped};
 use crate::counts::accounts_from;
 use crate::counts::counts;
-use crate::counts::length_of;
 use crate::counts::operators_from;
 use crate::counts::points_from;
 use crate::entries::account_at;
 use crate::entries::operator_at;
 use crate::entries::point_at;
 use crate::entries::price_at;
-use crate::limits::FEWEST_HOURS;
-use crate::limits::MOST_ACCOUNTS;
-use crate::limits::MOST_HOURS;
-use crate::limits::MOST_OPERATORS;
-use crate::limits::MOST_POINTS;
-use crate::limits::MOST_ZONES;
+use crate::shape::misshapen;
 use crate::values::account_fault;
 use crate::values::estimate_fault;
 use crate::values::operator_fault;
@@ -27,28 +20,6 @@ use crate::values::point_fault;
 use rules::Checked;
 use rules::Counts;
 use rules::Refusal;
-
-// A count is out of range.
-fn bad_counts(n: Counts) -> bool
-    ensures { λ r. ⌜ r ≡ badCounts n ⌝ }
-{
-    !((FEWEST_HOURS <= n.hours) & (n.hours <= MOST_HOURS))
-        | !((1 <= n.operators) & (n.operators <= MOST_OPERATORS))
-        | !((1 <= n.accounts) & (n.accounts <= MOST_ACCOUNTS))
-        | !(n.points <= MOST_POINTS)
-        | !((1 <= n.zones) & (n.zones <= MOST_ZONES))
-}
-
-// Under 5 bytes, a count out of range, or a wrong length.
-pub fn misshapen(setup: &[u8]) -> bool
-    ensures { λ r. ⌜ r ≡ misshapen (now (setup .entry)) ⌝ }
-{
-    if setup.len() < 5 {
-        return true;
-    }
-    let n = counts(setup);
-    bad_counts(n) | (setup.len() != length_of(n))
-}
 
 // The lowest offset of an estimate that is out of range.
 fn estimate_faults(setup: &[u8], n: Counts) -> Checked

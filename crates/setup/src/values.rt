@@ -40,7 +40,7 @@ fn or_fault(found: Checked, fine: bool, at: usize) -> Checked
     or_else(found, Checked::Fails(Refusal::SetupValue { offset }))
 }
 
-// Of the price at `at`.
+// The fault of the price that stands at `at`.
 pub fn estimate_fault(x: CentsPerMwh, at: usize) -> Checked
     requires { ⌜ at + 4 ≤ 2 ^ 16 ⌝ }
     ensures { λ r. ⌜ r ≡ judged (estimateValues at x) ⌝ }
@@ -48,7 +48,7 @@ pub fn estimate_fault(x: CentsPerMwh, at: usize) -> Checked
     or_fault(Checked::Clear, x.0 <= MOST_PRICE, at)
 }
 
-// Of the operator at `at`.
+// The first fault of the operator that stands at `at`.
 pub fn operator_fault(x: Operator, at: usize) -> Checked
     requires { ⌜ at + 10 ≤ 2 ^ 16 ⌝ }
     ensures { λ r. ⌜ r ≡ judged (operatorValues at x) ⌝ }
@@ -57,7 +57,7 @@ pub fn operator_fault(x: Operator, at: usize) -> Checked
     or_fault(guarantee, x.maintenance <= THOUSAND, at + 8)
 }
 
-// Of the account at `at`.
+// The first fault of the account that stands at `at`, in a set-up of that many operators.
 pub fn account_fault(x: Account, operators: u8, at: usize) -> Checked
     requires { ⌜ at + 10 ≤ 2 ^ 16 ⌝ }
     ensures { λ r. ⌜ r ≡ judged (accountValues operators at x) ⌝ }
@@ -72,7 +72,7 @@ pub fn account_fault(x: Account, operators: u8, at: usize) -> Checked
     or_fault(lower, x.upper.0 <= MOST_ENERGY, at + 6)
 }
 
-// The kind of an account, of `n` that stand from `from` on; 0 of a number that none has.
+// The kind of an account, of `n` that stand from `from` on; 0 for a number that none has.
 fn kind_of(setup: &[u8], from: usize, n: u8, number: u8) -> u8
     requires { ⌜ from + 10 * n ≤ length (now setup) ⌝ }
     ensures { λ r. ⌜ r ≡ nth (entries 10 accountIn n (drop from (now (setup .entry)))) number noAccount .kind ⌝ }
@@ -87,13 +87,14 @@ fn kind_of(setup: &[u8], from: usize, n: u8, number: u8) -> u8
     x.kind
 }
 
+// 0 in a direction that is barred.
 fn most_amount(barred: bool) -> u32
     ensures { λ r. ⌜ r ≡ mostAmount barred ⌝ }
 {
     if barred { 0 } else { MOST_ENERGY }
 }
 
-// The amounts of the point at `at`: none in a direction that its kind has not.
+// What was found so far, or the fault of an amount of the point that stands at `at`: its kind may bar a direction.
 fn amounts_fault(found: Checked, x: Point, at: usize) -> Checked
     requires { ⌜ at + 11 ≤ 2 ^ 16 ⌝ }
     ensures { λ r. ⌜ r ≡ judgedFrom found (amountValues at x) ⌝ }
@@ -106,7 +107,7 @@ fn amounts_fault(found: Checked, x: Point, at: usize) -> Checked
     )
 }
 
-// Of the point at `at`, in a set-up whose accounts, `n` of them, stand from `from` on.
+// The first fault of the point that stands at `at`, in a set-up whose `n` accounts stand from `from` on.
 pub fn point_fault(setup: &[u8], from: usize, n: u8, zones: u8, x: Point, at: usize) -> Checked
     requires { ⌜ (from + 10 * n ≤ length (now setup)) × (at + 11 ≤ 2 ^ 16) ⌝ }
     ensures { λ r. ⌜ r ≡ judged (pointValues (entries 10 accountIn n (drop from (now (setup .entry)))) zones at x) ⌝ }

@@ -1,6 +1,6 @@
 -- Bytes in shape hold what their counts say, so that their values can be judged.
 use mathlib.Core.Path.{sym, _∙_}
-use Rattle.rules.proofs.SetupEntries.{shape-of}
+use Rattle.rules.proofs.SetupShape.{shape-of}
 use Rattle.setup.proofs.FaultLaws.{shaped, refused-shape, refused-value}
 use borrow.Author.Needs.{needs}
 use Rattle.setup.proofs.fault.fault.Statement.{statement}
@@ -16,7 +16,7 @@ counts-requires : tie.Need-counts-requires
 counts-requires c κs = shape-of _ (sym (c .before .misshapen .ensures) ∙ c .if1 .left) .long
 
 value-fault-requires : tie.Need-value-fault-requires
-value-fault-requires c κs = shaped _ (c .before .before .before .shared-slice-known .given) (sym (c .before .before .misshapen .ensures) ∙ c .before .if1 .left) (c .counts .ensures)
+value-fault-requires c κs = shaped _ (sym (c .before .before .misshapen .ensures) ∙ c .before .if1 .left) (c .counts .ensures)
 
 returns-2 : tie.Need-returns-2
 returns-2 c = c .value-fault .ensures ∙ sym (refused-value _ (sym (c .before .before .before .misshapen .ensures) ∙ c .before .before .if1 .left))

@@ -2,8 +2,8 @@
 use borrow.Author.Tests.{lt-ltb, le-ltb}
 use Rattle.rules.specs.Opening.{misshapen}
 use borrow.Author.Needs.{needs}
-use Rattle.setup.proofs.fault.misshapen.Statement.{statement}
-use Rattle.setup.proofs.fault.misshapen.Tie as tie
+use Rattle.setup.proofs.shape.misshapen.Statement.{statement}
+use Rattle.setup.proofs.shape.misshapen.Tie as tie
 
 returns : tie.Need-returns
 unfolding misshapen

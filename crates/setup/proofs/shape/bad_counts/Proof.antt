@@ -1,8 +1,8 @@
 -- The tests are those of the definition, in its order.
 use mathlib.Core.Path.{refl}
 use Rattle.rules.specs.Opening.{badCounts}
-use Rattle.setup.proofs.fault.bad_counts.Statement.{statement}
-use Rattle.setup.proofs.fault.bad_counts.Tie as tie
+use Rattle.setup.proofs.shape.bad_counts.Statement.{statement}
+use Rattle.setup.proofs.shape.bad_counts.Tie as tie
 
 returns : tie.Need-returns
 unfolding badCounts

@@ -1,0 +1,34 @@
+// The shape of set-up bytes.
+ghost use mathlib.Core.Path.{_≡_};
+ghost use Rattle.rules.specs.Opening.{badCounts, misshapen};
+use crate::counts::counts;
+use crate::counts::length_of;
+use crate::limits::FEWEST_HOURS;
+use crate::limits::MOST_ACCOUNTS;
+use crate::limits::MOST_HOURS;
+use crate::limits::MOST_OPERATORS;
+use crate::limits::MOST_POINTS;
+use crate::limits::MOST_ZONES;
+use rules::Counts;
+
+// A count is out of range.
+pub fn bad_counts(n: Counts) -> bool
+    ensures { λ r. ⌜ r ≡ badCounts n ⌝ }
+{
+    !((FEWEST_HOURS <= n.hours) & (n.hours <= MOST_HOURS))
+        | !((1 <= n.operators) & (n.operators <= MOST_OPERATORS))
+        | !((1 <= n.accounts) & (n.accounts <= MOST_ACCOUNTS))
+        | !(n.points <= MOST_POINTS)
+        | !((1 <= n.zones) & (n.zones <= MOST_ZONES))
+}
+
+// Under 5 bytes, a count out of range, or a wrong length.
+pub fn misshapen(setup: &[u8]) -> bool
+    ensures { λ r. ⌜ r ≡ misshapen (now (setup .entry)) ⌝ }
+{
+    if setup.len() < 5 {
+        return true;
+    }
+    let n = counts(setup);
+    bad_counts(n) | (setup.len() != length_of(n))
+}
