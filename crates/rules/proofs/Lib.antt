@@ -29,7 +29,3 @@ pub mod RoundTrip
 pub mod SetupEntries
 -- SetupShape: what is known of set-up bytes that are in shape, and of those that are not refused.
 pub mod SetupShape
--- SetupBytes: the entries of a set-up and their bytes, there and back.
-pub mod SetupBytes
--- SetupFits: a set-up whose figures fit their bytes is what its bytes say.
-pub mod SetupFits
