@@ -1,3 +1,5 @@
 -- Laws of the bytes of a book.
 -- Soundness: what a valid book's tests say, each by its name.
 pub mod Soundness
+-- RowBytes: a row read at its place in the whole bytes.
+pub mod RowBytes

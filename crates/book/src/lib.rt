@@ -1,2 +1,3 @@
 // The book in its bytes.
 pub mod layout;
+pub mod rows;
