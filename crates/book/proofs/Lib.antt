@@ -3,3 +3,5 @@
 pub mod Soundness
 -- RowBytes: a row read at its place in the whole bytes.
 pub mod RowBytes
+-- SumLaws: what raising a range of cells does to the table of sums.
+pub mod SumLaws
