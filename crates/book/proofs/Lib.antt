@@ -5,3 +5,7 @@ pub mod Soundness
 pub mod RowBytes
 -- SumLaws: what raising a range of cells does to the table of sums.
 pub mod SumLaws
+-- ShareLaws: what one row adds to each lane.
+pub mod ShareLaws
+-- FillLaws: the table row by row.
+pub mod FillLaws

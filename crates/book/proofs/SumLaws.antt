@@ -37,8 +37,8 @@ raised-next before after at n m k q e d h r =
           ⊎-elim
           (λ (w : j < k). getD-set-other after k j _ 0 (λ z. omega arith) ∙ r .inside j l (omega arith))
           (λ (w : k ≤ j).
-              let same : j ≡ k = omega arith in
-              rw same (getD-set-same after k _ 0 h ∙ ap (λ (x : ℕ). x + q) (r .above k (omega arith))))
+          let same : j ≡ k = omega arith in
+          rw same (getD-set-same after k _ 0 h ∙ ap (λ (x : ℕ). x + q) (r .above k (omega arith))))
           (lt-or-ge j k);
       above = λ j l. getD-set-other after k j _ 0 (λ z. omega arith) ∙ r .above j (omega arith);
     }
@@ -49,11 +49,15 @@ raised-most before after at n q r k =
     ⊎-elim
     (λ (w : k < at). omega (arith, r .below k w))
     (λ (w : at ≤ k).
-        ⊎-elim
-        (λ (v : k < at + n). omega (arith, r .inside k w v))
-        (λ (v : at + n ≤ k). omega (arith, r .above k v))
-        (lt-or-ge k (at + n)))
+    ⊎-elim
+    (λ (v : k < at + n). omega (arith, r .inside k w v))
+    (λ (v : at + n ≤ k). omega (arith, r .above k v))
+    (lt-or-ge k (at + n)))
     (lt-or-ge k at)
+
+-- the cells past the range have the room that they had
+pub room-past : (before after : List ℕ) (at n q from : ℕ) → Raised before after at n q → at + n ≤ from → Room before 0 q → Room after from q
+room-past before after at n q from r h room k l = omega (arith, r .above k (omega arith), room k (omega arith))
 
 -- ---- the cells of a row's hours
 
@@ -97,11 +101,11 @@ module _ (lane account first last other a h : ℕ) (low : InTable account first)
           ⊎-elim
           (λ (w : cellOf other a h < cellOf lane account first). r .below (cellOf other a h) w ∙ omega arith)
           (λ (w : cellOf lane account first ≤ cellOf other a h).
-              ⊎-elim
-              (λ (v : cellOf other a h < cellOf lane account first + (last - first + 1)).
-                  let z : true ≡ false = sym (hits-inside w v) ∙ e in
-                  let y : _≡_ {A = ℕ} 0 1 = cc in
-                  absurd (omega arith))
-              (λ (v : cellOf lane account first + (last - first + 1) ≤ cellOf other a h). r .above (cellOf other a h) v ∙ omega arith)
-              (lt-or-ge (cellOf other a h) (cellOf lane account first + (last - first + 1))))
+          ⊎-elim
+          (λ (v : cellOf other a h < cellOf lane account first + (last - first + 1)).
+          let z : true ≡ false = sym (hits-inside w v) ∙ e in
+          let y : _≡_ {A = ℕ} 0 1 = cc in
+          absurd (omega arith))
+          (λ (v : cellOf lane account first + (last - first + 1) ≤ cellOf other a h). r .above (cellOf other a h) v ∙ omega arith)
+          (lt-or-ge (cellOf other a h) (cellOf lane account first + (last - first + 1))))
           (lt-or-ge (cellOf other a h) (cellOf lane account first))

@@ -4,15 +4,23 @@ ghost use mathlib.Core.List.{List};
 ghost use Prim.Native.Nat.{ℕ, _+_, _-_, _*_, _^_, _≤_, _<_};
 ghost use lib.ListN.{length, getD};
 ghost use Rattle.rules.specs.declared.Row.{Row};
-ghost use Rattle.rules.specs.Basics.{Each};
+ghost use Rattle.rules.specs.Basics.{if_then_else_, Each};
 ghost use Rattle.rules.specs.Limits.{mostAccounts, mostHours};
-ghost use Rattle.rules.specs.Registration.{buyer, seller};
 ghost use Rattle.book.specs.Sums.{rowsFrom, cellOf, InTable, SumsOf, Tabled, noSums, Room, Raised, Taken};
 use crate::layout::LANE_SIZE;
-use crate::layout::TABLE_SIZE;
 use crate::layout::ROW_WIDTH;
+use crate::layout::TABLE_SIZE;
 use crate::rows::row_at;
 use rules::Row;
+
+// The lanes of the table.
+const BOUGHT: usize = 0;
+
+const SOLD: usize = 1;
+
+const SALES: usize = 2;
+
+const PURCHASES: usize = 3;
 
 // Adds `q` to the `n` cells from `at` on.
 fn add_range(table: &mut [u32], at: usize, n: usize, q: u32)
@@ -44,4 +52,78 @@ fn add_hours(table: &mut [u32], lane: usize, account: u8, r: Row)
     let n = (r.last - r.first) as usize + 1;
     let quantity = r.quantity;
     add_range(table, at, n, quantity.0);
+}
+
+// The first where the test holds, else the second.
+fn pick(on: bool, a: u8, b: u8) -> u8
+    ensures { λ r. ⌜ r ≡ (if on then a else b) ⌝ }
+{
+    if on { a } else { b }
+}
+
+// A confirmed row: its buyer bought, and its seller sold.
+fn take_confirmed(table: &mut [u32], r: Row)
+    requires { ⌜ (length (now table) ≡ 3200) × Tabled r × Room (now table) 0 (r .quantity .0) × (r .status ≡ 2) ⌝ }
+    ensures { λ _. ⌜ Taken (now (table .entry)) (now (table .exit)) r ⌝ }
+{
+    let buyer = pick(r.side == 1, r.counterparty, r.proposer);
+    let seller = pick(r.side == 1, r.proposer, r.counterparty);
+    add_hours(table, BOUGHT, buyer, r);
+    add_hours(table, SOLD, seller, r);
+}
+
+// A pending row: it waits on its proposer, as a sale or as a purchase.
+fn take_pending(table: &mut [u32], r: Row)
+    requires { ⌜ (length (now table) ≡ 3200) × Tabled r × Room (now table) 0 (r .quantity .0) × (r .status ≡ 1) ⌝ }
+    ensures { λ _. ⌜ Taken (now (table .entry)) (now (table .exit)) r ⌝ }
+{
+    if r.side == 1 {
+        add_hours(table, SALES, r.proposer, r);
+    } else if r.side == 2 {
+        add_hours(table, PURCHASES, r.proposer, r);
+    }
+}
+
+// One row more. A withdrawn one counts for nobody.
+fn take_row(table: &mut [u32], r: Row)
+    requires { ⌜ (length (now table) ≡ 3200) × Tabled r × Room (now table) 0 (r .quantity .0) ⌝ }
+    ensures { λ _. ⌜ Taken (now (table .entry)) (now (table .exit)) r ⌝ }
+{
+    if r.status == 2 {
+        take_confirmed(table, r);
+    } else if r.status == 1 {
+        take_pending(table, r);
+    }
+}
+
+// A table of no rows.
+fn zeros() -> [u32; TABLE_SIZE]
+    ensures { λ r. ⌜ r ≡ noSums ⌝ }
+{
+    [0u32; TABLE_SIZE]
+}
+
+// Takes the `n` rows that stand from `at` on into a table of no rows.
+fn fill(table: &mut [u32], s: &[u8], at: usize, n: usize)
+    requires { ⌜ (now table ≡ noSums) × (at + 18 * n ≤ length (now s)) × (n ≤ 256) × Each Tabled (rowsFrom (now s) at n) ⌝ }
+    ensures { λ _. ⌜ SumsOf (rowsFrom (now (s .entry)) at n) (now (table .exit)) ⌝ }
+{
+    let mut place = at;
+    let mut left = n;
+    while 0 < left {
+        let r = row_at(s, place);
+        take_row(table, r);
+        place = place + ROW_WIDTH;
+        left = left - 1;
+    }
+}
+
+// The sums of all account hours by the `n` rows that stand from `at` on.
+pub fn sums_of(s: &[u8], at: usize, n: usize) -> [u32; TABLE_SIZE]
+    requires { ⌜ (at + 18 * n ≤ length (now s)) × (n ≤ 256) × Each Tabled (rowsFrom (now s) at n) ⌝ }
+    ensures { λ r. ⌜ SumsOf (rowsFrom (now (s .entry)) at n) r ⌝ }
+{
+    let mut table = zeros();
+    fill(&mut table, s, at, n);
+    table
 }
