@@ -9,3 +9,7 @@ pub mod SumLaws
 pub mod ShareLaws
 -- FillLaws: the table row by row.
 pub mod FillLaws
+-- CountingLaws: a loop that counts up, as a test of every number and as a sum.
+pub mod CountingLaws
+-- MarginLaws: margins account by account.
+pub mod MarginLaws

@@ -1,4 +1,5 @@
 // The book in its bytes.
 pub mod layout;
+pub mod margins;
 pub mod rows;
 pub mod sums;

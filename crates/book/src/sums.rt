@@ -4,14 +4,20 @@ ghost use mathlib.Core.List.{List};
 ghost use Prim.Native.Nat.{ℕ, _+_, _-_, _*_, _^_, _≤_, _<_};
 ghost use lib.ListN.{length, getD};
 ghost use Rattle.rules.specs.declared.Row.{Row};
-ghost use Rattle.rules.specs.Basics.{if_then_else_, Each};
+ghost use Rattle.rules.specs.Basics.{if_then_else_, every, upTo, Each};
 ghost use Rattle.rules.specs.Limits.{mostAccounts, mostHours};
-ghost use Rattle.book.specs.Sums.{rowsFrom, cellOf, InTable, SumsOf, Tabled, noSums, Room, Raised, Taken};
+ghost use Rattle.rules.specs.Registration.{accountHour};
+ghost use Rattle.book.specs.Sums.{rowsFrom, cellOf, InTable, SumsOf, Tabled, noSums, Room, Raised, Taken, netStored, netsStored};
+use crate::layout::ACCOUNT_NETS;
 use crate::layout::LANE_SIZE;
 use crate::layout::ROW_WIDTH;
 use crate::layout::TABLE_SIZE;
 use crate::rows::row_at;
+use rules::AccountHour;
+use rules::Net;
 use rules::Row;
+use units::Kwh;
+use wire::numbers::get_u32;
 
 // The lanes of the table.
 const BOUGHT: usize = 0;
@@ -126,4 +132,73 @@ pub fn sums_of(s: &[u8], at: usize, n: usize) -> [u32; TABLE_SIZE]
     let mut table = zeros();
     fill(&mut table, s, at, n);
     table
+}
+
+// The sum that a lane holds for an account hour.
+fn sum_at(table: &[u32], lane: usize, account: u8, hour: u8) -> u32
+    requires { ⌜ (length (now table) ≡ 3200) × (lane ≤ 3) × InTable account hour ⌝ }
+    ensures { λ r. ⌜ r ≡ getD (now (table .entry)) (cellOf lane account hour) 0 ⌝ }
+{
+    let k = cell(lane, account, hour);
+    table[k]
+}
+
+// What an account holds in an hour.
+pub fn account_hour(table: &[u32], account: u8, hour: u8) -> AccountHour
+    requires { ⌜ (length (now table) ≡ 3200) × InTable account hour ⌝ }
+    ensures { λ r. ⌜ ((rows : List Row) → SumsOf rows (now (table .entry)) → r ≡ accountHour rows account hour) ⌝ }
+{
+    let net = Net {
+        bought: Kwh(sum_at(table, BOUGHT, account, hour)),
+        sold: Kwh(sum_at(table, SOLD, account, hour)),
+    };
+    AccountHour {
+        net,
+        sales: Kwh(sum_at(table, SALES, account, hour)),
+        purchases: Kwh(sum_at(table, PURCHASES, account, hour)),
+    }
+}
+
+// Whether the 4 bytes of a net position are what the account bought in the hour less what it sold.
+fn net_kept(s: &[u8], nets: usize, table: &[u32], account: u8, hour: u8) -> bool
+    requires { ⌜ (nets + 3200 ≤ length (now s)) × (length (now table) ≡ 3200) × InTable account hour ⌝ }
+    ensures { λ r. ⌜ r ≡ netStored (now (s .entry)) nets (now (table .entry)) account hour ⌝ }
+{
+    let at = nets + ACCOUNT_NETS * (account as usize - 1) + 4 * (hour as usize - 1);
+    let stored = get_u32(s, at) as u64;
+    let bought = sum_at(table, BOUGHT, account, hour) as u64;
+    let sold = sum_at(table, SOLD, account, hour) as u64;
+    (stored + sold) % 4_294_967_296 == bought % 4_294_967_296
+}
+
+// The same for all hours of an account.
+fn account_nets_kept(s: &[u8], nets: usize, table: &[u32], account: u8) -> bool
+    requires { ⌜ (nets + 3200 ≤ length (now s)) × (length (now table) ≡ 3200) × (1 ≤ account) × (account ≤ mostAccounts) ⌝ }
+    ensures { λ r. ⌜ r ≡ every (netStored (now (s .entry)) nets (now (table .entry)) account) (upTo mostHours) ⌝ }
+{
+    let mut hour: u8 = 1;
+    while hour <= 25 {
+        if net_kept(s, nets, table, account, hour) {
+            hour = hour + 1;
+        } else {
+            return false;
+        }
+    }
+    true
+}
+
+// Whether all net positions that stand from `nets` on are those of the table.
+pub fn nets_kept(s: &[u8], nets: usize, table: &[u32]) -> bool
+    requires { ⌜ (nets + 3200 ≤ length (now s)) × (length (now table) ≡ 3200) ⌝ }
+    ensures { λ r. ⌜ r ≡ netsStored (now (s .entry)) nets (now (table .entry)) ⌝ }
+{
+    let mut account: u8 = 1;
+    while account <= 32 {
+        if account_nets_kept(s, nets, table, account) {
+            account = account + 1;
+        } else {
+            return false;
+        }
+    }
+    true
 }
