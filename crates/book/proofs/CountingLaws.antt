@@ -1,7 +1,8 @@
 -- A loop that counts up: a test of every number counted, and a sum over them, number by number.
 use Prim.Native.Nat.{ℕ, zero, suc, _+_, _≤_, _<_}
-use mathlib.Core.Path.{_≡_, refl}
+use mathlib.Core.Path.{_≡_, refl, sym, _∙_}
 use mathlib.Core.Bool.{Bool, true, false}
+use native.Mathlib.Nat.{zero-add, add-zero}
 use native.Mathlib.Numerals.{add-one}
 use native.Mathlib.Omega.{arith}
 use Rattle.rules.specs.Basics.{every, total, counting}
@@ -26,12 +27,19 @@ module _ (p : ℕ → Bool) where
   every-fails zero from h t = absurd (omega arith)
   every-fails (suc n) from h t = rw t
 
+-- a sum, and the total of the numbers that are left
 module _ (f : ℕ → ℕ) where
-  pub total-done : (n from : ℕ) → n ≤ 0 → total f (counting n from) ≡ 0
-  unfolding total counting
-  total-done zero from h = refl
-  total-done (suc n) from h = absurd (omega arith)
+  pub sum-begins : (n m from : ℕ) → n ≡ m → 0 + total f (counting n from) ≡ total f (counting m from)
+  sum-begins n m from e = rw e (zero-add _)
 
-  pub total-next : (n m from : ℕ) → n ≡ m + 1 → total f (counting n from) ≡ f from + total f (counting m (from + 1))
+  -- the first number's share is added
+  pub sum-next : (n m from sum more whole : ℕ) → n ≡ m + 1 → more ≡ sum + f from → sum + total f (counting n from) ≡ whole
+      → more + total f (counting m (from + 1)) ≡ whole
   unfolding total counting
-  total-next n m from e = rw (e, add-one m, add-one from)
+  sum-next n m from sum more whole e d h =
+      let step : total f (counting n from) ≡ f from + total f (counting m (from + 1)) = rw (e, add-one m, add-one from) in omega arith
+
+  pub sum-done : (n from sum whole : ℕ) → n ≤ 0 → sum + total f (counting n from) ≡ whole → sum ≡ whole
+  unfolding total counting
+  sum-done zero from sum whole h e = sym (add-zero sum) ∙ e
+  sum-done (suc n) from sum whole h e = absurd (omega arith)

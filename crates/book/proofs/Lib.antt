@@ -13,3 +13,5 @@ pub mod FillLaws
 pub mod CountingLaws
 -- MarginLaws: margins account by account.
 pub mod MarginLaws
+-- ExposureLaws: exposure hour by hour and account by account.
+pub mod ExposureLaws

@@ -8,9 +8,12 @@ use lib.Dec.{eqb}
 use Rattle.wire.specs.Numbers.{numberAt}
 use Rattle.wire.specs.Parts.{chunks}
 use Rattle.rules.specs.declared.Row.{Row}
-use Rattle.rules.specs.Basics.{every, upTo}
+use Rattle.rules.specs.Basics.{if_then_else_, total, every, upTo}
 use Rattle.rules.specs.Limits.{mostAccounts, mostHours, mostEnergy}
-use Rattle.rules.specs.Registration.{bought, sold, pendingSales, pendingPurchases}
+use Rattle.rules.specs.Books.{Setup, estimateAt, operatorOf}
+use Rattle.rules.specs.Opening.{countsIn}
+use Rattle.rules.specs.Registration.{bought, sold, pendingSales, pendingPurchases, accountHour, exposed}
+use Rattle.setup.specs.Faults.{Whole}
 use Rattle.book.specs.Layout.{rowWidth, accountWidth}
 use Rattle.book.specs.Image.{rowIn}
 
@@ -42,7 +45,7 @@ pub record SumsOf (rows : List Row) (table : List ℕ) : Type 0 where
   pub sales-at : (a h : ℕ) → InTable a h → getD table (cellOf 2 a h) 0 ≡ pendingSales rows a h
   pub purchases-at : (a h : ℕ) → InTable a h → getD table (cellOf 3 a h) 0 ≡ pendingPurchases rows a h
 
--- ---- how the table is filled
+-- ---- what the table has room for
 
 -- a row that the table has room for: its accounts, its hours and its quantity are in range
 pub record Tabled (r : Row) : Type 0 where
@@ -54,6 +57,14 @@ pub record Tabled (r : Row) : Type 0 where
   pub in-order : r .first ≤ r .last
   pub last-high : r .last ≤ mostHours
   pub quantity-high : r .quantity .0 ≤ mostEnergy
+
+-- a set-up in bytes whose accounts and hours the table has room for
+pub record SetupTabled (s : List ℕ) : Type 0 where
+  pub whole : Whole s
+  pub accounts-high : countsIn s .accounts ≤ mostAccounts
+  pub hours-high : countsIn s .hours ≤ mostHours
+
+-- ---- how the table is filled
 
 -- the table of no rows
 unfoldable pub noSums : List ℕ
@@ -93,3 +104,13 @@ netStored s at table a h =
 
 unfoldable pub netsStored : List ℕ → ℕ → List ℕ → Bool
 netsStored s at table = every (λ a. every (netStored s at table a) (upTo mostHours)) (upTo mostAccounts)
+
+-- ---- what the sums could cost
+
+-- what an account could cost over all hours, at the estimated prices
+unfoldable pub accountCost : Setup → List Row → ℕ → ℕ
+accountCost u rows a = total (λ h. estimateAt u h .0 * exposed (accountHour rows a h)) (upTo (u .hours))
+
+-- the same of an account of the operator, nothing of another's
+unfoldable pub operatorCost : Setup → List Row → ℕ → ℕ → ℕ
+operatorCost u rows o a = if eqb (operatorOf u a) o then accountCost u rows a else 0

@@ -3,14 +3,13 @@ ghost use mathlib.Core.Path.{_≡_};
 ghost use mathlib.Core.List.{List};
 ghost use Prim.Native.Nat.{_≤_};
 ghost use lib.ListN.{length};
-ghost use Rattle.setup.specs.Faults.{Whole};
 ghost use Rattle.rules.specs.declared.Row.{Row};
 ghost use Rattle.rules.specs.Basics.{every, upTo};
 ghost use Rattle.rules.specs.Limits.{mostAccounts, mostHours};
-ghost use Rattle.rules.specs.Opening.{countsIn, setupOf};
+ghost use Rattle.rules.specs.Opening.{setupOf};
 ghost use Rattle.rules.specs.Registration.{accountHour, keepsMargins};
 ghost use Rattle.book.specs.Valid.{marginsKept};
-ghost use Rattle.book.specs.Sums.{SumsOf};
+ghost use Rattle.book.specs.Sums.{SumsOf, SetupTabled};
 use crate::sums::account_hour;
 use rules::Account;
 use rules::AccountHour;
@@ -47,7 +46,7 @@ fn hours_kept(table: &[u32], account: Account, number: u8, hours: u8) -> bool
 
 // Whether every account keeps its margins in every hour.
 pub fn margins_kept(book: &[u8], table: &[u32]) -> bool
-    requires { ⌜ Whole (now book) × (countsIn (now book) .accounts ≤ mostAccounts) × (countsIn (now book) .hours ≤ mostHours) × (length (now table) ≡ 3200) ⌝ }
+    requires { ⌜ SetupTabled (now book) × (length (now table) ≡ 3200) ⌝ }
     ensures { λ r. ⌜ ((rows : List Row) → SumsOf rows (now (table .entry)) → r ≡ marginsKept (setupOf (now (book .entry))) rows) ⌝ }
 {
     let n = counts(book);
