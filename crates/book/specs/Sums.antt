@@ -105,12 +105,12 @@ netStored s at table a h =
 unfoldable pub netsStored : List ℕ → ℕ → List ℕ → Bool
 netsStored s at table = every (λ a. every (netStored s at table a) (upTo mostHours)) (upTo mostAccounts)
 
--- ---- what the sums could cost
+-- ---- exposure, account by account
 
--- what an account could cost over all hours, at the estimated prices
-unfoldable pub accountCost : Setup → List Row → ℕ → ℕ
-accountCost u rows a = total (λ h. estimateAt u h .0 * exposed (accountHour rows a h)) (upTo (u .hours))
+-- the exposure of an account over all hours, at the estimated prices
+unfoldable pub accountExposure : Setup → List Row → ℕ → ℕ
+accountExposure u rows a = total (λ h. estimateAt u h .0 * exposed (accountHour rows a h)) (upTo (u .hours))
 
--- the same of an account of the operator, nothing of another's
-unfoldable pub operatorCost : Setup → List Row → ℕ → ℕ → ℕ
-operatorCost u rows o a = if eqb (operatorOf u a) o then accountCost u rows a else 0
+-- what an account adds to an operator's exposure: nothing where it is another's
+unfoldable pub exposureShare : Setup → List Row → ℕ → ℕ → ℕ
+exposureShare u rows o a = if eqb (operatorOf u a) o then accountExposure u rows a else 0

@@ -8,7 +8,7 @@ ghost use Rattle.rules.specs.Basics.{Each};
 ghost use Rattle.rules.specs.Limits.{mostAccounts, mostHours, mostPrice};
 ghost use Rattle.rules.specs.Opening.{countsIn, setupOf, estimatesIn};
 ghost use Rattle.rules.specs.Registration.{exposed, exposure};
-ghost use Rattle.book.specs.Sums.{SumsOf, SetupTabled, accountCost, operatorCost};
+ghost use Rattle.book.specs.Sums.{SumsOf, SetupTabled, accountExposure, exposureShare};
 use crate::sums::account_hour;
 use rules::AccountHour;
 use rules::Net;
@@ -29,8 +29,8 @@ fn short(net: Net) -> Kwh
     Kwh(0)
 }
 
-// What an account hour could cost at a price.
-fn cost(x: AccountHour, price: CentsPerMwh) -> MilliCents
+// The exposure of an account hour at a price: what lies below zero, and the account's own pending sales in full.
+fn hour_exposure(x: AccountHour, price: CentsPerMwh) -> MilliCents
     requires { ⌜ price .0 ≤ mostPrice ⌝ }
     ensures { λ r. ⌜ (r .0 ≡ price .0 * exposed x) × (r .0 ≤ mostPrice * 2 ^ 33) ⌝ }
 {
@@ -40,10 +40,10 @@ fn cost(x: AccountHour, price: CentsPerMwh) -> MilliCents
     owed.plus(waits)
 }
 
-// What an account could cost over all hours, at the estimated prices.
-fn account_cost(book: &[u8], table: &[u32], number: u8) -> MilliCents
+// The exposure of an account over all hours, at the estimated prices.
+fn account_exposure(book: &[u8], table: &[u32], number: u8) -> MilliCents
     requires { ⌜ SetupTabled (now book) × Each (λ p. p .0 ≤ mostPrice) (estimatesIn (now book)) × (length (now table) ≡ 3200) × (1 ≤ number) × (number ≤ mostAccounts) ⌝ }
-    ensures meaning { λ r. ⌜ ((rows : List Row) → SumsOf rows (now (table .entry)) → r .0 ≡ accountCost (setupOf (now (book .entry))) rows number) ⌝ }
+    ensures meaning { λ r. ⌜ ((rows : List Row) → SumsOf rows (now (table .entry)) → r .0 ≡ accountExposure (setupOf (now (book .entry))) rows number) ⌝ }
     ensures bounded { λ r. ⌜ r .0 ≤ mostHours * (mostPrice * 2 ^ 33) ⌝ }
 {
     let n = counts(book);
@@ -52,26 +52,26 @@ fn account_cost(book: &[u8], table: &[u32], number: u8) -> MilliCents
     while hour <= n.hours {
         let x = account_hour(table, number, hour);
         let price = estimate(book, hour);
-        sum = sum.plus(cost(x, price));
+        sum = sum.plus(hour_exposure(x, price));
         hour = hour + 1;
     }
     sum
 }
 
-// The same, of an account of the operator; nothing of another's.
-fn operator_cost(book: &[u8], table: &[u32], number: u8, operator: u8) -> MilliCents
+// What an account adds to the operator's exposure: nothing where it is another's.
+fn exposure_share(book: &[u8], table: &[u32], number: u8, operator: u8) -> MilliCents
     requires { ⌜ SetupTabled (now book) × Each (λ p. p .0 ≤ mostPrice) (estimatesIn (now book)) × (length (now table) ≡ 3200) × (1 ≤ number) × (number ≤ countsIn (now book) .accounts) ⌝ }
-    ensures meaning { λ r. ⌜ ((rows : List Row) → SumsOf rows (now (table .entry)) → r .0 ≡ operatorCost (setupOf (now (book .entry))) rows operator number) ⌝ }
+    ensures meaning { λ r. ⌜ ((rows : List Row) → SumsOf rows (now (table .entry)) → r .0 ≡ exposureShare (setupOf (now (book .entry))) rows operator number) ⌝ }
     ensures bounded { λ r. ⌜ r .0 ≤ mostHours * (mostPrice * 2 ^ 33) ⌝ }
 {
     let owner = account(book, number);
     if owner.operator == operator {
-        return account_cost(book, table, number);
+        return account_exposure(book, table, number);
     }
     MilliCents(0)
 }
 
-// The operator's exposure.
+// The exposure of an operator.
 pub fn exposure_of(book: &[u8], table: &[u32], operator: u8) -> MilliCents
     requires { ⌜ SetupTabled (now book) × Each (λ p. p .0 ≤ mostPrice) (estimatesIn (now book)) × (length (now table) ≡ 3200) ⌝ }
     ensures { λ r. ⌜ ((rows : List Row) → SumsOf rows (now (table .entry)) → r .0 ≡ exposure (setupOf (now (book .entry))) rows operator) ⌝ }
@@ -80,7 +80,7 @@ pub fn exposure_of(book: &[u8], table: &[u32], operator: u8) -> MilliCents
     let mut sum = MilliCents(0);
     let mut number: u8 = 1;
     while number <= n.accounts {
-        sum = sum.plus(operator_cost(book, table, number, operator));
+        sum = sum.plus(exposure_share(book, table, number, operator));
         number = number + 1;
     }
     sum

@@ -1,4 +1,4 @@
--- The sum and what the accounts that are left could cost make the operator's exposure, whatever rows the table is of.
+-- The sum and what the accounts that are left add make the operator's exposure, whatever rows the table is of.
 use Prim.Native.Nat.{ℕ, _+_, _-_, _*_, _^_, _≤_}
 use mathlib.Core.Path.{_≡_, _∙_, sym, ap}
 use mathlib.Core.List.{List}
@@ -9,7 +9,7 @@ use Rattle.rules.specs.declared.Row.{Row}
 use Rattle.rules.specs.Basics.{total, counting}
 use Rattle.rules.specs.Limits.{mostHours, mostPrice}
 use Rattle.rules.specs.Opening.{countsIn, setupOf}
-use Rattle.book.specs.Sums.{SumsOf, operatorCost}
+use Rattle.book.specs.Sums.{SumsOf, exposureShare}
 use Rattle.book.proofs.CountingLaws.{sum-begins, sum-next, sum-done}
 use Rattle.book.proofs.ExposureLaws.{exposure-by-account}
 use Rattle.book.proofs.exposure.exposure_of.Statement.{statement}
@@ -22,8 +22,8 @@ Inv-loop book table operator n sum₀ number₀ sum number =
     × (number ≤ countsIn book .accounts + 1)
     × (sum .0 ≤ (number - 1) * (mostHours * (mostPrice * 2 ^ 33)))
     × ((rows : List Row) → SumsOf rows table
-    → sum .0 + total (operatorCost (setupOf book) rows operator) (counting (countsIn book .accounts + 1 - number) number)
-    ≡ total (operatorCost (setupOf book) rows operator) (counting (countsIn book .accounts) 1))
+    → sum .0 + total (exposureShare (setupOf book) rows operator) (counting (countsIn book .accounts + 1 - number) number)
+    ≡ total (exposureShare (setupOf book) rows operator) (counting (countsIn book .accounts) 1))
 
 abbrev μ-loop : tie.MeasureT-loop
 μ-loop book table operator n sum₀ number₀ sum number = countsIn book .accounts + 1 - number
@@ -40,8 +40,8 @@ loop-holds c = (
   λ rows sums. sum-begins _ _ _ _ (omega arith),
 )
 
-operator-cost-requires : tie.Need-operator-cost-requires Inv-loop μ-loop
-operator-cost-requires c κs = search needs
+exposure-share-requires : tie.Need-exposure-share-requires Inv-loop μ-loop
+exposure-share-requires c κs = search needs
 
 plus-requires : tie.Need-plus-requires Inv-loop μ-loop
 plus-requires c κs = search needs
@@ -55,12 +55,12 @@ loop-less c = search needs
 loop-again : tie.Need-loop-again Inv-loop μ-loop
 loop-again c =
     let l = c .before .before .before .before .loop in
-    let cost = c .before .operator-cost .ensures .0 in (
+    let share = c .before .exposure-share .ensures .0 in (
       l .inv .0,
       search needs,
       search needs,
       search needs,
-      λ rows sums. sum-next _ _ _ _ _ _ _ (omega arith) (c .plus .ensures ∙ ap (λ (x : ℕ). l .sum .0 + x) (cost rows sums)) (l .inv .4 rows sums),
+      λ rows sums. sum-next _ _ _ _ _ _ _ (omega arith) (c .plus .ensures ∙ ap (λ (x : ℕ). l .sum .0 + x) (share rows sums)) (l .inv .4 rows sums),
     )
 
 returns : tie.Need-returns Inv-loop μ-loop
@@ -76,7 +76,7 @@ exposure-of-spec =
     μ-loop
     counts-requires
     loop-holds
-    operator-cost-requires
+    exposure-share-requires
     plus-requires
     add-number
     loop-less

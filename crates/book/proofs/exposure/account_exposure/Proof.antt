@@ -1,4 +1,4 @@
--- The sum and what the hours that are left could cost make what all hours could cost, whatever rows the table is of.
+-- The sum and the exposure of the hours that are left make that of all hours, whatever rows the table is of.
 use Prim.Native.Nat.{ℕ, _+_, _-_, _*_, _^_, _≤_}
 use mathlib.Core.Path.{_≡_, _∙_, sym, ap}
 use mathlib.Core.List.{List}
@@ -11,9 +11,9 @@ use Rattle.rules.specs.Limits.{mostPrice}
 use Rattle.rules.specs.Opening.{countsIn}
 use Rattle.book.specs.Sums.{SumsOf}
 use Rattle.book.proofs.CountingLaws.{sum-begins, sum-next, sum-done}
-use Rattle.book.proofs.ExposureLaws.{hourCost, hour-cost, cost-by-hour, estimate-small}
-use Rattle.book.proofs.exposure.account_cost.Statement.{statement}
-use Rattle.book.proofs.exposure.account_cost.Tie as tie
+use Rattle.book.proofs.ExposureLaws.{hourExposure, hour-exposure-read, exposure-by-hour, estimate-small}
+use Rattle.book.proofs.exposure.account_exposure.Statement.{statement}
+use Rattle.book.proofs.exposure.account_exposure.Tie as tie
 
 abbrev Inv-loop : tie.InvT-loop
 Inv-loop book table number n sum₀ hour₀ sum hour =
@@ -22,8 +22,8 @@ Inv-loop book table number n sum₀ hour₀ sum hour =
     × (hour ≤ countsIn book .hours + 1)
     × (sum .0 ≤ (hour - 1) * (mostPrice * 2 ^ 33))
     × ((rows : List Row) → SumsOf rows table
-    → sum .0 + total (hourCost book rows number) (counting (countsIn book .hours + 1 - hour) hour)
-    ≡ total (hourCost book rows number) (counting (countsIn book .hours) 1))
+    → sum .0 + total (hourExposure book rows number) (counting (countsIn book .hours + 1 - hour) hour)
+    ≡ total (hourExposure book rows number) (counting (countsIn book .hours) 1))
 
 abbrev μ-loop : tie.MeasureT-loop
 μ-loop book table number n sum₀ hour₀ sum hour = countsIn book .hours + 1 - hour
@@ -46,8 +46,8 @@ account-hour-requires c κs = search needs
 estimate-requires : tie.Need-estimate-requires Inv-loop μ-loop
 estimate-requires c κs = search needs
 
-cost-requires : tie.Need-cost-requires Inv-loop μ-loop
-cost-requires c κs =
+hour-exposure-requires : tie.Need-hour-exposure-requires Inv-loop μ-loop
+hour-exposure-requires c κs =
     let start = c .before .before .before .before .before .before .before .before in
     rw (c .estimate .ensures) (estimate-small (start .args .book .now) (c .before .before .before .before .loop .hour) (start .pre .1) (omega arith) (omega arith))
 
@@ -63,7 +63,7 @@ loop-less c = search needs
 loop-again : tie.Need-loop-again Inv-loop μ-loop
 loop-again c =
     let l = c .before .before .before .before .before .before .loop in
-    let cost = c .before .cost .ensures .0 in
+    let exact = c .before .hour-exposure .ensures .0 in
     let price = c .before .before .estimate .ensures in
     let hour = c .before .before .before .account-hour in (
       l .inv .0,
@@ -71,16 +71,16 @@ loop-again c =
       search needs,
       search needs,
       λ rows sums.
-          sum-next _ _ _ _ _ _ _ (omega arith) (c .plus .ensures ∙ ap (λ (x : ℕ). l .sum .0 + x) (hour-cost _ rows _ _ _ _ price (hour .ensures rows sums) cost)) (l .inv .4 rows sums),
+          sum-next _ _ _ _ _ _ _ (omega arith) (c .plus .ensures ∙ ap (λ (x : ℕ). l .sum .0 + x) (hour-exposure-read _ rows _ _ _ _ price (hour .ensures rows sums) exact)) (l .inv .4 rows sums),
     )
 
 returns : tie.Need-returns Inv-loop μ-loop
 returns c =
     let l = c .before .before .loop in
-    ((λ rows sums. sum-done _ _ _ _ _ (omega arith) (l .inv .4 rows sums) ∙ sym (cost-by-hour _ rows _)), search needs)
+    ((λ rows sums. sum-done _ _ _ _ _ (omega arith) (l .inv .4 rows sums) ∙ sym (exposure-by-hour _ rows _)), search needs)
 
-pub account-cost-spec : {M : Type 1} → statement M
-account-cost-spec =
+pub account-exposure-spec : {M : Type 1} → statement M
+account-exposure-spec =
     tie.close
     (tie.spec
     Inv-loop
@@ -89,7 +89,7 @@ account-cost-spec =
     loop-holds
     account-hour-requires
     estimate-requires
-    cost-requires
+    hour-exposure-requires
     plus-requires
     add-hour
     loop-less
