@@ -1,19 +1,18 @@
 -- The table row by row: what it holds and the sums of the rows that are left make the sums of all rows.
-use Prim.Native.Nat.{ℕ, zero, suc, _+_, _-_, _*_, _^_, _≤_, _<_}
-use mathlib.Core.Path.{_≡_, refl, sym, ap, _∙_}
-use mathlib.Core.List.{List, [], _∷_, map}
-use native.Mathlib.Nat.{add-zero}
+use Prim.Native.Nat.{ℕ, zero, suc, _+_, _^_, _≤_, _<_}
+use mathlib.Core.Path.{_≡_, refl, ap, _∙_}
+use mathlib.Core.List.{List, [], _∷_}
 use native.Mathlib.Numerals.{add-one}
 use native.Mathlib.Omega.{arith}
 use lib.ListN.{length, getD, take, drop, replicate, length-replicate}
 use lib.Seq.{drop-drop}
 use Rattle.wire.specs.Parts.{chunks}
 use Rattle.rules.specs.declared.Row.{Row}
-use Rattle.rules.specs.Basics.{total, Each, nil, cons}
+use Rattle.rules.specs.Basics.{total, Each, cons}
 use Rattle.rules.specs.Limits.{mostEnergy}
 use Rattle.rules.specs.Registration.{moved, waiting}
 use Rattle.book.specs.Image.{rowIn}
-use Rattle.book.specs.Sums.{rowsFrom, laneSize, cellOf, InTable, SumsOf, Tabled, noSums, Room, Taken, laneSum}
+use Rattle.book.specs.Sums.{rowsFrom, cellOf, InTable, SumsOf, Tabled, noSums, Room, Taken, laneSum}
 
 -- ---- the rows one after the other
 

@@ -1,12 +1,12 @@
 -- Margins account by account, as the bytes of the set-up have the accounts.
 use Prim.Native.Nat.{ℕ}
-use mathlib.Core.Path.{_≡_, refl, sym}
+use mathlib.Core.Path.{_≡_, sym}
 use mathlib.Core.List.{List}
 use mathlib.Core.Bool.{Bool}
-use lib.ListN.{length, drop}
+use lib.ListN.{drop}
 use Rattle.rules.specs.declared.Account.{Account}
 use Rattle.rules.specs.declared.Row.{Row}
-use Rattle.rules.specs.Basics.{every, nth, counting, upTo, entries}
+use Rattle.rules.specs.Basics.{every, nth, counting, upTo}
 use Rattle.rules.specs.Books.{noAccount}
 use Rattle.rules.specs.Opening.{countsIn, setupOf, accountsIn, accountIn, accountsFrom}
 use Rattle.rules.specs.Registration.{accountHour, keepsMargins}

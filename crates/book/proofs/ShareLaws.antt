@@ -1,18 +1,18 @@
 -- What one row adds to each lane: by cases on the lane, with the row's status and side known.
-use Prim.Native.Nat.{ℕ, zero, suc, _+_, _-_, _*_, _^_, _≤_, _<_}
+use Prim.Native.Nat.{ℕ, zero, suc, _+_, _-_, _≤_, _<_}
 use mathlib.Core.Path.{_≡_, refl, sym, ap, _∙_}
 use mathlib.Core.List.{List, [], _∷_}
 use mathlib.Core.Bool.{Bool, true, false, _&&_}
 use mathlib.Core.Logic.{⊎-elim}
 use native.Mathlib.Nat.{add-zero}
 use native.Mathlib.Omega.{arith}
-use lib.ListN.{length, getD}
+use lib.ListN.{getD}
 use lib.Dec.{eqb}
 use borrow.Author.Tests.{ne-eqb}
 use Rattle.rules.specs.declared.Row.{Row}
-use Rattle.rules.specs.Basics.{if_then_else_, total, within}
+use Rattle.rules.specs.Basics.{if_then_else_, total}
 use Rattle.rules.specs.Limits.{mostAccounts}
-use Rattle.rules.specs.Registration.{moved, waiting, covers, pending, confirmed, counted, buyer, seller}
+use Rattle.rules.specs.Registration.{moved, waiting, buyer, seller}
 use Rattle.book.specs.Sums.{cellOf, InTable, Tabled, Raised, Taken, laneSum}
 use Rattle.book.proofs.SumLaws.{lt-or-ge, hits, raised-cell, raised-most}
 

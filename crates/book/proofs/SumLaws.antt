@@ -1,21 +1,18 @@
 -- Cells of the table of sums: a range raised by a row's quantity gives the row's share to each account hour, and to no other.
-use Prim.Native.Nat.{ℕ, zero, suc, _+_, _-_, _*_, _^_, _≤_, _<_}
+use Prim.Native.Nat.{ℕ, _+_, _-_, _≤_, _<_}
 use mathlib.Core.Path.{_≡_, refl, sym, ap, _∙_}
-use mathlib.Core.List.{List, [], _∷_}
+use mathlib.Core.List.{List}
 use mathlib.Core.Bool.{Bool, true, false, _&&_}
 use mathlib.Core.Logic.{_⊎_, inl, inr, ⊎-elim}
 use native.Mathlib.Nat.{eq-zero-or-pos}
 use native.Mathlib.Omega.{arith}
 use lib.ListN.{length, getD, set}
 use lib.Seq.{getD-set-other, getD-set-same}
-use lib.Dec.{eqb, leb}
+use lib.Dec.{eqb}
 use borrow.Author.Tests.{eqb-true, eq-eqb}
-use Rattle.rules.specs.declared.Row.{Row}
-use Rattle.rules.specs.Basics.{if_then_else_, total, within}
-use Rattle.rules.specs.Limits.{mostAccounts, mostHours}
-use Rattle.rules.specs.Registration.{moved, waiting, covers, buyer, seller}
-use Rattle.rules.proofs.Tests.{and-both, within-true, test-same}
-use Rattle.book.specs.Sums.{cellOf, InTable, Tabled, Room, Raised, Taken, laneSum}
+use Rattle.rules.specs.Basics.{if_then_else_, within}
+use Rattle.rules.proofs.Tests.{and-both, within-true}
+use Rattle.book.specs.Sums.{cellOf, InTable, Room, Raised}
 
 -- of two numbers, the first is below the second or it is not
 pub lt-or-ge : (a b : ℕ) → (a < b) ⊎ (b ≤ a)

@@ -22,9 +22,11 @@ pub fn keeps_margins(account: Account, x: AccountHour) -> bool
 {
     let bought = x.net.bought.0 as u64;
     let sold = x.net.sold.0 as u64;
-    let low = sold + x.sales.0 as u64;
-    let high = bought + x.purchases.0 as u64;
-    (low <= bought + account.lower.0 as u64) & (high <= sold + account.upper.0 as u64)
+    let sales = x.sales.0 as u64;
+    let purchases = x.purchases.0 as u64;
+    let lower = account.lower.0 as u64;
+    let upper = account.upper.0 as u64;
+    (sold + sales <= bought + lower) & (bought + purchases <= sold + upper)
 }
 
 // Whether the account of that number keeps its margins in each hour.

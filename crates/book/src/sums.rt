@@ -1,7 +1,7 @@
 // The sums of all account hours in one pass over the rows, and what is read off them.
 ghost use mathlib.Core.Path.{_≡_};
 ghost use mathlib.Core.List.{List};
-ghost use Prim.Native.Nat.{ℕ, _+_, _-_, _*_, _^_, _≤_, _<_};
+ghost use Prim.Native.Nat.{_+_, _-_, _*_, _≤_, _<_};
 ghost use lib.ListN.{length, getD};
 ghost use Rattle.rules.specs.declared.Row.{Row};
 ghost use Rattle.rules.specs.Basics.{if_then_else_, every, upTo, Each};
@@ -28,6 +28,16 @@ const SALES: usize = 2;
 
 const PURCHASES: usize = 3;
 
+// The account hours of a table, and the cells of an account in a lane.
+const MOST_ACCOUNTS: u8 = 32;
+
+const MOST_HOURS: u8 = 25;
+
+const ACCOUNT_CELLS: usize = 25;
+
+// What 4 bytes count to.
+const TURN: u64 = 4_294_967_296;
+
 // Adds `q` to the `n` cells from `at` on.
 fn add_range(table: &mut [u32], at: usize, n: usize, q: u32)
     requires { ⌜ (at + n ≤ length (now table)) × Room (now table) at q ⌝ }
@@ -46,7 +56,7 @@ fn cell(lane: usize, account: u8, hour: u8) -> usize
     requires { ⌜ (lane ≤ 3) × InTable account hour ⌝ }
     ensures { λ r. ⌜ r ≡ cellOf lane account hour ⌝ }
 {
-    LANE_SIZE * lane + (25 * (account as usize - 1) + (hour as usize - 1))
+    LANE_SIZE * lane + (ACCOUNT_CELLS * (account as usize - 1) + (hour as usize - 1))
 }
 
 // Adds the row's quantity to the account's cells of its hours in a lane.
@@ -168,7 +178,7 @@ fn net_kept(s: &[u8], nets: usize, table: &[u32], account: u8, hour: u8) -> bool
     let stored = get_u32(s, at) as u64;
     let bought = sum_at(table, BOUGHT, account, hour) as u64;
     let sold = sum_at(table, SOLD, account, hour) as u64;
-    (stored + sold) % 4_294_967_296 == bought % 4_294_967_296
+    (stored + sold) % TURN == bought % TURN
 }
 
 // The same for all hours of an account.
@@ -177,7 +187,7 @@ fn account_nets_kept(s: &[u8], nets: usize, table: &[u32], account: u8) -> bool
     ensures { λ r. ⌜ r ≡ every (netStored (now (s .entry)) nets (now (table .entry)) account) (upTo mostHours) ⌝ }
 {
     let mut hour: u8 = 1;
-    while hour <= 25 {
+    while hour <= MOST_HOURS {
         if net_kept(s, nets, table, account, hour) {
             hour = hour + 1;
         } else {
@@ -193,7 +203,7 @@ pub fn nets_kept(s: &[u8], nets: usize, table: &[u32]) -> bool
     ensures { λ r. ⌜ r ≡ netsStored (now (s .entry)) nets (now (table .entry)) ⌝ }
 {
     let mut account: u8 = 1;
-    while account <= 32 {
+    while account <= MOST_ACCOUNTS {
         if account_nets_kept(s, nets, table, account) {
             account = account + 1;
         } else {

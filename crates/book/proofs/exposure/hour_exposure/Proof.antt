@@ -1,5 +1,4 @@
 -- Both amounts at the price are their sum at the price, and each is bounded by the width of an energy.
-use mathlib.Core.Path.{_≡_}
 use native.Mathlib.Omega.{arith}
 use Rattle.book.proofs.ExposureLaws.{price-bounded, price-joined}
 use borrow.Author.Needs.{needs}

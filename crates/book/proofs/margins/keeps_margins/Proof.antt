@@ -11,29 +11,29 @@ cast-bought c = search needs
 cast-sold : tie.Need-cast-sold
 cast-sold c = search needs
 
-cast-low : tie.Need-cast-low
-cast-low c = search needs
+cast-sales : tie.Need-cast-sales
+cast-sales c = search needs
 
-add-low : tie.Need-add-low
-add-low c = search needs
+cast-purchases : tie.Need-cast-purchases
+cast-purchases c = search needs
 
-cast-high : tie.Need-cast-high
-cast-high c = search needs
+cast-lower : tie.Need-cast-lower
+cast-lower c = search needs
 
-add-high : tie.Need-add-high
-add-high c = search needs
-
-cast-result : tie.Need-cast-result
-cast-result c = search needs
+cast-upper : tie.Need-cast-upper
+cast-upper c = search needs
 
 add-result : tie.Need-add-result
 add-result c = search needs
 
-cast-result-2 : tie.Need-cast-result-2
-cast-result-2 c = search needs
-
 add-result-2 : tie.Need-add-result-2
 add-result-2 c = search needs
+
+add-result-3 : tie.Need-add-result-3
+add-result-3 c = search needs
+
+add-result-4 : tie.Need-add-result-4
+add-result-4 c = search needs
 
 returns : tie.Need-returns
 unfolding keepsMargins
@@ -45,12 +45,12 @@ keeps-margins-spec =
     (tie.spec
     cast-bought
     cast-sold
-    cast-low
-    add-low
-    cast-high
-    add-high
-    cast-result
+    cast-sales
+    cast-purchases
+    cast-lower
+    cast-upper
     add-result
-    cast-result-2
     add-result-2
+    add-result-3
+    add-result-4
     returns)

@@ -1,5 +1,4 @@
 -- The buyer's cells are raised in the first lane and then the seller's in the second, which the first has not touched.
-use mathlib.Core.Path.{_≡_}
 use native.Mathlib.Omega.{arith}
 use Rattle.book.proofs.SumLaws.{room-past}
 use Rattle.book.proofs.ShareLaws.{buyer-in, seller-in, taken-confirmed}
