@@ -1,13 +1,20 @@
 -- The sums of all account hours in one table of four lanes: bought, sold, pending sales, pending purchases, by account and then hour.
-use Prim.Native.Nat.{ℕ, _+_, _-_, _*_, _^_, _≤_, _<_}
+use Prim.Native.Nat.{ℕ, zero, suc, _+_, _-_, _*_, _%_, _^_, _≤_, _<_}
 use mathlib.Core.Path.{_≡_}
-use mathlib.Core.List.{List, map}
-use lib.ListN.{length, getD, drop}
+use mathlib.Core.List.{List, [], _∷_, map}
+use mathlib.Core.Bool.{Bool}
+use lib.ListN.{length, getD, drop, replicate}
+use lib.Dec.{eqb}
+use Rattle.wire.specs.Numbers.{numberAt}
 use Rattle.wire.specs.Parts.{chunks}
 use Rattle.rules.specs.declared.Row.{Row}
-use Rattle.rules.specs.Limits.{mostAccounts, mostHours}
-use Rattle.rules.specs.Registration.{bought, sold, pendingSales, pendingPurchases}
-use Rattle.book.specs.Layout.{rowWidth}
+use Rattle.rules.specs.Basics.{if_then_else_, total, every, upTo}
+use Rattle.rules.specs.Limits.{mostAccounts, mostHours, mostEnergy}
+use Rattle.rules.specs.Books.{Setup, estimateAt, operatorOf}
+use Rattle.rules.specs.Opening.{countsIn}
+use Rattle.rules.specs.Registration.{bought, sold, pendingSales, pendingPurchases, accountHour, exposed}
+use Rattle.setup.specs.Faults.{Whole}
+use Rattle.book.specs.Layout.{rowWidth, accountWidth}
 use Rattle.book.specs.Image.{rowIn}
 
 -- the n rows that stand in bytes from `at` on
@@ -37,3 +44,73 @@ pub record SumsOf (rows : List Row) (table : List ℕ) : Type 0 where
   pub sold-at : (a h : ℕ) → InTable a h → getD table (cellOf 1 a h) 0 ≡ sold rows a h
   pub sales-at : (a h : ℕ) → InTable a h → getD table (cellOf 2 a h) 0 ≡ pendingSales rows a h
   pub purchases-at : (a h : ℕ) → InTable a h → getD table (cellOf 3 a h) 0 ≡ pendingPurchases rows a h
+
+-- ---- what the table has room for
+
+-- a row that the table has room for: its accounts, its hours and its quantity are in range
+pub record Tabled (r : Row) : Type 0 where
+  pub proposer-low : 1 ≤ r .proposer
+  pub proposer-high : r .proposer ≤ mostAccounts
+  pub counterparty-low : 1 ≤ r .counterparty
+  pub counterparty-high : r .counterparty ≤ mostAccounts
+  pub first-low : 1 ≤ r .first
+  pub in-order : r .first ≤ r .last
+  pub last-high : r .last ≤ mostHours
+  pub quantity-high : r .quantity .0 ≤ mostEnergy
+
+-- a set-up in bytes whose accounts and hours the table has room for
+pub record SetupTabled (s : List ℕ) : Type 0 where
+  pub whole : Whole s
+  pub accounts-high : countsIn s .accounts ≤ mostAccounts
+  pub hours-high : countsIn s .hours ≤ mostHours
+
+-- ---- how the table is filled
+
+-- the table of no rows
+unfoldable pub noSums : List ℕ
+noSums = replicate (4 * laneSize) 0
+
+-- each cell from `at` on can grow by q and stays within its 32 bits
+abbrev pub Room : List ℕ → ℕ → ℕ → Type 0
+Room table at q = (k : ℕ) → at ≤ k → getD table k 0 + q < 2 ^ 32
+
+-- q is added to the n cells from `at` on, and to no other
+pub record Raised (before after : List ℕ) (at n q : ℕ) : Type 0 where
+  pub below : (k : ℕ) → k < at → getD after k 0 ≡ getD before k 0
+  pub inside : (k : ℕ) → at ≤ k → k < at + n → getD after k 0 ≡ getD before k 0 + q
+  pub above : (k : ℕ) → at + n ≤ k → getD after k 0 ≡ getD before k 0
+
+-- what a lane is the sum of
+unfoldable pub laneSum : ℕ → List Row → ℕ → ℕ → ℕ
+laneSum zero = bought
+laneSum (suc zero) = sold
+laneSum (suc (suc zero)) = pendingSales
+laneSum (suc (suc (suc lane))) = pendingPurchases
+
+-- one row more: each account hour of each lane has its share, and no cell grows by more than the row's quantity
+pub record Taken (before after : List ℕ) (r : Row) : Type 0 where
+  pub share : (lane a h : ℕ) → lane ≤ 3 → InTable a h
+      → getD after (cellOf lane a h) 0 ≡ getD before (cellOf lane a h) 0 + laneSum lane (r ∷ []) a h
+  pub grown : (k : ℕ) → getD after k 0 ≤ getD before k 0 + r .quantity .0
+
+-- ---- what is stored of the sums
+
+-- the 4 bytes of each net position are bought less sold in two's complement: with what is sold added they come to what is bought
+unfoldable pub netStored : List ℕ → ℕ → List ℕ → ℕ → ℕ → Bool
+netStored s at table a h =
+    eqb
+    ((numberAt s (at + accountWidth mostHours * (a - 1) + 4 * (h - 1)) 4 + getD table (cellOf 1 a h) 0) % 2 ^ 32)
+    (getD table (cellOf 0 a h) 0 % 2 ^ 32)
+
+unfoldable pub netsStored : List ℕ → ℕ → List ℕ → Bool
+netsStored s at table = every (λ a. every (netStored s at table a) (upTo mostHours)) (upTo mostAccounts)
+
+-- ---- exposure, account by account
+
+-- the exposure of an account over all hours, at the estimated prices
+unfoldable pub accountExposure : Setup → List Row → ℕ → ℕ
+accountExposure u rows a = total (λ h. estimateAt u h .0 * exposed (accountHour rows a h)) (upTo (u .hours))
+
+-- what an account adds to an operator's exposure: nothing where it is another's
+unfoldable pub exposureShare : Setup → List Row → ℕ → ℕ → ℕ
+exposureShare u rows o a = if eqb (operatorOf u a) o then accountExposure u rows a else 0

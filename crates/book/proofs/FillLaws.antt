@@ -1,0 +1,105 @@
+-- The table row by row: what it holds and the sums of the rows that are left make the sums of all rows.
+use Prim.Native.Nat.{ℕ, zero, suc, _+_, _^_, _≤_, _<_}
+use mathlib.Core.Path.{_≡_, refl, ap, _∙_}
+use mathlib.Core.List.{List, [], _∷_}
+use native.Mathlib.Numerals.{add-one}
+use native.Mathlib.Omega.{arith}
+use lib.ListN.{length, getD, take, drop, replicate, length-replicate}
+use lib.Seq.{drop-drop}
+use Rattle.wire.specs.Parts.{chunks}
+use Rattle.rules.specs.declared.Row.{Row}
+use Rattle.rules.specs.Basics.{total, Each, cons}
+use Rattle.rules.specs.Limits.{mostEnergy}
+use Rattle.rules.specs.Registration.{moved, waiting}
+use Rattle.book.specs.Image.{rowIn}
+use Rattle.book.specs.Sums.{rowsFrom, cellOf, InTable, SumsOf, Tabled, noSums, Room, Taken, laneSum}
+
+-- ---- the rows one after the other
+
+pub rows-done : (s : List ℕ) (at n : ℕ) → n ≤ 0 → rowsFrom s at n ≡ []
+unfolding rowsFrom chunks
+rows-done s at zero h = refl
+rows-done s at (suc n) h = absurd (omega arith)
+
+pub rows-step : (s : List ℕ) (at n m : ℕ) → n ≡ m + 1 → rowsFrom s at n ≡ rowIn (take 18 (drop at s)) ∷ rowsFrom s (at + 18) m
+unfolding rowsFrom chunks
+rows-step s at n m e = rw (e, add-one, drop-drop 18 at s)
+
+pub each-first {ℓ κ} : {A : Type ℓ} {P : A → Type κ} {x : A} {xs : List A} → Each P (x ∷ xs) → P x
+each-first (cons p e) = p
+
+pub each-rest {ℓ κ} : {A : Type ℓ} {P : A → Type κ} {x : A} {xs : List A} → Each P (x ∷ xs) → Each P xs
+each-rest (cons p e) = e
+
+-- ---- the sums of one row and of the others
+
+pub lane-step : (lane : ℕ) (r : Row) (rows : List Row) (a h : ℕ) → laneSum lane (r ∷ rows) a h ≡ laneSum lane (r ∷ []) a h + laneSum lane rows a h
+unfolding laneSum moved waiting total
+lane-step zero r rows a h = omega arith
+lane-step (suc zero) r rows a h = omega arith
+lane-step (suc (suc zero)) r rows a h = omega arith
+lane-step (suc (suc (suc lane))) r rows a h = omega arith
+
+lane-none : (lane a h : ℕ) → laneSum lane [] a h ≡ 0
+unfolding laneSum moved waiting total
+lane-none zero a h = refl
+lane-none (suc zero) a h = refl
+lane-none (suc (suc zero)) a h = refl
+lane-none (suc (suc (suc lane))) a h = refl
+
+-- ---- a table that is being filled
+
+-- the table holds the sums of all rows but those that are left, and no cell is above the bound
+pub record Filling (all left : List Row) (table : List ℕ) (most : ℕ) : Type 0 where
+  pub sums : (lane a h : ℕ) → lane ≤ 3 → InTable a h → getD table (cellOf lane a h) 0 + laneSum lane left a h ≡ laneSum lane all a h
+  pub bounded : (k : ℕ) → getD table k 0 ≤ most
+
+zero-at : (n k : ℕ) → _≡_ {A = ℕ} (getD (replicate n 0) k 0) 0
+zero-at zero k = refl
+zero-at (suc n) zero = refl
+zero-at (suc n) (suc k) = zero-at n k
+
+pub length-none : (table : List ℕ) → table ≡ noSums → length table ≡ 3200
+unfolding noSums
+length-none table e = rw e (length-replicate {A = ℕ} 3200 0)
+
+pub filling-none : (table : List ℕ) (rows : List Row) (most : ℕ) → table ≡ noSums → Filling rows rows table most
+unfolding noSums
+filling-none table rows most e =
+    rw e (record { sums = λ lane a h l i. omega (arith, zero-at 3200 (cellOf lane a h)); bounded = λ k. omega (arith, zero-at 3200 k) })
+
+-- there is room for a row more
+pub filling-room : (all left : List Row) (table : List ℕ) (most : ℕ) (r : Row) → Filling all left table most → Tabled r
+    → most + mostEnergy < 2 ^ 32 → Room table 0 (r .quantity .0)
+filling-room all left table most r f t h k l = omega (arith, f .bounded k, t .quantity-high)
+
+pub filling-next : (all left rest : List Row) (before after : List ℕ) (most more : ℕ) (r : Row) → left ≡ r ∷ rest → more ≡ most + mostEnergy
+    → Tabled r → Taken before after r → Filling all left before most → Filling all rest after more
+filling-next all left rest before after most more r e d t w f =
+    record {
+      sums = λ lane a h l i.
+          let x = w .share lane a h l i in
+          let y = f .sums lane a h l i in
+          let z = ap (λ (rows : List Row). laneSum lane rows a h) e ∙ lane-step lane r rest a h in
+          omega arith;
+      bounded = λ k. omega (arith, w .grown k, f .bounded k, t .quantity-high);
+    }
+
+pub filling-done : (all left : List Row) (table : List ℕ) (most : ℕ) → left ≡ [] → length table ≡ 3200 → most < 2 ^ 32
+    → Filling all left table most → SumsOf all table
+unfolding laneSum
+filling-done all left table most e n h f =
+    record {
+      whole = n;
+      small = λ k. omega (arith, f .bounded k);
+      bought-at = at 0 (omega arith);
+      sold-at = at 1 (omega arith);
+      sales-at = at 2 (omega arith);
+      purchases-at = at 3 (omega arith);
+    }
+  where
+    at : (lane : ℕ) → lane ≤ 3 → (a h : ℕ) → InTable a h → getD table (cellOf lane a h) 0 ≡ laneSum lane all a h
+    at lane l a h i =
+        let x = f .sums lane a h l i in
+        let y = ap (λ (rows : List Row). laneSum lane rows a h) e ∙ lane-none lane a h in
+        omega arith

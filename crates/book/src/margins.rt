@@ -1,0 +1,65 @@
+// The margins of all accounts, by the table of sums.
+ghost use mathlib.Core.Path.{_≡_};
+ghost use mathlib.Core.List.{List};
+ghost use Prim.Native.Nat.{_≤_};
+ghost use lib.ListN.{length};
+ghost use Rattle.rules.specs.declared.Row.{Row};
+ghost use Rattle.rules.specs.Basics.{every, upTo};
+ghost use Rattle.rules.specs.Limits.{mostAccounts, mostHours};
+ghost use Rattle.rules.specs.Opening.{setupOf};
+ghost use Rattle.rules.specs.Registration.{accountHour, keepsMargins};
+ghost use Rattle.book.specs.Valid.{marginsKept};
+ghost use Rattle.book.specs.Sums.{SumsOf, SetupTabled};
+use crate::sums::account_hour;
+use rules::Account;
+use rules::AccountHour;
+use setup::counts::counts;
+use setup::entries::account;
+
+// Whether both margins of the account are kept.
+pub fn keeps_margins(account: Account, x: AccountHour) -> bool
+    ensures { λ r. ⌜ r ≡ keepsMargins account x ⌝ }
+{
+    let bought = x.net.bought.0 as u64;
+    let sold = x.net.sold.0 as u64;
+    let sales = x.sales.0 as u64;
+    let purchases = x.purchases.0 as u64;
+    let lower = account.lower.0 as u64;
+    let upper = account.upper.0 as u64;
+    (sold + sales <= bought + lower) & (bought + purchases <= sold + upper)
+}
+
+// Whether the account of that number keeps its margins in each hour.
+fn hours_kept(table: &[u32], account: Account, number: u8, hours: u8) -> bool
+    requires { ⌜ (length (now table) ≡ 3200) × (1 ≤ number) × (number ≤ mostAccounts) × (hours ≤ mostHours) ⌝ }
+    ensures { λ r. ⌜ ((rows : List Row) → SumsOf rows (now (table .entry)) → r ≡ every (λ h. keepsMargins account (accountHour rows number h)) (upTo hours)) ⌝ }
+{
+    let mut hour: u8 = 1;
+    while hour <= hours {
+        let x = account_hour(table, number, hour);
+        if keeps_margins(account, x) {
+            hour = hour + 1;
+        } else {
+            return false;
+        }
+    }
+    true
+}
+
+// Whether every account keeps its margins in every hour.
+pub fn margins_kept(book: &[u8], table: &[u32]) -> bool
+    requires { ⌜ SetupTabled (now book) × (length (now table) ≡ 3200) ⌝ }
+    ensures { λ r. ⌜ ((rows : List Row) → SumsOf rows (now (table .entry)) → r ≡ marginsKept (setupOf (now (book .entry))) rows) ⌝ }
+{
+    let n = counts(book);
+    let mut number: u8 = 1;
+    while number <= n.accounts {
+        let owner = account(book, number);
+        if hours_kept(table, owner, number, n.hours) {
+            number = number + 1;
+        } else {
+            return false;
+        }
+    }
+    true
+}

@@ -1,0 +1,214 @@
+// The sums of all account hours in one pass over the rows, and what is read off them.
+ghost use mathlib.Core.Path.{_≡_};
+ghost use mathlib.Core.List.{List};
+ghost use Prim.Native.Nat.{_+_, _-_, _*_, _≤_, _<_};
+ghost use lib.ListN.{length, getD};
+ghost use Rattle.rules.specs.declared.Row.{Row};
+ghost use Rattle.rules.specs.Basics.{if_then_else_, every, upTo, Each};
+ghost use Rattle.rules.specs.Limits.{mostAccounts, mostHours};
+ghost use Rattle.rules.specs.Registration.{accountHour};
+ghost use Rattle.book.specs.Sums.{rowsFrom, cellOf, InTable, SumsOf, Tabled, noSums, Room, Raised, Taken, netStored, netsStored};
+use crate::layout::ACCOUNT_NETS;
+use crate::layout::LANE_SIZE;
+use crate::layout::ROW_WIDTH;
+use crate::layout::TABLE_SIZE;
+use crate::rows::row_at;
+use rules::AccountHour;
+use rules::Net;
+use rules::Row;
+use units::Kwh;
+use wire::numbers::get_u32;
+
+// The lanes of the table.
+const BOUGHT: usize = 0;
+
+const SOLD: usize = 1;
+
+const SALES: usize = 2;
+
+const PURCHASES: usize = 3;
+
+// The account hours of a table, and the cells of an account in a lane.
+const MOST_ACCOUNTS: u8 = 32;
+
+const MOST_HOURS: u8 = 25;
+
+const ACCOUNT_CELLS: usize = 25;
+
+// What 4 bytes count to.
+const TURN: u64 = 4_294_967_296;
+
+// Adds `q` to the `n` cells from `at` on.
+fn add_range(table: &mut [u32], at: usize, n: usize, q: u32)
+    requires { ⌜ (at + n ≤ length (now table)) × Room (now table) at q ⌝ }
+    ensures { λ _. ⌜ Raised (now (table .entry)) (now (table .exit)) at n q ⌝ }
+{
+    let end = at + n;
+    let mut k = at;
+    while k < end {
+        table[k] = table[k] + q;
+        k = k + 1;
+    }
+}
+
+// The cell of an account hour in a lane.
+fn cell(lane: usize, account: u8, hour: u8) -> usize
+    requires { ⌜ (lane ≤ 3) × InTable account hour ⌝ }
+    ensures { λ r. ⌜ r ≡ cellOf lane account hour ⌝ }
+{
+    LANE_SIZE * lane + (ACCOUNT_CELLS * (account as usize - 1) + (hour as usize - 1))
+}
+
+// Adds the row's quantity to the account's cells of its hours in a lane.
+fn add_hours(table: &mut [u32], lane: usize, account: u8, r: Row)
+    requires { ⌜ (length (now table) ≡ 3200) × (lane ≤ 3) × (1 ≤ account) × (account ≤ mostAccounts) × Tabled r × Room (now table) (800 * lane) (r .quantity .0) ⌝ }
+    ensures { λ _. ⌜ Raised (now (table .entry)) (now (table .exit)) (cellOf lane account (r .first)) (r .last - r .first + 1) (r .quantity .0) ⌝ }
+{
+    let at = cell(lane, account, r.first);
+    let n = (r.last - r.first) as usize + 1;
+    let quantity = r.quantity;
+    add_range(table, at, n, quantity.0);
+}
+
+// The first where the test holds, else the second.
+fn pick(on: bool, a: u8, b: u8) -> u8
+    ensures { λ r. ⌜ r ≡ (if on then a else b) ⌝ }
+{
+    if on { a } else { b }
+}
+
+// A confirmed row: its buyer bought, and its seller sold.
+fn take_confirmed(table: &mut [u32], r: Row)
+    requires { ⌜ (length (now table) ≡ 3200) × Tabled r × Room (now table) 0 (r .quantity .0) × (r .status ≡ 2) ⌝ }
+    ensures { λ _. ⌜ Taken (now (table .entry)) (now (table .exit)) r ⌝ }
+{
+    let buyer = pick(r.side == 1, r.counterparty, r.proposer);
+    let seller = pick(r.side == 1, r.proposer, r.counterparty);
+    add_hours(table, BOUGHT, buyer, r);
+    add_hours(table, SOLD, seller, r);
+}
+
+// A pending row: it waits on its proposer, as a sale or as a purchase.
+fn take_pending(table: &mut [u32], r: Row)
+    requires { ⌜ (length (now table) ≡ 3200) × Tabled r × Room (now table) 0 (r .quantity .0) × (r .status ≡ 1) ⌝ }
+    ensures { λ _. ⌜ Taken (now (table .entry)) (now (table .exit)) r ⌝ }
+{
+    if r.side == 1 {
+        add_hours(table, SALES, r.proposer, r);
+    } else if r.side == 2 {
+        add_hours(table, PURCHASES, r.proposer, r);
+    }
+}
+
+// One row more. A withdrawn one counts for nobody.
+fn take_row(table: &mut [u32], r: Row)
+    requires { ⌜ (length (now table) ≡ 3200) × Tabled r × Room (now table) 0 (r .quantity .0) ⌝ }
+    ensures { λ _. ⌜ Taken (now (table .entry)) (now (table .exit)) r ⌝ }
+{
+    if r.status == 2 {
+        take_confirmed(table, r);
+    } else if r.status == 1 {
+        take_pending(table, r);
+    }
+}
+
+// A table of no rows.
+fn zeros() -> [u32; TABLE_SIZE]
+    ensures { λ r. ⌜ r ≡ noSums ⌝ }
+{
+    [0u32; TABLE_SIZE]
+}
+
+// Takes the `n` rows that stand from `at` on into a table of no rows.
+fn fill(table: &mut [u32], s: &[u8], at: usize, n: usize)
+    requires { ⌜ (now table ≡ noSums) × (at + 18 * n ≤ length (now s)) × (n ≤ 256) × Each Tabled (rowsFrom (now s) at n) ⌝ }
+    ensures { λ _. ⌜ SumsOf (rowsFrom (now (s .entry)) at n) (now (table .exit)) ⌝ }
+{
+    let mut place = at;
+    let mut left = n;
+    while 0 < left {
+        let r = row_at(s, place);
+        take_row(table, r);
+        place = place + ROW_WIDTH;
+        left = left - 1;
+    }
+}
+
+// The sums of all account hours by the `n` rows that stand from `at` on.
+pub fn sums_of(s: &[u8], at: usize, n: usize) -> [u32; TABLE_SIZE]
+    requires { ⌜ (at + 18 * n ≤ length (now s)) × (n ≤ 256) × Each Tabled (rowsFrom (now s) at n) ⌝ }
+    ensures { λ r. ⌜ SumsOf (rowsFrom (now (s .entry)) at n) r ⌝ }
+{
+    let mut table = zeros();
+    fill(&mut table, s, at, n);
+    table
+}
+
+// The sum that a lane holds for an account hour.
+fn sum_at(table: &[u32], lane: usize, account: u8, hour: u8) -> u32
+    requires { ⌜ (length (now table) ≡ 3200) × (lane ≤ 3) × InTable account hour ⌝ }
+    ensures { λ r. ⌜ r ≡ getD (now (table .entry)) (cellOf lane account hour) 0 ⌝ }
+{
+    let k = cell(lane, account, hour);
+    table[k]
+}
+
+// What an account holds in an hour.
+pub fn account_hour(table: &[u32], account: u8, hour: u8) -> AccountHour
+    requires { ⌜ (length (now table) ≡ 3200) × InTable account hour ⌝ }
+    ensures { λ r. ⌜ ((rows : List Row) → SumsOf rows (now (table .entry)) → r ≡ accountHour rows account hour) ⌝ }
+{
+    let net = Net {
+        bought: Kwh(sum_at(table, BOUGHT, account, hour)),
+        sold: Kwh(sum_at(table, SOLD, account, hour)),
+    };
+    AccountHour {
+        net,
+        sales: Kwh(sum_at(table, SALES, account, hour)),
+        purchases: Kwh(sum_at(table, PURCHASES, account, hour)),
+    }
+}
+
+// Whether the 4 bytes of a net position are what the account bought in the hour less what it sold.
+fn net_kept(s: &[u8], nets: usize, table: &[u32], account: u8, hour: u8) -> bool
+    requires { ⌜ (nets + 3200 ≤ length (now s)) × (length (now table) ≡ 3200) × InTable account hour ⌝ }
+    ensures { λ r. ⌜ r ≡ netStored (now (s .entry)) nets (now (table .entry)) account hour ⌝ }
+{
+    let at = nets + ACCOUNT_NETS * (account as usize - 1) + 4 * (hour as usize - 1);
+    let stored = get_u32(s, at) as u64;
+    let bought = sum_at(table, BOUGHT, account, hour) as u64;
+    let sold = sum_at(table, SOLD, account, hour) as u64;
+    (stored + sold) % TURN == bought % TURN
+}
+
+// The same for all hours of an account.
+fn account_nets_kept(s: &[u8], nets: usize, table: &[u32], account: u8) -> bool
+    requires { ⌜ (nets + 3200 ≤ length (now s)) × (length (now table) ≡ 3200) × (1 ≤ account) × (account ≤ mostAccounts) ⌝ }
+    ensures { λ r. ⌜ r ≡ every (netStored (now (s .entry)) nets (now (table .entry)) account) (upTo mostHours) ⌝ }
+{
+    let mut hour: u8 = 1;
+    while hour <= MOST_HOURS {
+        if net_kept(s, nets, table, account, hour) {
+            hour = hour + 1;
+        } else {
+            return false;
+        }
+    }
+    true
+}
+
+// Whether all net positions that stand from `nets` on are those of the table.
+pub fn nets_kept(s: &[u8], nets: usize, table: &[u32]) -> bool
+    requires { ⌜ (nets + 3200 ≤ length (now s)) × (length (now table) ≡ 3200) ⌝ }
+    ensures { λ r. ⌜ r ≡ netsStored (now (s .entry)) nets (now (table .entry)) ⌝ }
+{
+    let mut account: u8 = 1;
+    while account <= MOST_ACCOUNTS {
+        if account_nets_kept(s, nets, table, account) {
+            account = account + 1;
+        } else {
+            return false;
+        }
+    }
+    true
+}
