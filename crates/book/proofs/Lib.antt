@@ -3,3 +3,5 @@
 pub mod Soundness
 -- RowBytes: a row read at its place in the whole bytes.
 pub mod RowBytes
+-- CheckLaws: the tests of a row and of a schedule as code joins them.
+pub mod CheckLaws

@@ -4,15 +4,27 @@ use mathlib.Core.Path.{_≡_}
 use mathlib.Core.List.{List, map}
 use lib.ListN.{length, getD, drop}
 use Rattle.wire.specs.Parts.{chunks}
+use Rattle.units.specs.Units.{cents}
+use Rattle.units.specs.declared.Cents.{Cents}
 use Rattle.rules.specs.declared.Row.{Row}
+use Rattle.rules.specs.declared.Schedule.{Schedule}
 use Rattle.rules.specs.Limits.{mostAccounts, mostHours}
 use Rattle.rules.specs.Registration.{bought, sold, pendingSales, pendingPurchases}
-use Rattle.book.specs.Layout.{rowWidth}
-use Rattle.book.specs.Image.{rowIn}
+use Rattle.wire.specs.Numbers.{number}
+use Rattle.book.specs.Layout.{rowWidth, scheduleWidth}
+use Rattle.book.specs.Image.{rowIn, scheduleIn}
 
 -- the n rows that stand in bytes from `at` on
 unfoldable pub rowsFrom : List ℕ → ℕ → ℕ → List Row
 rowsFrom s at n = map rowIn (chunks rowWidth n (drop at s))
+
+-- the n schedules that stand in bytes from `at` on
+unfoldable pub schedulesFrom : List ℕ → ℕ → ℕ → List Schedule
+schedulesFrom s at n = map scheduleIn (chunks scheduleWidth n (drop at s))
+
+-- the n guarantees that stand in bytes from `at` on
+unfoldable pub guaranteesFrom : List ℕ → ℕ → ℕ → List Cents
+guaranteesFrom s at n = map (λ x. cents (number x)) (chunks 8 n (drop at s))
 
 -- the cells of a lane
 abbrev pub laneSize : ℕ

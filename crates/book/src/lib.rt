@@ -1,3 +1,5 @@
 // The book in its bytes.
+pub mod checks;
 pub mod layout;
 pub mod rows;
+pub mod schedules;
