@@ -5,3 +5,5 @@ pub mod Soundness
 pub mod RowBytes
 -- CheckLaws: the tests of a row and of a schedule as code joins them.
 pub mod CheckLaws
+-- RowsFrom: the cells that stand in bytes from a place on.
+pub mod RowsFrom
