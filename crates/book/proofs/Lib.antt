@@ -7,3 +7,5 @@ pub mod RowBytes
 pub mod CheckLaws
 -- RowsFrom: the cells that stand in bytes from a place on.
 pub mod RowsFrom
+-- FollowLaws: saved rows followed by present ones.
+pub mod FollowLaws

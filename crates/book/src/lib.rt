@@ -2,4 +2,5 @@
 pub mod checks;
 pub mod layout;
 pub mod rows;
+pub mod saved;
 pub mod schedules;
