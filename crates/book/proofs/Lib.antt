@@ -9,3 +9,5 @@ pub mod CheckLaws
 pub mod RowsFrom
 -- FollowLaws: saved rows followed by present ones.
 pub mod FollowLaws
+-- TwinLaws: twins found by keys.
+pub mod TwinLaws

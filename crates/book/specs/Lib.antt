@@ -7,3 +7,5 @@ pub mod Image
 pub mod Valid
 -- Sums: the sums of all account hours in one table.
 pub mod Sums
+-- Twins: the keys by which pending rows alike are found.
+pub mod Twins

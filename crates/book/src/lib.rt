@@ -4,3 +4,4 @@ pub mod layout;
 pub mod rows;
 pub mod saved;
 pub mod schedules;
+pub mod twins;
