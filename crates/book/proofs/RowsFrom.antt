@@ -31,16 +31,16 @@ module _ {A : Type 0} (say : List ℕ → A) (w : ℕ) where
   unfolding chunks
   from-step s at n m e = rw (e, add-one m, chunks, drop-drop w at s)
 
-  -- a test of all: none is left
-  pub every-done : (ok : Bool) (p : A → Bool) (s : List ℕ) (at n : ℕ) → n ≤ 0 → (ok && every p (cellsFrom s at n)) ≡ ok
+  -- a test of all is what was tested so far, with the test of those left: none is left
+  pub every-done : {all : Bool} (ok : Bool) (p : A → Bool) (s : List ℕ) (at n : ℕ) → n ≤ 0 → all ≡ (ok && every p (cellsFrom s at n)) → ok ≡ all
   unfolding every
-  every-done ok p s at n h = rw (from-done s at n h, every) (and-true ok)
+  every-done ok p s at n h e = sym (e ∙ rw (from-done s at n h, every) (and-true ok))
 
-  -- and one more is passed
-  pub every-step : (ok : Bool) (p : A → Bool) (s : List ℕ) (at n m : ℕ) → n ≡ m + 1
-      → (ok && every p (cellsFrom s at n)) ≡ ((ok && p (say (take w (drop at s)))) && every p (cellsFrom s (at + w) m))
+  -- and one more is tested
+  pub every-step : {all t : Bool} {x : A} (ok : Bool) (p : A → Bool) (s : List ℕ) (at n m : ℕ) → n ≡ m + 1 → x ≡ say (take w (drop at s))
+      → t ≡ p x → all ≡ (ok && every p (cellsFrom s at n)) → all ≡ ((ok && t) && every p (cellsFrom s (at + w) m))
   unfolding every
-  every-step ok p s at n m e = rw (from-step s at n m e, every) (sym (and-assoc ok _ _))
+  every-step ok p s at n m d r h e = e ∙ rw (from-step s at n m d, every, h, r) (sym (and-assoc ok _ _))
 
 -- none passes a test where each fails it
 pub not-any : {A : Type 0} (p : A → Bool) (xs : List A) → not (any p xs) ≡ every (λ x. not (p x)) xs

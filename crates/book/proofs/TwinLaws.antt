@@ -10,7 +10,7 @@ use lib.ListN.{length, getD, set, take, drop}
 use lib.Seq.{getD-set-same, getD-set-other}
 use lib.Dec.{eqb}
 use borrow.Author.Count.{below-more}
-use borrow.Author.Tests.{eqb-true, eqb-false, eq-eqb}
+use borrow.Author.Tests.{eqb-true, eq-eqb, ne-eqb}
 use Rattle.wire.specs.Numbers.{numberAt, Bytes}
 use Rattle.wire.proofs.NumberLaws.{number-at-small}
 use Rattle.rules.specs.declared.Row.{Row}
@@ -57,6 +57,12 @@ unfolding keysApart
 apart-next codes pairs k n m e h = rw (e, add-one m, keysApart, h)
 
 -- ---- keys filled in
+
+pub pair-pending : (i : ℕ) (r : Row) → r .status ≡ 1 → r .proposer * 256 + r .counterparty ≡ pairOf i r
+pair-pending i r e = rw e
+
+pub pair-other : (i : ℕ) (r : Row) → (r .status ≡ 1 → ⊥) → 65536 + i ≡ pairOf i r
+pair-other i r e = rw (ne-eqb (r .status) 1 e)
 
 pub no-keys : (s : List ℕ) (at : ℕ) (codes pairs : List ℕ) → Keyed s at 0 codes pairs
 no-keys s at codes pairs = record { code-at = λ k h. absurd (omega arith); pair-at = λ k h. absurd (omega arith) }

@@ -3,13 +3,16 @@ ghost use mathlib.Core.Path.{_≡_};
 ghost use mathlib.Core.Bool.{not};
 ghost use Prim.Native.Nat.{_+_, _*_, _≤_};
 ghost use lib.ListN.{length};
-ghost use Rattle.rules.specs.Books.{Setup, accountCount, pointCount};
 ghost use lib.Dec.{leb};
 ghost use Rattle.rules.specs.Basics.{any, every};
 ghost use Rattle.rules.specs.Limits.{mostGuarantee};
+ghost use Rattle.rules.specs.Books.{Setup, accountCount, pointCount};
 ghost use Rattle.rules.specs.Registration.{pending};
 ghost use Rattle.book.specs.Valid.{rowOk, scheduleOk};
 ghost use Rattle.book.specs.Sums.{rowsFrom, schedulesFrom, guaranteesFrom};
+use crate::layout::GUARANTEE_WIDTH;
+use crate::layout::ROW_WIDTH;
+use crate::layout::SCHEDULE_WIDTH;
 use crate::rows::row_at;
 use crate::schedules::schedule_at;
 use rules::Row;
@@ -58,7 +61,7 @@ pub fn rows_ok(s: &[u8], at: usize, n: usize, accounts: u8, hours: u8) -> bool
     let mut left = n;
     while 0 < left {
         ok = ok & row_ok(row_at(s, k), accounts, hours);
-        k = k + 18;
+        k = k + ROW_WIDTH;
         left = left - 1;
     }
     ok
@@ -74,7 +77,7 @@ pub fn schedules_ok(s: &[u8], at: usize, n: usize, points: u8, hours: u8) -> boo
     let mut left = n;
     while 0 < left {
         ok = ok & schedule_ok(schedule_at(s, k), points, hours);
-        k = k + 11;
+        k = k + SCHEDULE_WIDTH;
         left = left - 1;
     }
     ok
@@ -91,7 +94,7 @@ pub fn none_pending(s: &[u8], at: usize, n: usize) -> bool
     while 0 < left {
         let r = row_at(s, k);
         ok = ok & (r.status != 1);
-        k = k + 18;
+        k = k + ROW_WIDTH;
         left = left - 1;
     }
     ok
@@ -108,7 +111,7 @@ pub fn guarantees_ok(s: &[u8], at: usize, n: usize) -> bool
     while 0 < left {
         let g = get_u64(s, k);
         ok = ok & (g <= MOST_GUARANTEE);
-        k = k + 8;
+        k = k + GUARANTEE_WIDTH;
         left = left - 1;
     }
     ok

@@ -7,6 +7,7 @@ ghost use lib.Dec.{eqb};
 ghost use Rattle.rules.specs.Registration.{pending};
 ghost use Rattle.book.specs.Valid.{sameTerms, follows};
 ghost use Rattle.book.specs.Sums.{rowsFrom};
+use crate::layout::ROW_WIDTH;
 use crate::rows::row_at;
 use rules::Row;
 
@@ -44,8 +45,8 @@ pub fn rows_follow(s: &[u8], from: usize, m: usize, at: usize, n: usize) -> bool
     let mut left = m;
     while 0 < left {
         ok = ok & row_follows(row_at(s, i), row_at(s, k));
-        i = i + 18;
-        k = k + 18;
+        i = i + ROW_WIDTH;
+        k = k + ROW_WIDTH;
         left = left - 1;
     }
     ok

@@ -5,6 +5,8 @@ ghost use lib.ListN.{length, getD};
 ghost use Rattle.book.specs.Valid.{noTwins};
 ghost use Rattle.book.specs.Sums.{rowsFrom};
 ghost use Rattle.book.specs.Twins.{pairOf, keyAmong, keysApart, Keyed};
+use crate::layout::MOST_ROWS;
+use crate::layout::ROW_WIDTH;
 use crate::rows::row_at;
 use rules::Row;
 
@@ -27,7 +29,7 @@ fn put_keys(codes: &mut [u64], pairs: &mut [u64], s: &[u8], at: usize, n: usize)
 {
     let mut i = 0;
     while i < n {
-        let r = row_at(s, at + 18 * i);
+        let r = row_at(s, at + ROW_WIDTH * i);
         codes[i] = r.code;
         pairs[i] = pair_of(r, i);
         i = i + 1;
@@ -70,8 +72,8 @@ pub fn no_twins(s: &[u8], at: usize, n: usize) -> bool
     requires { ⌜ (n ≤ 256) × (at + 18 * n ≤ length (now s)) ⌝ }
     ensures { λ b. ⌜ b ≡ noTwins (rowsFrom (now (s .entry)) at n) ⌝ }
 {
-    let mut codes = [0u64; 256];
-    let mut pairs = [0u64; 256];
+    let mut codes = [0u64; MOST_ROWS];
+    let mut pairs = [0u64; MOST_ROWS];
     put_keys(&mut codes, &mut pairs, s, at, n);
     keys_apart(&codes, &pairs, n)
 }

@@ -1,24 +1,28 @@
 -- What was tested so far, with the test of what is left, is the test of all.
 use Prim.Native.Nat.{_+_, _-_, _*_, _≤_}
-use mathlib.Core.Path.{_≡_, refl, sym, _∙_}
-use mathlib.Core.Bool.{_&&_}
-use lib.ListN.{length, take, drop}
+use mathlib.Core.Path.{_≡_, refl, ap}
+use mathlib.Core.Bool.{Bool, _&&_}
+use native.Mathlib.Omega.{arith}
+use lib.ListN.{length}
 use lib.Dec.{leb}
+use borrow.Author.Needs.{needs}
 use Rattle.wire.specs.Numbers.{number, numberAt}
 use Rattle.units.specs.Units.{cents}
+use Rattle.units.specs.declared.Cents.{Cents}
 use Rattle.rules.specs.Basics.{every}
 use Rattle.rules.specs.Limits.{mostGuarantee}
 use Rattle.book.specs.Sums.{guaranteesFrom}
 use Rattle.book.proofs.RowsFrom.{every-done, every-step}
-use native.Mathlib.Omega.{arith}
-use borrow.Author.Needs.{needs}
 use Rattle.book.proofs.checks.guarantees_ok.Statement.{statement}
 use Rattle.book.proofs.checks.guarantees_ok.Tie as tie
+
+abbrev small : Cents → Bool
+small g = leb (g .0) mostGuarantee
 
 abbrev Inv-loop : tie.InvT-loop
 Inv-loop s at n ok₀ k₀ left₀ ok k left =
     (k + 8 * left ≤ length s)
-    × (every (λ g. leb (g .0) mostGuarantee) (guaranteesFrom s at n) ≡ (ok && every (λ g. leb (g .0) mostGuarantee) (guaranteesFrom s k left)))
+    × (every small (guaranteesFrom s at n) ≡ (ok && every small (guaranteesFrom s k left)))
 
 abbrev μ-loop : tie.MeasureT-loop
 μ-loop s at n ok₀ k₀ left₀ ok k left = left
@@ -42,19 +46,16 @@ loop-again : tie.Need-loop-again Inv-loop μ-loop
 unfolding guaranteesFrom numberAt
 loop-again c =
     let b = c .before .before in
-    let l = b .loop in
-    let s = b .before .before .args .s .now in
-    let e : c .get-u64 .result ≡ number (take 8 (drop (l .k) s)) = c .get-u64 .ensures in (
+    let l = b .loop in (
       search needs,
-      rw e (l .inv .1 ∙ every-step (λ x. cents (number x)) 8 (l .ok) (λ g. leb (g .0) mostGuarantee) s (l .k) (l .left) (l .left - 1) (omega arith)),
+      every-step (λ x. cents (number x)) 8 (l .ok) small (b .before .before .args .s .now) (l .k) (l .left) (l .left - 1) (omega arith) (ap cents (c .get-u64 .ensures)) refl (l .inv .1),
     )
 
 returns : tie.Need-returns Inv-loop μ-loop
 unfolding guaranteesFrom
 returns c =
     let l = c .before .loop in
-    let s = c .before .before .before .args .s .now in
-    sym (l .inv .1 ∙ every-done (λ x. cents (number x)) 8 (l .ok) (λ g. leb (g .0) mostGuarantee) s (l .k) (l .left) (omega arith))
+    every-done (λ x. cents (number x)) 8 (l .ok) small (c .before .before .before .args .s .now) (l .k) (l .left) (omega arith) (l .inv .1)
 
 pub guarantees-ok-spec : {M : Type 1} → statement M
 guarantees-ok-spec =

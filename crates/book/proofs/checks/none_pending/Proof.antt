@@ -1,15 +1,15 @@
 -- None is pending where each is not: what was tested so far, with the test of what is left, is the test of all.
 use Prim.Native.Nat.{_+_, _-_, _*_, _≤_}
-use mathlib.Core.Path.{_≡_, refl, sym, _∙_}
+use mathlib.Core.Path.{_≡_, refl}
 use mathlib.Core.Bool.{not, _&&_}
-use lib.ListN.{length, take, drop}
+use native.Mathlib.Omega.{arith}
+use lib.ListN.{length}
+use borrow.Author.Needs.{needs}
 use Rattle.rules.specs.Basics.{any, every}
 use Rattle.rules.specs.Registration.{pending}
 use Rattle.book.specs.Image.{rowIn}
 use Rattle.book.specs.Sums.{rowsFrom}
 use Rattle.book.proofs.RowsFrom.{every-done, every-step, not-any}
-use native.Mathlib.Omega.{arith}
-use borrow.Author.Needs.{needs}
 use Rattle.book.proofs.checks.none_pending.Statement.{statement}
 use Rattle.book.proofs.checks.none_pending.Tie as tie
 
@@ -40,17 +40,16 @@ loop-again : tie.Need-loop-again Inv-loop μ-loop
 unfolding rowsFrom
 loop-again c =
     let b = c .before .before .before in
-    let l = b .loop in
-    let s = b .before .before .args .s .now in
-    let e : c .before .row-at .result ≡ rowIn (take 18 (drop (l .k) s)) = c .before .row-at .ensures in
-    (search needs, rw e (l .inv .1 ∙ every-step rowIn 18 (l .ok) (λ r. not (pending r)) s (l .k) (l .left) (l .left - 1) (omega arith)))
+    let l = b .loop in (
+      search needs,
+      every-step rowIn 18 (l .ok) (λ r. not (pending r)) (b .before .before .args .s .now) (l .k) (l .left) (l .left - 1) (omega arith) (c .before .row-at .ensures) refl (l .inv .1),
+    )
 
 returns : tie.Need-returns Inv-loop μ-loop
 unfolding rowsFrom
 returns c =
     let l = c .before .loop in
-    let s = c .before .before .before .args .s .now in
-    sym (l .inv .1 ∙ every-done rowIn 18 (l .ok) (λ r. not (pending r)) s (l .k) (l .left) (omega arith))
+    every-done rowIn 18 (l .ok) (λ r. not (pending r)) (c .before .before .before .args .s .now) (l .k) (l .left) (omega arith) (l .inv .1)
 
 pub none-pending-spec : {M : Type 1} → statement M
 none-pending-spec =

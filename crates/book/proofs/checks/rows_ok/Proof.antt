@@ -1,16 +1,16 @@
 -- What was tested so far, with the test of what is left, is the test of all.
 use Prim.Native.Nat.{_+_, _-_, _*_, _≤_}
-use mathlib.Core.Path.{_≡_, refl, sym, ap, _∙_}
+use mathlib.Core.Path.{_≡_, refl}
 use mathlib.Core.Bool.{_&&_}
-use lib.ListN.{length, take, drop}
+use native.Mathlib.Omega.{arith}
+use lib.ListN.{length}
+use borrow.Author.Needs.{needs}
 use Rattle.rules.specs.Basics.{every}
 use Rattle.rules.specs.Books.{Setup, accountCount}
 use Rattle.book.specs.Image.{rowIn}
 use Rattle.book.specs.Valid.{rowOk}
 use Rattle.book.specs.Sums.{rowsFrom}
 use Rattle.book.proofs.RowsFrom.{every-done, every-step}
-use native.Mathlib.Omega.{arith}
-use borrow.Author.Needs.{needs}
 use Rattle.book.proofs.checks.rows_ok.Statement.{statement}
 use Rattle.book.proofs.checks.rows_ok.Tie as tie
 
@@ -23,7 +23,7 @@ abbrev μ-loop : tie.MeasureT-loop
 μ-loop s at n accounts hours ok₀ k₀ left₀ ok k left = left
 
 loop-holds : tie.Need-loop-holds Inv-loop μ-loop
-loop-holds c = (search needs, λ u a h. refl)
+loop-holds c = (search needs, λ u n h. refl)
 
 row-at-requires : tie.Need-row-at-requires Inv-loop μ-loop
 row-at-requires c κs = search needs
@@ -44,19 +44,16 @@ loop-again : tie.Need-loop-again Inv-loop μ-loop
 unfolding rowsFrom
 loop-again c =
     let b = c .before .before .before in
-    let l = b .loop in
-    let s = b .before .before .args .s .now in (
+    let l = b .loop in (
       search needs,
-      λ u a h. let e : c .row-ok .result ≡ rowOk u (rowIn (take 18 (drop (l .k) s))) = c .row-ok .ensures u a h ∙ ap (rowOk u) (c .before .row-at .ensures) in
-          rw e (l .inv .1 u a h ∙ every-step rowIn 18 (l .ok) (rowOk u) s (l .k) (l .left) (l .left - 1) (omega arith)),
+      λ u n h. every-step rowIn 18 (l .ok) (rowOk u) (b .before .before .args .s .now) (l .k) (l .left) (l .left - 1) (omega arith) (c .before .row-at .ensures) (c .row-ok .ensures u n h) (l .inv .1 u n h),
     )
 
 returns : tie.Need-returns Inv-loop μ-loop
 unfolding rowsFrom
-returns c u a h =
+returns c u n h =
     let l = c .before .loop in
-    let s = c .before .before .before .args .s .now in
-    sym (l .inv .1 u a h ∙ every-done rowIn 18 (l .ok) (rowOk u) s (l .k) (l .left) (omega arith))
+    every-done rowIn 18 (l .ok) (rowOk u) (c .before .before .before .args .s .now) (l .k) (l .left) (omega arith) (l .inv .1 u n h)
 
 pub rows-ok-spec : {M : Type 1} → statement M
 rows-ok-spec =

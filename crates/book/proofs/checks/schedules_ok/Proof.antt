@@ -1,16 +1,16 @@
 -- What was tested so far, with the test of what is left, is the test of all.
 use Prim.Native.Nat.{_+_, _-_, _*_, _≤_}
-use mathlib.Core.Path.{_≡_, refl, sym, ap, _∙_}
+use mathlib.Core.Path.{_≡_, refl}
 use mathlib.Core.Bool.{_&&_}
-use lib.ListN.{length, take, drop}
+use native.Mathlib.Omega.{arith}
+use lib.ListN.{length}
+use borrow.Author.Needs.{needs}
 use Rattle.rules.specs.Basics.{every}
 use Rattle.rules.specs.Books.{Setup, pointCount}
 use Rattle.book.specs.Image.{scheduleIn}
 use Rattle.book.specs.Valid.{scheduleOk}
 use Rattle.book.specs.Sums.{schedulesFrom}
 use Rattle.book.proofs.RowsFrom.{every-done, every-step}
-use native.Mathlib.Omega.{arith}
-use borrow.Author.Needs.{needs}
 use Rattle.book.proofs.checks.schedules_ok.Statement.{statement}
 use Rattle.book.proofs.checks.schedules_ok.Tie as tie
 
@@ -23,7 +23,7 @@ abbrev μ-loop : tie.MeasureT-loop
 μ-loop s at n points hours ok₀ k₀ left₀ ok k left = left
 
 loop-holds : tie.Need-loop-holds Inv-loop μ-loop
-loop-holds c = (search needs, λ u a h. refl)
+loop-holds c = (search needs, λ u n h. refl)
 
 schedule-at-requires : tie.Need-schedule-at-requires Inv-loop μ-loop
 schedule-at-requires c κs = search needs
@@ -44,19 +44,16 @@ loop-again : tie.Need-loop-again Inv-loop μ-loop
 unfolding schedulesFrom
 loop-again c =
     let b = c .before .before .before in
-    let l = b .loop in
-    let s = b .before .before .args .s .now in (
+    let l = b .loop in (
       search needs,
-      λ u a h. let e : c .schedule-ok .result ≡ scheduleOk u (scheduleIn (take 11 (drop (l .k) s))) = c .schedule-ok .ensures u a h ∙ ap (scheduleOk u) (c .before .schedule-at .ensures) in
-          rw e (l .inv .1 u a h ∙ every-step scheduleIn 11 (l .ok) (scheduleOk u) s (l .k) (l .left) (l .left - 1) (omega arith)),
+      λ u n h. every-step scheduleIn 11 (l .ok) (scheduleOk u) (b .before .before .args .s .now) (l .k) (l .left) (l .left - 1) (omega arith) (c .before .schedule-at .ensures) (c .schedule-ok .ensures u n h) (l .inv .1 u n h),
     )
 
 returns : tie.Need-returns Inv-loop μ-loop
 unfolding schedulesFrom
-returns c u a h =
+returns c u n h =
     let l = c .before .loop in
-    let s = c .before .before .before .args .s .now in
-    sym (l .inv .1 u a h ∙ every-done scheduleIn 11 (l .ok) (scheduleOk u) s (l .k) (l .left) (omega arith))
+    every-done scheduleIn 11 (l .ok) (scheduleOk u) (c .before .before .before .args .s .now) (l .k) (l .left) (omega arith) (l .inv .1 u n h)
 
 pub schedules-ok-spec : {M : Type 1} → statement M
 schedules-ok-spec =

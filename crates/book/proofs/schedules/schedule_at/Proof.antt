@@ -1,5 +1,6 @@
-use Rattle.book.proofs.RowBytes.{schedule-at}
+-- Each number inside the schedule's bytes is that number of the whole.
 use borrow.Author.Needs.{needs}
+use Rattle.book.proofs.RowBytes.{schedule-at}
 use Rattle.book.proofs.schedules.schedule_at.Statement.{statement}
 use Rattle.book.proofs.schedules.schedule_at.Tie as tie
 

@@ -2,11 +2,11 @@
 use Prim.Native.Nat.{_+_, _-_, _≤_}
 use mathlib.Core.Path.{_≡_, refl, sym, _∙_}
 use mathlib.Core.Bool.{_||_}
+use native.Mathlib.Omega.{arith}
 use lib.ListN.{getD}
+use borrow.Author.Needs.{needs}
 use Rattle.book.specs.Twins.{keyAmong}
 use Rattle.book.proofs.TwinLaws.{among-done, among-step}
-use native.Mathlib.Omega.{arith}
-use borrow.Author.Needs.{needs}
 use Rattle.book.proofs.twins.key_after.Statement.{statement}
 use Rattle.book.proofs.twins.key_after.Tie as tie
 

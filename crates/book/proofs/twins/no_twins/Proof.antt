@@ -1,8 +1,8 @@
 -- The keys of the rows are all apart where no two pending rows are alike.
 use mathlib.Core.Path.{_∙_}
+use borrow.Author.Needs.{needs}
 use Rattle.wire.proofs.NumberLaws.{bytes-known}
 use Rattle.book.proofs.TwinLaws.{keys-apart-rows}
-use borrow.Author.Needs.{needs}
 use Rattle.book.proofs.twins.no_twins.Statement.{statement}
 use Rattle.book.proofs.twins.no_twins.Tie as tie
 

@@ -1,7 +1,7 @@
 -- By the row's status.
 use native.Mathlib.Omega.{arith}
 use borrow.Author.Needs.{needs}
-use borrow.Author.Tests.{ne-eqb}
+use Rattle.book.proofs.TwinLaws.{pair-pending, pair-other}
 use Rattle.book.proofs.twins.pair_of.Statement.{statement}
 use Rattle.book.proofs.twins.pair_of.Tie as tie
 
@@ -21,10 +21,10 @@ add-result-2 : tie.Need-add-result-2
 add-result-2 c = search needs
 
 returns : tie.Need-returns
-returns c = rw (c .before .before .if1 .taken)
+returns c = let a = c .before .before .before .before .args in pair-pending (a .i) (a .r) (omega arith)
 
 returns-2 : tie.Need-returns-2
-returns-2 c = rw (ne-eqb (c .before .before .args .r .status) 1 (c .if1 .left))
+returns-2 c = let a = c .before .before .args in pair-other (a .i) (a .r) (λ e. omega arith)
 
 pub pair-of-spec : {M : Type 1} → statement M
 pair-of-spec =

@@ -1,12 +1,12 @@
 -- The keys of the rows passed are filled in.
 use Prim.Native.Nat.{_-_, _≤_}
 use mathlib.Core.Path.{_≡_, ap, _∙_}
+use native.Mathlib.Omega.{arith}
 use lib.ListN.{length, length-set}
+use borrow.Author.Needs.{needs}
 use Rattle.rules.specs.declared.Row.{Row}
 use Rattle.book.specs.Twins.{pairOf, Keyed}
 use Rattle.book.proofs.TwinLaws.{no-keys, keys-more}
-use native.Mathlib.Omega.{arith}
-use borrow.Author.Needs.{needs}
 use Rattle.book.proofs.twins.put_keys.Statement.{statement}
 use Rattle.book.proofs.twins.put_keys.Tie as tie
 
