@@ -59,3 +59,11 @@ pub mod CountingLaws
 pub mod MarginLaws
 -- ExposureLaws: exposure hour by hour and account by account.
 pub mod ExposureLaws
+-- CheckLaws: the tests of a row and of a schedule as code joins them.
+pub mod CheckLaws
+-- RowsFrom: the cells that stand in bytes from a place on.
+pub mod RowsFrom
+-- FollowLaws: saved rows followed by present ones.
+pub mod FollowLaws
+-- TwinLaws: twins found by keys.
+pub mod TwinLaws

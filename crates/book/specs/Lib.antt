@@ -15,3 +15,5 @@ pub mod Doors
 pub mod Fresh
 -- Plain: tests, each of one place, that bytes are an image.
 pub mod Plain
+-- Twins: the keys by which pending rows alike are found.
+pub mod Twins

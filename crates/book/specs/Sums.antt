@@ -5,21 +5,32 @@ use mathlib.Core.List.{List, [], _∷_, map}
 use mathlib.Core.Bool.{Bool}
 use lib.ListN.{length, getD, drop, replicate}
 use lib.Dec.{eqb}
-use Rattle.wire.specs.Numbers.{numberAt}
+use Rattle.wire.specs.Numbers.{number, numberAt}
 use Rattle.wire.specs.Parts.{chunks}
+use Rattle.units.specs.Units.{cents}
+use Rattle.units.specs.declared.Cents.{Cents}
 use Rattle.rules.specs.declared.Row.{Row}
+use Rattle.rules.specs.declared.Schedule.{Schedule}
 use Rattle.rules.specs.Basics.{if_then_else_, total, every, upTo}
 use Rattle.rules.specs.Limits.{mostAccounts, mostHours, mostEnergy}
 use Rattle.rules.specs.Books.{Setup, estimateAt, operatorOf}
 use Rattle.rules.specs.Opening.{countsIn}
 use Rattle.rules.specs.Registration.{bought, sold, pendingSales, pendingPurchases, accountHour, exposed}
 use Rattle.setup.specs.Faults.{Whole}
-use Rattle.book.specs.Layout.{rowWidth, accountWidth}
-use Rattle.book.specs.Image.{rowIn}
+use Rattle.book.specs.Layout.{rowWidth, scheduleWidth, accountWidth}
+use Rattle.book.specs.Image.{rowIn, scheduleIn}
 
 -- the n rows that stand in bytes from `at` on
 unfoldable pub rowsFrom : List ℕ → ℕ → ℕ → List Row
 rowsFrom s at n = map rowIn (chunks rowWidth n (drop at s))
+
+-- the n schedules that stand in bytes from `at` on
+unfoldable pub schedulesFrom : List ℕ → ℕ → ℕ → List Schedule
+schedulesFrom s at n = map scheduleIn (chunks scheduleWidth n (drop at s))
+
+-- the n guarantees that stand in bytes from `at` on
+unfoldable pub guaranteesFrom : List ℕ → ℕ → ℕ → List Cents
+guaranteesFrom s at n = map (λ x. cents (number x)) (chunks 8 n (drop at s))
 
 -- the cells of a lane
 abbrev pub laneSize : ℕ

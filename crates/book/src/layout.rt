@@ -32,9 +32,14 @@ pub const ROWS_IN: usize = 130;
 
 pub const NETS_IN: usize = 4_738;
 
+pub const GUARANTEE_WIDTH: usize = 8;
+
 pub const ROW_WIDTH: usize = 18;
 
 pub const STATUS_IN: usize = 17;
+
+// Rows that may have numbers in a day.
+pub const MOST_ROWS: usize = 256;
 
 // Bytes of an account's net positions: 4 for each of 25 periods.
 pub const ACCOUNT_NETS: usize = 100;

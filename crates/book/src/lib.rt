@@ -1,6 +1,10 @@
 // The book in its bytes.
+pub mod checks;
 pub mod exposure;
 pub mod layout;
 pub mod margins;
 pub mod rows;
+pub mod saved;
+pub mod schedules;
 pub mod sums;
+pub mod twins;
