@@ -26,19 +26,17 @@ and-false false = refl
 
 -- ---- the parties of a row are accounts of the table
 
+-- of two accounts of the table, the one that a test picks
+picked-in : (test : Bool) (x y : ℕ) → 1 ≤ x → x ≤ mostAccounts → 1 ≤ y → y ≤ mostAccounts
+    → (1 ≤ (if test then x else y)) × ((if test then x else y) ≤ mostAccounts)
+picked-in true x y a b c d = (a, b)
+picked-in false x y a b c d = (c, d)
+
 pub buyer-in : (r : Row) → Tabled r → (1 ≤ buyer r) × (buyer r ≤ mostAccounts)
-buyer-in r t = go (eqb (r .side) 1)
-  where
-    go : (b : Bool) → (1 ≤ (if b then r .counterparty else r .proposer)) × ((if b then r .counterparty else r .proposer) ≤ mostAccounts)
-    go true = (t .counterparty-low, t .counterparty-high)
-    go false = (t .proposer-low, t .proposer-high)
+buyer-in r t = picked-in (eqb (r .side) 1) _ _ (t .counterparty-low) (t .counterparty-high) (t .proposer-low) (t .proposer-high)
 
 pub seller-in : (r : Row) → Tabled r → (1 ≤ seller r) × (seller r ≤ mostAccounts)
-seller-in r t = go (eqb (r .side) 1)
-  where
-    go : (b : Bool) → (1 ≤ (if b then r .proposer else r .counterparty)) × ((if b then r .proposer else r .counterparty) ≤ mostAccounts)
-    go true = (t .proposer-low, t .proposer-high)
-    go false = (t .counterparty-low, t .counterparty-high)
+seller-in r t = picked-in (eqb (r .side) 1) _ _ (t .proposer-low) (t .proposer-high) (t .counterparty-low) (t .counterparty-high)
 
 -- ---- what one row adds
 
