@@ -1,4 +1,6 @@
 // The plain values of the energy account book: what the definitions in specs/ and the code of the crates above share.
+pub mod verdicts;
+
 use units::Cents;
 use units::CentsPerMwh;
 use units::Kwh;
@@ -138,6 +140,13 @@ pub enum Verdict {
 // The answer of a call.
 pub struct Outcome {
     pub verdict: Verdict,
+}
+
+// A verdict's number and its two details, as the paper counts them. Details not named are 0.
+pub struct Numbers {
+    pub number: u8,
+    pub first: u16,
+    pub second: u16,
 }
 
 // What a record reads as.

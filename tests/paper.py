@@ -1,0 +1,41 @@
+#!/usr/bin/env python3
+"""Writes what a test program is run on, and what it is to print by a reading of document 01 (README.md).
+
+usage: python3 tests/paper.py records      writes crates/records_test/stdin and stdout
+"""
+import os
+import sys
+
+import records
+import setups
+from stream import Stream
+
+MOST_INPUT = 65_536
+
+
+def records_test():
+    s = Stream()
+    records.reading_cases(s)
+    records.writing_cases(s)
+    setups.cases(s)
+    return s
+
+
+TESTS = {"records": records_test}
+
+
+def main():
+    if len(sys.argv) != 2 or sys.argv[1] not in TESTS:
+        sys.exit(__doc__.strip())
+    s = TESTS[sys.argv[1]]()
+    if len(s.bytes) > MOST_INPUT:
+        sys.exit(f"{len(s.bytes)} bytes of cases: more than the program reads")
+    crate = os.path.join(os.path.dirname(os.path.dirname(os.path.abspath(__file__))), "crates", sys.argv[1] + "_test")
+    with open(os.path.join(crate, "stdin"), "wb") as out:
+        out.write(s.bytes)
+    with open(os.path.join(crate, "stdout"), "w") as out:
+        out.write("".join(text + "\n" for text in s.lines))
+    print(f"{s.cases} cases, {len(s.bytes)} bytes, {len(s.lines)} lines")
+
+
+main()
