@@ -35,6 +35,8 @@ pub mod Round
 pub mod Opened
 -- OpenedBytes: what opening writes is the image of the book that it opens.
 pub mod OpenedBytes
+-- OpeningLaws: the loops of opening, step by step.
+pub mod OpeningLaws
 -- NetTests: the stored nets, each by a test without signs.
 pub mod NetTests
 -- PartTests: a part that passes its tests is its own image.

@@ -3,6 +3,7 @@ pub mod checks;
 pub mod exposure;
 pub mod layout;
 pub mod margins;
+pub mod opening;
 pub mod rows;
 pub mod saved;
 pub mod schedules;

@@ -1,0 +1,136 @@
+-- Opening as code runs it: bytes are cleared one by one, what is left of the operators runs down, and the size of the buffer is
+-- looked at before the set-up.
+use Prim.Native.Nat.{ℕ, zero, suc, _+_, _*_, _≤_, _<_}
+use mathlib.Core.Path.{_≡_, refl, sym, ap, _∙_}
+use mathlib.Core.List.{List}
+use mathlib.Core.Option.{Option, none, some}
+use mathlib.Core.Bool.{true}
+use native.Mathlib.Numerals.{add-one}
+use native.Mathlib.Omega.{arith}
+use lib.ListN.{length, set, take, drop}
+use lib.Seq.{take-all, take-suc-set}
+use borrow.Author.Tests.{eq-eqb, ne-eqb}
+use Rattle.wire.specs.Numbers.{le, Bytes}
+use Rattle.wire.specs.Regions.{splice}
+use Rattle.wire.specs.Parts.{zeros}
+use Rattle.wire.proofs.ZeroLaws.{zeros-add, le-zero}
+use Rattle.rules.specs.declared.Counts.{Counts}
+use Rattle.rules.specs.declared.Refusal.{Refusal}
+use Rattle.rules.specs.declared.Refusal.the-variants.{NotABook}
+use Rattle.rules.specs.declared.Checked.the-variants.{Clear, Fails}
+use Rattle.rules.specs.Limits.{bookSize, mostOperators}
+use Rattle.rules.specs.Verdicts.{lowest, checked, accepted, refused}
+use Rattle.rules.specs.Opening.{countsIn, operatorsFrom, setupLength, setupRefusal, openRefusal, openOutcome, opened}
+use Rattle.rules.proofs.Clearing.{clear, clear-lowest}
+use Rattle.book.specs.Layout.{setupRoom, phaseAt, presentAt}
+use Rattle.book.specs.Valid.{isBook, bookBytes}
+use Rattle.book.specs.Fresh.{unlodged, lodged}
+use Rattle.book.specs.Doors.{openBytes}
+use Rattle.book.proofs.Soundness.{sound}
+use Rattle.book.proofs.Sizes.{Fits, fits}
+use Rattle.book.proofs.SetupAgain.{length-guarantees, accepted-length}
+use Rattle.book.proofs.Opened.{opened-valid, opened-is-book}
+use Rattle.book.proofs.OpenedBytes.{length-stored-opened, opening-writes}
+
+-- ---- bytes cleared
+
+module _ (s : List ℕ) where
+  pub cleared-more : (i : ℕ) → i < length s → take i s ≡ zeros i → take (i + 1) (set s i 0) ≡ zeros (i + 1)
+  unfolding zeros
+  cleared-more i h e = rw (add-one i, take-suc-set s i 0 h, e) (zeros-add i 1 ∙ ap zeros (add-one i))
+
+  pub cleared-all : (i n : ℕ) → length s ≤ i → i ≡ n → take i s ≡ zeros i → s ≡ zeros n
+  cleared-all i n h k e = sym (take-all i s h) ∙ e ∙ ap zeros k
+
+-- ---- the guarantees made zero
+
+module _ (s : List ℕ) (at : ℕ) where
+  pub unlodged-done : (n : ℕ) → n ≤ 0 → unlodged s at n ≡ s
+  unfolding unlodged
+  unlodged-done zero h = refl
+  unlodged-done (suc n) h = absurd (omega arith)
+
+  pub unlodged-step : (n m : ℕ) → n ≡ m + 1 → unlodged s at n ≡ unlodged (splice s at (le 8 0)) (at + 10) m
+  unfolding unlodged
+  unlodged-step n m e = rw (e, add-one m, le-zero 8)
+
+-- ---- the guarantees put into the book
+
+module _ (d : List ℕ) (at : ℕ) (s : List ℕ) (from : ℕ) where
+  pub lodged-done : (n : ℕ) → n ≤ 0 → lodged d at s from n ≡ d
+  unfolding lodged
+  lodged-done zero h = refl
+  lodged-done (suc n) h = absurd (omega arith)
+
+  pub lodged-step : (n m w : ℕ) → n ≡ m + 1 → w ≡ 8 → lodged d at s from n ≡ lodged (splice d at (take w (drop from s))) (at + 8) s (from + 10) m
+  unfolding lodged
+  lodged-step n m w e k = rw (e, add-one m, k)
+
+-- ---- an accepted set-up
+
+-- the counts and the operators stand in it, and it fits its room
+pub record Openable (n : Counts) (s : List ℕ) : Type 0 where
+  pub long : 5 ≤ length s
+  pub whole : operatorsFrom n + 10 * n .operators ≤ length s
+  pub short : length s ≤ setupRoom
+  pub few : n .operators ≤ mostOperators
+
+module _ (s : List ℕ) (b : Bytes s) (h : setupRefusal s ≡ none) where
+  pub openable : {n : Counts} → n ≡ countsIn s → Openable n s
+  unfolding opened
+  openable e =
+      let f : Fits (opened s) = fits (opened s) (sound (opened s) (opened-valid s h)) in
+      let l = accepted-length s h in
+      let ls = length-stored-opened s b h in
+      let lg = length-guarantees s in
+      let fs = f .setup-fits in
+      let fg = f .part-fits .guarantees-fit in
+      record {
+        long = omega arith;
+        whole = rw e (omega arith);
+        short = omega arith;
+        few = rw e (omega arith);
+      }
+
+  -- what is written, write by write, is the fresh book
+  pub written-fresh : {n : Counts} → n ≡ countsIn s → {from size : ℕ} → from ≡ operatorsFrom n → size ≡ bookSize → {x y z : List ℕ}
+      → x ≡ unlodged (splice (zeros size) 0 s) from (n .operators)
+      → y ≡ splice x phaseAt (le 1 1)
+      → z ≡ lodged y presentAt s from (n .operators)
+      → z ≡ bookBytes (opened s)
+  written-fresh en ef es ex ey ez = rw (ez, ey, ex, ef, en, es) (opening-writes _ bookSize s b h (omega arith))
+
+-- ---- what opening is refused for
+
+module _ (s book : List ℕ) where
+  pub other-size : (length book ≡ bookSize → ⊥) → openRefusal s book ≡ some NotABook
+  unfolding openRefusal lowest
+  other-size h = rw (ne-eqb _ _ h)
+
+  pub setup-decides : length book ≡ bookSize → openRefusal s book ≡ setupRefusal s
+  unfolding openRefusal setupRefusal lowest
+  setup-decides h = rw (eq-eqb _ _ h)
+
+  -- a refusal is answered, and changes no byte
+  pub refused-unchanged : (r : Refusal) → openRefusal s book ≡ some r → (refused r ≡ openOutcome s book) × (book ≡ openBytes s book)
+  unfolding openOutcome openBytes
+  refused-unchanged r e = (rw e, rw e)
+
+  -- without one the fresh book is there
+  pub accepted-fresh : {x : List ℕ} → openRefusal s book ≡ none → x ≡ bookBytes (opened s) → (accepted 0 ≡ openOutcome s book) × (x ≡ openBytes s book)
+  unfolding openOutcome openBytes
+  accepted-fresh e f = (rw e, rw e f)
+
+  -- which is a book
+  pub open-leaves-a-book : openRefusal s book ≡ none → isBook (openBytes s book) ≡ true
+  unfolding openBytes openRefusal setupRefusal
+  open-leaves-a-book h = rw h (opened-is-book s (clear-lowest _ (clear _ h .1)) _ bookSize (omega arith))
+
+-- what a row of checks comes to, taken back
+pub checked-clear : (o : Option Refusal) → checked o ≡ Clear → o ≡ none
+checked-clear none h = refl
+checked-clear (some r) h = cc
+
+pub checked-fails : (o : Option Refusal) (r : Refusal) → checked o ≡ Fails r → o ≡ some r
+checked-fails none r h = cc
+checked-fails (some q) r h = cc

@@ -1,0 +1,50 @@
+-- The size decides first, then the set-up; where neither is at fault the buffer holds the fresh book.
+use mathlib.Core.Path.{sym, _∙_}
+use Rattle.book.proofs.OpeningLaws.{other-size, setup-decides, refused-unchanged, accepted-fresh, checked-clear, checked-fails}
+use borrow.Author.Needs.{needs}
+use Rattle.book.proofs.opening.open.Statement.{statement}
+use Rattle.book.proofs.opening.open.Tie as tie
+
+returns : tie.Need-returns
+returns c = refused-unchanged _ _ _ (other-size _ _ (c .if1 .taken))
+
+fault-requires : tie.Need-fault-requires
+fault-requires c κs = search needs
+
+enum-known-r : tie.Need-enum-known-r
+enum-known-r c = search needs
+
+returns-2 : tie.Need-returns-2
+returns-2 c =
+    let f = c .before .before .before in
+    refused-unchanged _ _ _ (setup-decides _ _ (f .before .if1 .left) ∙ checked-fails _ _ (sym (f .fault .ensures) ∙ c .before .r .given .1))
+
+enum-told : tie.Need-enum-told
+enum-told c = search needs
+
+fill-requires : tie.Need-fill-requires
+fill-requires c κs =
+    let f = c .before .before .before in
+    (checked-clear _ (sym (f .fault .ensures) ∙ c .before .enum-told .given .1), f .before .if1 .left)
+
+same-length : tie.Need-same-length
+same-length c = search needs
+
+returns-3 : tie.Need-returns-3
+returns-3 c =
+    let f = c .before .before .before .before .before .before in
+    accepted-fresh _ _ (setup-decides _ _ (f .before .if1 .left) ∙ checked-clear _ (sym (f .fault .ensures) ∙ c .before .before .before .before .enum-told .given .1))
+    (c .before .before .fill .ensures)
+
+pub open-spec : {M : Type 1} → statement M
+open-spec =
+    tie.close
+    (tie.spec
+    returns
+    fault-requires
+    enum-known-r
+    returns-2
+    enum-told
+    fill-requires
+    same-length
+    returns-3)

@@ -1,0 +1,23 @@
+-- Zeros, the set-up over their front, and its guarantees emptied: each step as its function has it.
+use borrow.Author.Needs.{needs}
+use Rattle.book.proofs.opening.put_setup.Statement.{statement}
+use Rattle.book.proofs.opening.put_setup.Tie as tie
+
+clear-requires : tie.Need-clear-requires
+clear-requires c κs = search needs
+
+copy-in-requires : tie.Need-copy-in-requires
+copy-in-requires c κs = search needs
+
+unlodge-requires : tie.Need-unlodge-requires
+unlodge-requires c κs = search needs
+
+same-length : tie.Need-same-length
+same-length c = search needs
+
+returns : tie.Need-returns
+returns c = rw (c .before .before .unlodge .ensures, c .before .before .before .before .before .before .copy-in .ensures, c .before .before .before .before .before .before .before .before .before .before .clear .ensures)
+
+pub put-setup-spec : {M : Type 1} → statement M
+put-setup-spec =
+    tie.close (tie.spec clear-requires copy-in-requires unlodge-requires same-length returns)

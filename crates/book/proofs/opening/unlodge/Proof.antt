@@ -1,0 +1,57 @@
+-- Clearing the guarantees that still stand, in the bytes as they are, comes to clearing all of them in the bytes as they were.
+use Prim.Native.Nat.{_+_, _-_, _*_, _≤_}
+use mathlib.Core.Path.{_≡_, refl, sym, _∙_}
+use lib.ListN.{length}
+use native.Mathlib.Omega.{arith}
+use borrow.Author.Needs.{needs}
+use Rattle.book.specs.Fresh.{unlodged}
+use Rattle.book.proofs.OpeningLaws.{unlodged-done, unlodged-step}
+use Rattle.book.proofs.opening.unlodge.Statement.{statement}
+use Rattle.book.proofs.opening.unlodge.Tie as tie
+
+abbrev Inv-loop : tie.InvT-loop
+Inv-loop s₀ from n at₀ standing₀ s at standing = (at + 10 * standing ≤ length s) × (length s ≡ length s₀) × (unlodged s₀ from n ≡ unlodged s at standing)
+
+abbrev μ-loop : tie.MeasureT-loop
+μ-loop s₀ from n at₀ standing₀ s at standing = standing
+
+loop-holds : tie.Need-loop-holds Inv-loop μ-loop
+loop-holds c = (search needs, search needs, refl)
+
+put-u64-requires : tie.Need-put-u64-requires Inv-loop μ-loop
+put-u64-requires c κs = search needs
+
+add-at : tie.Need-add-at Inv-loop μ-loop
+add-at c = search needs
+
+sub-standing : tie.Need-sub-standing Inv-loop μ-loop
+sub-standing c = search needs
+
+loop-less : tie.Need-loop-less Inv-loop μ-loop
+loop-less c = search needs
+
+loop-again : tie.Need-loop-again Inv-loop μ-loop
+loop-again c =
+    let l = c .before .before .before .before .before .loop in
+    (search needs, search needs, l .inv .2 ∙ unlodged-step _ _ _ (l .standing - 1) (omega arith) ∙ rw (c .before .before .put-u64 .ensures))
+
+same-length : tie.Need-same-length Inv-loop μ-loop
+same-length c = search needs
+
+returns : tie.Need-returns Inv-loop μ-loop
+returns c = sym (c .before .loop .inv .2 ∙ unlodged-done _ _ _ (omega arith))
+
+pub unlodge-spec : {M : Type 1} → statement M
+unlodge-spec =
+    tie.close
+    (tie.spec
+    Inv-loop
+    μ-loop
+    loop-holds
+    put-u64-requires
+    add-at
+    sub-standing
+    loop-less
+    loop-again
+    same-length
+    returns)
