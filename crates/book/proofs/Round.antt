@@ -13,7 +13,7 @@ use Rattle.wire.specs.Numbers.{number, le, Bytes}
 use Rattle.wire.specs.Parts.{Small}
 use Rattle.wire.proofs.NumberLaws.{number-le, le-number-wide}
 use Rattle.wire.proofs.PartLaws.{cut-flat}
-use Rattle.wire.proofs.PackLaws.{number-in-pack}
+use Rattle.wire.proofs.PackLaws.{number-in-pack, pack-numbers}
 use Rattle.wire.proofs.SlotLaws.{unslots}
 use Rattle.units.specs.declared.Cents.{Cents}
 use Rattle.units.specs.Units.{cents}
@@ -29,7 +29,7 @@ use Rattle.book.specs.Image.{rowValues, rowBytes, scheduleValues, schedu
 use Rattle.book.specs.Valid.{valid, same, isBookOf}
 use Rattle.book.proofs.Soundness.{SoundSetup, SoundRow, SoundSchedule, SoundPart, SavedSound, sound}
 use Rattle.book.proofs.Sizes.{row-small, schedule-small, part-fits-of, fits, length-row, length-schedule, length-guarantee, wide-part, wide-book, length-image}
-use Rattle.book.proofs.StoredSetup.{pack-numbers, setup-back}
+use Rattle.book.proofs.StoredSetup.{setup-back}
 
 -- ---- rows and schedules
 

@@ -12,6 +12,7 @@ use lib.Dec.{eqb, ltb}
 use borrow.Author.Tests.{eqb-true, eq-eqb, le-ltb, not-false, not-true}
 use Rattle.wire.specs.Numbers.{le, Bytes}
 use Rattle.wire.proofs.NumberLaws.{bytes-drop}
+use Rattle.wire.proofs.PartLaws.{take-drop-take}
 use Rattle.units.specs.declared.Cents.{Cents}
 use Rattle.units.specs.Units.{cents}
 use Rattle.rules.specs.declared.Counts.{Counts}
@@ -20,7 +21,7 @@ use Rattle.rules.specs.Books.{operatorCount, accountCount, pointCount}
 use Rattle.rules.specs.Opening.{priceIn, operatorIn, accountIn, pointIn, countsIn, operatorsFrom, accountsFrom, pointsFrom, setupLength, estimatesIn, operatorsIn, accountsIn, pointsIn, setupOf, guaranteesOf, operatorBytes, accountBytes, pointBytes, operatorsOf, setupBytes, badCounts, misshapen, faultyOffset, setupChecks, setupRefusal}
 use Rattle.rules.proofs.Tests.{or-neither}
 use Rattle.rules.proofs.Clearing.{clear, clear-lowest, spared, spared↑}
-use Rattle.rules.proofs.SetupEntries.{length-entries, joined-entries, counts-of-setup, take-drop-take}
+use Rattle.rules.proofs.SetupEntries.{length-entries, joined-entries, counts-of-setup}
 use Rattle.book.specs.Image.{storedSetup}
 use Rattle.book.specs.Valid.{setupTests, setupOk}
 use Rattle.book.proofs.Soundness.{sound-setup, holds-all, all-holds}

@@ -1,16 +1,16 @@
 -- A set-up and its bytes, there and back: each value in range fits its bytes, and the entries stand side by side, read by their counts.
 use Prim.Native.Nat.{ℕ, zero, suc, _+_, _*_, _≤_}
-use mathlib.Core.Path.{_≡_, refl, sym, ap, _∙_}
+use mathlib.Core.Path.{_≡_, refl, ap, _∙_}
 use mathlib.Core.List.{List, [], _∷_, _++_, append-assoc, append-nil}
 use mathlib.Core.Bool.{Bool, true, false}
 use native.Mathlib.Omega.{arith}
 use lib.ListN.{length, getD, drop, replicate, length-replicate}
-use lib.Seq.{drop-drop, drop-append-add}
+use lib.Seq.{drop-append-add}
 use lib.Dec.{eqb}
-use Rattle.wire.specs.Numbers.{numberAt, le, Bytes}
-use Rattle.wire.specs.Parts.{flat, startOf, Wide, Small, cut, pack, unpack, padded}
+use Rattle.wire.specs.Numbers.{le, Bytes}
+use Rattle.wire.specs.Parts.{flat, startOf, Wide, Small, padded}
 use Rattle.wire.proofs.NumberLaws.{length-le, number-le, le-number-wide}
-use Rattle.wire.proofs.PackLaws.{length-pack, number-in-pack, pack-unpack}
+use Rattle.wire.proofs.PackLaws.{length-pack, number-in-pack, pack-numbers}
 use Rattle.units.specs.declared.Cents.{Cents}
 use Rattle.units.specs.declared.CentsPerMwh.{CentsPerMwh}
 use Rattle.units.specs.Units.{cents}
@@ -31,20 +31,6 @@ use Rattle.book.proofs.Sizes.{length-joined, length-operators}
 use Rattle.book.proofs.SetupRanges.{SoundOperator, SoundAccount, SoundPoint, InRange, values-in-range, maintenance-of, guarantees-of}
 
 -- ---- an entry
-
--- numbers side by side from a place on, each in its width
-abbrev pub numbersAt : List ℕ → ℕ → List ℕ → List ℕ
-numbersAt s at [] = []
-numbersAt s at (w ∷ ws) = numberAt s at w ∷ numbersAt s (at + w) ws
-
-unpack-from : (ws s : List ℕ) (at : ℕ) → unpack ws (drop at s) ≡ numbersAt s at ws
-unfolding unpack cut numberAt
-unpack-from [] s at = refl
-unpack-from (w ∷ ws) s at = rw (drop-drop w at s, unpack-from ws s (at + w))
-
--- numbers that were read at their places pack to the same bytes
-pub pack-numbers : (ws : List ℕ) {c : List ℕ} → Bytes c → length c ≡ startOf ws (length ws) → pack ws (numbersAt c 0 ws) ≡ c
-pack-numbers ws {c} b l = ap (pack ws) (sym (unpack-from ws c 0)) ∙ pack-unpack ws b l
 
 price-back : (x : CentsPerMwh) → x .0 ≤ mostPrice → priceIn (le 4 (x .0)) ≡ x
 unfolding priceIn

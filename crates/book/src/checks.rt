@@ -17,14 +17,10 @@ use crate::rows::row_at;
 use crate::schedules::schedule_at;
 use rules::Row;
 use rules::Schedule;
+use rules::limits::MOST_ENERGY;
+use rules::limits::MOST_GUARANTEE;
+use rules::limits::MOST_PRICE;
 use wire::numbers::get_u64;
-
-// The greatest quantity in kWh, price in cents per MWh, and guarantee in cents.
-pub const MOST_ENERGY: u32 = 10_000_000;
-
-pub const MOST_PRICE: u32 = 400_000;
-
-pub const MOST_GUARANTEE: u64 = 1_000_000_000_000;
 
 // Every field of the row is in range, and its two accounts differ.
 pub fn row_ok(r: Row, accounts: u8, hours: u8) -> bool

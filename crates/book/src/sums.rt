@@ -16,6 +16,8 @@ use crate::rows::row_at;
 use rules::AccountHour;
 use rules::Net;
 use rules::Row;
+use rules::limits::MOST_ACCOUNTS;
+use rules::limits::MOST_HOURS;
 use units::Kwh;
 use wire::numbers::get_u32;
 
@@ -28,11 +30,7 @@ const SALES: usize = 2;
 
 const PURCHASES: usize = 3;
 
-// The account hours of a table, and the cells of an account in a lane.
-const MOST_ACCOUNTS: u8 = 32;
-
-const MOST_HOURS: u8 = 25;
-
+// The cells of an account in a lane.
 const ACCOUNT_CELLS: usize = 25;
 
 // What 4 bytes count to.

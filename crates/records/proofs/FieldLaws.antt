@@ -1,28 +1,15 @@
--- Where the fields of a record stand, and how large the numbers in them are.
-use Prim.Native.Nat.{ℕ, zero, suc, _+_, _*_, _^_, _≤_, _<_, max}
-use mathlib.Core.Path.{_≡_, refl, sym, ap}
+-- How wide the fields of a record are, and a list of fields filled one after the other.
+use Prim.Native.Nat.{ℕ, zero, suc, _+_, _≤_, max}
+use mathlib.Core.Path.{_≡_}
 use mathlib.Core.List.{List, [], _∷_}
-use mathlib.Core.Logic.{⊎-elim}
 use mathlib.Core.Bool.{Bool, true, false}
-use native.Mathlib.Nat.{pow-le-pow-right, lt-of-lt-of-le, add-zero, zero-add, eq-or-lt-of-le}
 use native.Mathlib.Numerals.{add-one}
 use native.Mathlib.Omega.{arith}
 use lib.ListN.{getD, set}
-use Rattle.wire.specs.Numbers.{numberAt, Bytes}
-use Rattle.wire.proofs.NumberLaws.{number-at-step, number-at-zero, number-at-small}
-use Rattle.rules.specs.Basics.{if_then_else_, total, counting, bit}
-use Rattle.rules.specs.Requests.{widths, widthOf, mapOf, room, offset, fieldIn}
+use Rattle.rules.specs.Basics.{if_then_else_, bit}
+use Rattle.rules.specs.Requests.{widths, widthOf, room}
 
--- ---- numbers, one byte more in front
-
-pub number-at-more : (s : List ℕ) (p q m n v : ℕ) → p ≡ q + 1 → n ≡ m + 1 → v ≡ numberAt s p m → getD s q 0 + 256 * v ≡ numberAt s q n
-number-at-more s p q m n v e f h = rw (f, add-one m, number-at-step s q m, h, e, add-one q)
-
--- a number of few bytes fits more
-pub number-at-below : {s : List ℕ} → Bytes s → (at w n : ℕ) → w ≤ n → numberAt s at w < 256 ^ n
-number-at-below h at w n l = lt-of-lt-of-le (number-at-small h at w) (pow-le-pow-right (omega arith) l)
-
--- ---- rooms and offsets
+-- ---- rooms
 
 -- the largest entry of a table
 abbrev pub largest : List ℕ → ℕ
@@ -41,42 +28,6 @@ room-small m k = go (bit m k)
   where
     go : (t : Bool) → (if t then widthOf k else 0) ≤ 8
     go true = below-largest widths k
-    go false = omega arith
-
--- a sum over one number more
-total-last : (f : ℕ → ℕ) (n k : ℕ) → total f (counting (suc n) k) ≡ total f (counting n k) + f (k + n)
-unfolding total counting
-total-last f zero k = omega (arith, ap f (add-zero k))
-total-last f (suc n) k =
-    let e : suc k + n ≡ k + suc n = omega arith in
-    omega (arith, total-last f n (suc k), ap f e)
-
--- the next field begins where this one ends
-pub offset-next : (m k : ℕ) → offset m (k + 1) ≡ offset m k + room m k
-unfolding offset
-offset-next m k = rw (add-one k) (omega (arith, total-last (room m) k 0, ap (room m) (zero-add k)))
-
--- a field ends no later than the last
-pub offset-within : (m k n : ℕ) → k < n → offset m k + room m k ≤ offset m n
-offset-within m k zero h = absurd (omega arith)
-offset-within m k (suc n) h = rw (← add-one n, offset-next m n) (⊎-elim (λ e. rw e (omega arith)) (λ l. omega (arith, offset-within m k n l)) (eq-or-lt-of-le {n = k} {m = n} (omega arith)))
-
--- a field is the number in its room
-pub field-at : (s : List ℕ) (k : ℕ) → fieldIn s k ≡ numberAt s (offset (mapOf s) k) (room (mapOf s) k)
-unfolding fieldIn room
-field-at s k = go (bit (mapOf s) k)
-  where
-    go : (t : Bool) → (if t then numberAt s (offset (mapOf s) k) (widthOf k) else 0) ≡ numberAt s (offset (mapOf s) k) (if t then widthOf k else 0)
-    go true = refl
-    go false = sym (number-at-zero s (offset (mapOf s) k))
-
--- and fits its width
-pub field-small : {s : List ℕ} → Bytes s → (k : ℕ) → fieldIn s k < 256 ^ widthOf k
-unfolding room
-field-small {s} h k = rw (field-at s k) (number-at-below h (offset (mapOf s) k) (room (mapOf s) k) (widthOf k) (go (bit (mapOf s) k)))
-  where
-    go : (t : Bool) → (if t then widthOf k else 0) ≤ widthOf k
-    go true = omega arith
     go false = omega arith
 
 -- ---- a list filled from one place on

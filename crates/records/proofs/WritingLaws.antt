@@ -1,46 +1,22 @@
 -- A record put into a buffer, field by field: what is put and what is still to be put are together the whole.
 use Prim.Native.Nat.{ℕ, zero, suc, _+_, _/_, _%_, _≤_, _<_}
 use mathlib.Core.Path.{_≡_, _∙_, sym, ap}
-use mathlib.Core.List.{List, [], _∷_, _++_, append-assoc}
+use mathlib.Core.List.{List, [], _∷_}
 use mathlib.Core.Bool.{true, false}
-use native.Mathlib.Nat.{add-zero, zero-add}
+use native.Mathlib.Nat.{zero-add}
 use native.Mathlib.Numerals.{add-one}
 use native.Mathlib.Omega.{arith}
-use lib.ListN.{length, take, drop, set, length-append, take-append-drop}
-use lib.Seq.{length-take-le, drop-drop, set-split}
-use borrow.Author.Tests.{lt-ltb, le-ltb}
+use lib.ListN.{length, set}
+use borrow.Author.Tests.{lt-ltb, le-ltb, ltb-false, not-false}
 use Rattle.wire.specs.Numbers.{le}
 use Rattle.wire.specs.Regions.{splice}
 use Rattle.wire.proofs.NumberLaws.{length-le}
-use Rattle.wire.proofs.RegionLaws.{splice-take-drop, splice-right}
+use Rattle.wire.proofs.RegionLaws.{splice-take-drop, splice-one, splice-none, splice-append}
 use Rattle.rules.specs.declared.Request.{Request}
 use Rattle.rules.specs.declared.Refusal.the-variants.{UnknownKind, BufferShort}
 use Rattle.rules.specs.Verdicts.{lowest, accepted, refused}
-use Rattle.rules.specs.Requests.{isKind, wantedLength, wantedMap, room, fieldOf, fieldBytes, writeOutcome, write, written}
-
--- ---- regions put one after the other
-
-pub splice-none : (s : List ℕ) (at : ℕ) → splice s at [] ≡ s
-splice-none s at = splice-take-drop s at [] ∙ rw (add-zero at) (take-append-drop at s)
-
-pub splice-append : (s : List ℕ) (at : ℕ) (x y : List ℕ) → at ≤ length s → splice (splice s at x) (at + length x) y ≡ splice s at (x ++ y)
-splice-append s at x y h =
-    let p : List ℕ = take at s ++ x in
-    let d : List ℕ = drop (at + length x) s in
-    let whole : splice s at x ≡ p ++ d = splice-take-drop s at x ∙ sym (append-assoc (take at s) x d) in
-    let n : at + length x ≡ length p + 0 = omega (arith, length-append (take at s) x, length-take-le at s h) in
-    let e : List ℕ = drop (at + length (x ++ y)) s in
-    let m : at + length x + (0 + length y) ≡ at + length (x ++ y) = omega (arith, length-append x y) in
-    let rest : splice d 0 y ≡ y ++ e =
-    splice-take-drop d 0 y ∙ ap (λ (l : List ℕ). y ++ l) (drop-drop (0 + length y) (at + length x) s ∙ ap (λ (k : ℕ). drop k s) m) in
-    rw whole (splice-right p d (at + length x) 0 y n
-    ∙ ap (λ (l : List ℕ). p ++ l) rest
-    ∙ append-assoc (take at s) x (y ++ e)
-    ∙ ap (λ (l : List ℕ). take at s ++ l) (sym (append-assoc x y e))
-    ∙ sym (splice-take-drop s at (x ++ y)))
-
-splice-one : (s : List ℕ) (at x : ℕ) → at < length s → splice s at (x ∷ []) ≡ set s at x
-splice-one s at x h = splice-take-drop s at (x ∷ []) ∙ rw (add-one at) (sym (set-split s at x h))
+use Rattle.rules.specs.Requests.{isKind, wantedLength, wantedMap, fieldCount, room, fieldOf, fieldBytes, writeChecks, writeOutcome, write, written, filled}
+use Rattle.rules.proofs.Clearing.{accepted-none, clear, spared}
 
 -- ---- a number put byte by byte
 
@@ -70,11 +46,11 @@ fields-next m q s at k n j w v e f g h =
     rw (e, add-one j, ← f, ← g, ← add-one k) (ap (λ (i : ℕ). splice (splice s at (le w v)) (at + i) (fieldBytes m q (k + 1) j)) (sym l) ∙ t)
 
 -- the map and the fields behind it are the record
-pub record-put : (q : Request) (s : List ℕ) (m : ℕ) → m ≡ wantedMap (q .kind) → splice (splice s 0 (le 2 m)) 2 (fieldBytes m q 0 13) ≡ splice s 0 (write q)
+pub record-put : (q : Request) (s : List ℕ) (m : ℕ) → m ≡ wantedMap (q .kind) → splice (splice s 0 (le 2 m)) 2 (fieldBytes m q 0 fieldCount) ≡ splice s 0 (write q)
 unfolding write
 record-put q s m e =
     let l : 0 + length (le 2 m) ≡ 2 = omega (arith, length-le 2 m) in
-    rw (← e) (ap (λ (i : ℕ). splice (splice s 0 (le 2 m)) i (fieldBytes m q 0 13)) (sym l) ∙ splice-append s 0 (le 2 m) (fieldBytes m q 0 13) (omega arith))
+    rw (← e) (ap (λ (i : ℕ). splice (splice s 0 (le 2 m)) i (fieldBytes m q 0 fieldCount)) (sym l) ∙ splice-append s 0 (le 2 m) (fieldBytes m q 0 fieldCount) (omega arith))
 
 -- ---- the writer's ways out
 
@@ -88,9 +64,21 @@ module _ (q : Request) (buffer : List ℕ) where
   unfolding writeOutcome written lowest
   writes-no-room k h = let t = lt-ltb (length buffer) (wantedLength (q .kind)) h in (rw (k, t), rw (k, t))
 
+  pub writes-front : isKind (q .kind) ≡ true → wantedLength (q .kind) ≤ length buffer
+      → (accepted 0 ≡ writeOutcome q buffer) × (filled (write q) buffer ≡ written q buffer)
+  unfolding writeOutcome written lowest
+  writes-front k h = let t = le-ltb (length buffer) (wantedLength (q .kind)) h in (rw (k, t), rw (k, t))
+
+  -- the same, as a region replaced
   pub writes-record : isKind (q .kind) ≡ true → wantedLength (q .kind) ≤ length buffer
       → (accepted 0 ≡ writeOutcome q buffer) × (splice buffer 0 (write q) ≡ written q buffer)
-  unfolding writeOutcome written lowest
   writes-record k h =
-      let t = le-ltb (length buffer) (wantedLength (q .kind)) h in
-      (rw (k, t), splice-take-drop buffer 0 (write q) ∙ rw (k, t, zero-add (length (write q))))
+      let w = writes-front k h in
+      (w .0, splice-take-drop buffer 0 (write q) ∙ rw (zero-add (length (write q))) (w .1))
+
+  -- what is accepted has a kind and room
+  pub accepted-writing : writeOutcome q buffer ≡ accepted 0 → (isKind (q .kind) ≡ true) × (wantedLength (q .kind) ≤ length buffer)
+  unfolding writeOutcome
+  accepted-writing h =
+      let c = clear (writeChecks q buffer) (accepted-none (lowest (writeChecks q buffer)) 0 h) in
+      (not-false _ (spared _ _ (c .0)), ltb-false _ _ (spared _ _ (c .1 .0)))

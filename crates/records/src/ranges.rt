@@ -10,14 +10,10 @@ use rules::Checked;
 use rules::Counts;
 use rules::Refusal;
 use rules::Request;
-
-const MOST_ENERGY: u32 = 10_000_000;
-
-const MOST_PRICE: u32 = 400_000;
-
-const MOST_GUARANTEE: u64 = 1_000_000_000_000;
-
-const MOST_ROWS: u16 = 256;
+use rules::limits::MOST_ENERGY;
+use rules::limits::MOST_GUARANTEE;
+use rules::limits::MOST_PRICE;
+use rules::limits::MOST_ROWS;
 
 // A field's check, and then those of higher bits.
 fn field(good: bool, bit: u8, rest: Checked) -> Checked

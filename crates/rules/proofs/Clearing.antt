@@ -1,14 +1,29 @@
 -- Checks of which none applies: acceptance is that, and then each test of the list is false.
 use Prim.Native.Nat.{ℕ, zero, suc}
-use mathlib.Core.Path.{_≡_, refl}
+use mathlib.Core.Path.{_≡_, refl, ap}
 use mathlib.Core.List.{List, [], _∷_, _++_}
 use mathlib.Core.Option.{Option, none, some}
 use mathlib.Core.Bool.{Bool, true, false, _&&_}
+use native.Mathlib.Omega.{arith}
 use lib.ListN.{getD}
 use Rattle.rules.specs.declared.Refusal.{Refusal}
 use Rattle.rules.specs.declared.Refusal.the-variants.{NotABook}
-use Rattle.rules.specs.Verdicts.{Check, _⇒_, _⇒↑_, applies, lowest}
+use Rattle.rules.specs.declared.Outcome.{Outcome}
+use Rattle.rules.specs.declared.Verdict.the-variants.{Accepted, Refused}
+use Rattle.rules.specs.Verdicts.{Check, _⇒_, _⇒↑_, applies, lowest, accepted, refused, outcomeOf}
 use Rattle.rules.specs.Calls.{when}
+
+-- no outcome is both refused and accepted
+pub never-both : (r : Refusal) (n : ℕ) → refused r ≡ accepted n → ⊥
+never-both r n h =
+    let v : Refused r ≡ Accepted n = ap (λ (o : Outcome). o .verdict) h in
+    let z : _≡_ {A = ℕ} 0 1 = cc in
+    omega arith
+
+-- what is accepted is refused for nothing
+pub accepted-none : (o : Option Refusal) (n : ℕ) → outcomeOf o n ≡ accepted n → o ≡ none
+accepted-none none n h = refl
+accepted-none (some r) n h = absurd (never-both r n h)
 
 -- no check of the list applies
 abbrev pub Clear : List Check → Type 0

@@ -9,21 +9,19 @@ use lib.ListN.{length, getD, take, drop, length-append}
 use lib.Seq.{take-at, drop-at, drop-drop, ext-getD}
 use Rattle.wire.specs.Numbers.{number, numberAt, le, Bytes, none}
 use Rattle.wire.proofs.NumberLaws.{length-le, number-le, number-le-rest, number-at-zero, number-at-small, bytes-le, bytes-append}
+use Rattle.wire.proofs.SlotLaws.{map-get}
 use Rattle.units.specs.Units.{kwh, cents, centsPerMwh}
 use Rattle.rules.specs.declared.Request.{Request}
 use Rattle.rules.specs.Basics.{if_then_else_, total, counting, bit}
 use Rattle.rules.specs.Requests.{isKind, wantedMap, wantedLength, widthOf, fieldCount, mapOf, room, offset, fieldIn, requestOf, fieldsOf, fieldOf, fieldBytes, write, Canonical, Fits}
+use Rattle.rules.proofs.Searches.{counting-at, counting-length}
+use Rattle.rules.proofs.Totals.{total-last}
 use Rattle.rules.proofs.KindTables.{tables-agree}
 
 -- ---- where fields begin
 
 across : (n k : ℕ) → suc n + k ≡ n + suc k
 across n k = omega arith
-
-total-last : (f : ℕ → ℕ) (n from : ℕ) → total f (counting (suc n) from) ≡ total f (counting n from) + f (from + n)
-unfolding total counting
-total-last f zero from = omega (arith, ap f (add-zero from))
-total-last f (suc n) from = omega (arith, total-last f n (suc from), ap f (across from n))
 
 -- the first begins past the map
 pub offset-first : (m : ℕ) → offset m 0 ≡ 2
@@ -35,9 +33,13 @@ pub offset-step : (m k : ℕ) → offset m (suc k) ≡ offset m k + room m k
 unfolding offset
 offset-step m k = omega (arith, total-last (room m) k 0, ap (room m) (zero-add k))
 
-pub offset-grows : (m k n : ℕ) → offset m k ≤ offset m (k + n)
-offset-grows m k zero = omega (arith, ap (offset m) (add-zero k))
-offset-grows m k (suc n) = omega (arith, offset-step m k, offset-grows m (suc k) n, ap (offset m) (across k n))
+-- a field begins no later than those behind it
+pub offset-grows : (m k n : ℕ) → k ≤ n → offset m k ≤ offset m n
+offset-grows m k n h = let e : k + (n - k) ≡ n = omega arith in omega (arith, by-steps k (n - k), ap (offset m) e)
+  where
+    by-steps : (k d : ℕ) → offset m k ≤ offset m (k + d)
+    by-steps k zero = omega (arith, ap (offset m) (add-zero k))
+    by-steps k (suc d) = omega (arith, offset-step m k, by-steps (suc k) d, ap (offset m) (across k d))
 
 -- ---- what a record holds
 
@@ -66,10 +68,7 @@ field-in-fits {s} h k =
 -- ---- a request by its fields
 
 get-counting : (f : ℕ → ℕ) (n from k : ℕ) → k < n → getD (map f (counting n from)) k 0 ≡ f (from + k)
-unfolding counting
-get-counting f zero from k h = absurd (omega arith)
-get-counting f (suc n) from zero h = ap f (sym (add-zero from))
-get-counting f (suc n) from (suc k) h = get-counting f n (suc from) k (omega arith) ∙ ap f (across from k)
+get-counting f n from k h = map-get f (counting n from) k 0 0 (rw counting-length h) ∙ ap f (counting-at n from 0 k h)
 
 pub field-of-request : (s : List ℕ) (k : ℕ) → k < fieldCount → fieldOf (requestOf s) k ≡ fieldIn s k
 unfolding requestOf counting

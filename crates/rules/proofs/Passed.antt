@@ -1,12 +1,11 @@
 -- What an accepted call passed: no check of its ranked list applies, so each test of the list is false. A law for each number
 -- says that of its test, at the kinds to which the number applies.
 use Prim.Native.Nat.{ℕ, _+_, _-_, _*_, _^_, _≤_, _<_}
-use mathlib.Core.Path.{_≡_, refl, ap}
+use mathlib.Core.Path.{_≡_, refl}
 use mathlib.Core.Logic.{_⊎_, inl, inr}
 use mathlib.Core.List.{List, [], _∷_, _++_}
 use mathlib.Core.Option.{Option, none, some}
 use mathlib.Core.Bool.{true, false}
-use native.Mathlib.Nat.{zero-add}
 use native.Mathlib.Omega.{arith}
 use lib.ListN.{length, getD}
 use lib.Dec.{ltb}
@@ -14,8 +13,6 @@ use borrow.Author.Tests.{eqb-true, eqb-false, leb-false, ltb-false, not-false}
 use Rattle.rules.specs.declared.Counts.{Counts}
 use Rattle.rules.specs.declared.Request.{Request}
 use Rattle.rules.specs.declared.Refusal.{Refusal}
-use Rattle.rules.specs.declared.Outcome.{Outcome}
-use Rattle.rules.specs.declared.Verdict.the-variants.{Accepted, Refused}
 use Rattle.rules.specs.Basics.{any, nth, counting, upTo, bit, Each, nil, cons}
 use Rattle.rules.specs.Limits.{mostPrice, mostRows, mostSchedules}
 use Rattle.rules.specs.Verdicts.{accepted, refused}
@@ -25,8 +22,8 @@ use Rattle.rules.specs.Registration.{alike, confirms, withdraws, mirrors
 use Rattle.rules.specs.Settlement.{priceCount, pricesIn}
 use Rattle.rules.specs.Calls.{Call, requestIn, kindIn, next, given, confirmedNumber, _∈_, phaseOf, weighsOn, inputChecks, stateChecks, checks, refusal, answer, step}
 use Rattle.rules.proofs.Tests.{within-true, or-neither, and-spared}
-use Rattle.rules.proofs.Searches.{some-of, none-of, counting-at, counting-length, each-at, find-none}
-use Rattle.rules.proofs.Clearing.{Clear, clear, clear-split, clear-at, spared, spared↑, spared-for, spared↑-for}
+use Rattle.rules.proofs.Searches.{some-of, none-of, counted-has, find-none}
+use Rattle.rules.proofs.Clearing.{never-both, Clear, clear, clear-split, clear-at, spared, spared↑, spared-for, spared↑-for}
 
 -- ---- 2 to 5, of the record itself
 
@@ -54,9 +51,7 @@ kind-numbers = cons refl (cons refl (cons refl (cons refl (cons refl (cons refl 
 -- the kind of a number from 1 to 10 has that number
 pub kind-number : (n : ℕ) → isKind n ≡ true → kindNumber (kindOf n) ≡ n
 kind-number n h =
-    let w = within-true 1 n 10 .0 h in
-    let e : 1 + (n - 1) ≡ n = omega arith in
-    rw (counting-at 10 1 0 (n - 1) (omega arith), e) at (each-at 0 (n - 1) kind-numbers (rw counting-length (omega arith)))
+    let w = within-true 1 n 10 .0 h in counted-has 10 1 n kind-numbers (w .0) (omega arith)
 
 -- under 3 bytes, bit 0 clear, or a bit of 13 to 15 set: none of these
 pub readable : (s : List ℕ) → unreadable s ≡ false → (3 ≤ length s) × (bit (mapOf s) 0 ≡ true) × (mapOf s < 2 ^ 13)
@@ -73,8 +68,7 @@ pub field-in-range : (n : Counts) (q : Request) (k : ℕ) → faultyBit n q ≡ 
     → bit (wantedMap (q .kind)) k ≡ true → getD (inRange n q) k true ≡ true
 unfolding faultyBit faultyField bits
 field-in-range n q k h l e =
-    let w = each-at 0 k (find-none (faultyField n q) bits h) (rw counting-length l) in
-    not-false _ (and-spared _ _ e (rw (counting-at fieldCount 0 0 k l, zero-add) at w))
+    not-false _ (and-spared _ _ e (counted-has fieldCount 0 k (find-none (faultyField n q) bits h) (omega arith) l))
 
 -- the accounts differ, where the kind has two
 pub two-accounts : (q : Request) → sameAccounts q ≡ false → bit (wantedMap (q .kind)) 2 ≡ true → q .account ≡ q .other → ⊥
@@ -215,10 +209,7 @@ step-cases b c = cases-go b c (refusal b c) refl
 
 accepted-go : (b : Book) (c : Call) (n : ℕ) (o : Option Refusal) → refusal b c ≡ o → answer b c o .outcome ≡ accepted n → Passed b c
 unfolding answer
-accepted-go b c n (some r) e h =
-    let v : Refused r ≡ Accepted n = ap (λ (o : Outcome). o .verdict) h in
-    let z : _≡_ {A = ℕ} 0 1 = cc in
-    absurd (omega arith)
+accepted-go b c n (some r) e h = absurd (never-both r n h)
 accepted-go b c n none e h = passed b c e
 
 -- a call that is accepted passed every check

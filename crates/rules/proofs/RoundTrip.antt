@@ -3,19 +3,19 @@ use Prim.Native.Nat.{ℕ, zero, suc, _+_, _^_, _<_, _≤_}
 use mathlib.Core.Path.{_≡_, refl, sym, ap, _∙_}
 use mathlib.Core.List.{List, _++_}
 use mathlib.Core.Option.{Option, none, some}
-use mathlib.Core.Bool.{true, false, not}
+use mathlib.Core.Bool.{true, false}
 use native.Mathlib.Nat.{add-zero, mod-eq-of-lt}
 use native.Mathlib.Omega.{arith}
-use lib.ListN.{length, take, drop, length-drop, take-append-drop, drop-of-length-le}
-use lib.Seq.{drop-drop, length-take-le}
-use lib.Dec.{eqb, leb, ltb}
-use borrow.Author.Tests.{eqb-true, eq-eqb, not-false, le-ltb, lt-leb}
-use Rattle.wire.specs.Numbers.{number, numberAt, le, Bytes}
-use Rattle.wire.proofs.NumberLaws.{le-number-wide, bytes-take, bytes-drop}
+use lib.ListN.{length, take, drop, take-append-drop, drop-of-length-le}
+use lib.Seq.{drop-drop}
+use lib.Dec.{leb, ltb}
+use borrow.Author.Tests.{eq-eqb, le-ltb, lt-leb}
+use Rattle.wire.specs.Numbers.{numberAt, le, Bytes}
+use Rattle.wire.proofs.NumberLaws.{le-number-at}
 use Rattle.rules.specs.declared.Request.{Request}
 use Rattle.rules.specs.declared.Reading.the-variants.{Read}
 use Rattle.rules.specs.declared.Refusal.{Refusal}
-use Rattle.rules.specs.Basics.{Each, nil, cons, bit}
+use Rattle.rules.specs.Basics.{bit}
 use Rattle.rules.specs.Verdicts.{lowest}
 use Rattle.rules.specs.Requests.{isKind, wantedMap, wantedLength, fieldCount, mapOf, room, offset, fieldIn, requestOf, unreadable, readChecks, readingOf, reading, fieldOf, fieldBytes, write, Canonical, Fits}
 use Rattle.rules.proofs.Clearing.{Clear, clear, clear-lowest}
@@ -48,7 +48,7 @@ long-enough : (m : ℕ) → bit m 0 ≡ true → 3 ≤ offset m fieldCount
 unfolding room
 long-enough m b =
     let r : room m 0 ≡ 1 = rw b in
-    omega (arith, offset-first m, offset-step m 0, offset-grows m 1 12)
+    omega (arith, offset-first m, offset-step m 0, offset-grows m 1 fieldCount (omega arith))
 
 never-unreadable : (s : List ℕ) → Readable s → Agree (fieldIn s 0) → unreadable s ≡ false
 unfolding unreadable
@@ -65,6 +65,10 @@ reads s r =
     let none-applies : Clear (readChecks s) =
     (rw fine, (rw (r .known), (rw (eq-eqb _ _ (r .mapped)), (rw (eq-eqb _ _ (r .sized)), tt)))) in
     rw (clear-lowest (readChecks s) none-applies)
+
+-- such a record ends with its last field
+pub record-ends : (s : List ℕ) → Readable s → length s ≡ offset (mapOf s) fieldCount
+record-ends s r = r .sized ∙ tables-agree (fieldIn s 0) (r .known) .ends ∙ ap (λ (m : ℕ). offset m fieldCount) (sym (r .mapped))
 
 -- ---- a request, written and read
 
@@ -87,30 +91,27 @@ module _ (q : Request) (h : isKind (q .kind) ≡ true) (c : Canonical q) (f : Fi
 -- the fields of a record, written again, are its bytes
 rewritten : (s : List ℕ) → Bytes s → length s ≡ offset (mapOf s) fieldCount → (k n : ℕ) → k + n ≡ fieldCount
     → fieldBytes (mapOf s) (requestOf s) k n ≡ drop (offset (mapOf s) k) s
-unfolding fieldBytes numberAt
+unfolding fieldBytes
 rewritten s b e k zero l =
     let last : length s ≤ offset (mapOf s) k = omega (arith, ap (offset (mapOf s)) (sym l ∙ add-zero k)) in
     sym (drop-of-length-le s last)
 rewritten s b e k (suc n) l =
     let m : ℕ = mapOf s in
-    let rest : List ℕ = drop (offset m k) s in
+    let at : ℕ = offset m k in
     let w : ℕ = room m k in
-    let field : fieldOf (requestOf s) k ≡ number (take w rest) = field-of-request s k (omega arith) ∙ field-in-room s k in
-    let end : suc k + n ≡ fieldCount = omega arith in
-    let within : offset m (suc k) ≤ length s = omega (arith, offset-grows m (suc k) n, ap (offset m) end) in
-    let full : length (take w rest) ≡ w = length-take-le w rest (omega (arith, length-drop (offset m k) s, offset-step m k)) in
-    let first : le w (number (take w rest)) ≡ take w rest = le-number-wide (bytes-take w (bytes-drop (offset m k) b)) w full in
-    rw (field, first, rewritten s b e (suc k) n end, offset-step m k, ← drop-drop w (offset m k) s) (take-append-drop w rest)
+    let field : fieldOf (requestOf s) k ≡ numberAt s at w = field-of-request s k (omega arith) ∙ field-in-room s k in
+    let within : at + w ≤ length s = omega (arith, offset-step m k, offset-grows m (suc k) fieldCount (omega arith)) in
+    rw (field, le-number-at b at w within, rewritten s b e (suc k) n (omega arith), offset-step m k, ← drop-drop w at s) (take-append-drop w (drop at s))
 
 -- and so is its map
 map-rewritten : (s : List ℕ) → Bytes s → 2 ≤ length s → le 2 (mapOf s) ≡ take 2 s
-unfolding mapOf numberAt
-map-rewritten s b h = le-number-wide (bytes-take 2 b) 2 (length-take-le 2 s h)
+unfolding mapOf
+map-rewritten s b h = le-number-at b 0 2 h
 
 all-rewritten : (s : List ℕ) → Bytes s → length s ≡ offset (mapOf s) fieldCount
     → le 2 (mapOf s) ++ fieldBytes (mapOf s) (requestOf s) 0 fieldCount ≡ s
 all-rewritten s b e =
-    let long : 2 ≤ length s = omega (arith, offset-first (mapOf s), offset-grows (mapOf s) 0 fieldCount) in
+    let long : 2 ≤ length s = omega (arith, offset-first (mapOf s), offset-grows (mapOf s) 0 fieldCount (omega arith)) in
     rw (map-rewritten s b long, rewritten s b e 0 fieldCount refl, offset-first (mapOf s)) (take-append-drop 2 s)
 
 -- the writer takes the map from the kind, which is the record's own
@@ -121,9 +122,7 @@ write-again s r = rw (r .mapped)
 pub read-writes-back : (s : List ℕ) (q : Request) → Bytes s → reading s ≡ Read q → write q ≡ s
 read-writes-back s q b e =
     let (r, same) = read-as s q e in
-    let ends : length s ≡ offset (mapOf s) fieldCount =
-    r .sized ∙ tables-agree (fieldIn s 0) (r .known) .ends ∙ ap (λ (m : ℕ). offset m fieldCount) (sym (r .mapped)) in
-    ap write (sym same) ∙ write-again s r ∙ all-rewritten s b ends
+    ap write (sym same) ∙ write-again s r ∙ all-rewritten s b (record-ends s r)
 
 -- ---- what was read is a request of a known kind, with just that kind's fields, each in its bytes
 

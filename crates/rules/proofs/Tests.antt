@@ -2,7 +2,7 @@
 use Prim.Native.Nat.{ℕ, _≤_}
 use mathlib.Core.Path.{_≡_, refl, sym}
 use mathlib.Core.Logic.{_↔_}
-use mathlib.Core.Bool.{Bool, true, false, _&&_, _||_}
+use mathlib.Core.Bool.{Bool, true, false, _&&_, _||_, and-eq-true-iff}
 use lib.Dec.{leb}
 use borrow.Author.Tests.{leb-true, le-leb}
 use Rattle.rules.specs.Basics.{within}
@@ -14,8 +14,7 @@ test-same false true f g = g refl
 test-same false false f g = refl
 
 pub and-both : (s t : Bool) → (s && t ≡ true) ↔ ((s ≡ true) × (t ≡ true))
-and-both true t = ((λ e. (refl, e)), (λ h. h .1))
-and-both false t = ((λ e. (e, cc)), (λ h. h .0))
+and-both = and-eq-true-iff
 
 -- a conjunction fails and its first part holds
 pub and-spared : (s t : Bool) → s ≡ true → s && t ≡ false → t ≡ false

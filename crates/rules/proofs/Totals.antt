@@ -73,6 +73,14 @@ swap f (x ∷ xs) ys =
 
 -- ---- numbers counted
 
+-- one number more
+pub total-last : (f : ℕ → ℕ) (n from : ℕ) → total f (counting (suc n) from) ≡ total f (counting n from) + f (from + n)
+unfolding total counting
+total-last f zero from = omega (arith, ap f (add-zero from))
+total-last f (suc n) from =
+    let e : suc from + n ≡ from + suc n = omega arith in
+    omega (arith, total-last f n (suc from), ap f e)
+
 -- equal at each number counted
 pub total-counting : (f g : ℕ → ℕ) (n from : ℕ) → ((a : ℕ) → from ≤ a → a < from + n → f a ≡ g a)
     → total f (counting n from) ≡ total g (counting n from)

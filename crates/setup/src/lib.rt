@@ -2,6 +2,5 @@
 pub mod counts;
 pub mod entries;
 pub mod fault;
-pub mod limits;
 pub mod shape;
 pub mod values;

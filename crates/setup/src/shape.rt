@@ -3,13 +3,13 @@ ghost use mathlib.Core.Path.{_≡_};
 ghost use Rattle.rules.specs.Opening.{badCounts, misshapen};
 use crate::counts::counts;
 use crate::counts::length_of;
-use crate::limits::FEWEST_HOURS;
-use crate::limits::MOST_ACCOUNTS;
-use crate::limits::MOST_HOURS;
-use crate::limits::MOST_OPERATORS;
-use crate::limits::MOST_POINTS;
-use crate::limits::MOST_ZONES;
 use rules::Counts;
+use rules::limits::FEWEST_HOURS;
+use rules::limits::MOST_ACCOUNTS;
+use rules::limits::MOST_HOURS;
+use rules::limits::MOST_OPERATORS;
+use rules::limits::MOST_POINTS;
+use rules::limits::MOST_ZONES;
 
 // A count is out of range.
 pub fn bad_counts(n: Counts) -> bool

@@ -7,15 +7,15 @@ ghost use Rattle.rules.specs.Books.{noAccount};
 ghost use Rattle.rules.specs.Opening.{accountIn, estimateValues, operatorValues, accountValues, pointValues};
 ghost use Rattle.setup.specs.Faults.{orElse, orFault, judgedFrom, judged, mostAmount, amountValues};
 use crate::entries::account_at;
-use crate::limits::MOST_ENERGY;
-use crate::limits::MOST_GUARANTEE;
-use crate::limits::MOST_PRICE;
-use crate::limits::THOUSAND;
 use rules::Account;
 use rules::Checked;
 use rules::Operator;
 use rules::Point;
 use rules::Refusal;
+use rules::limits::MOST_ENERGY;
+use rules::limits::MOST_GUARANTEE;
+use rules::limits::MOST_PRICE;
+use rules::limits::THOUSAND;
 use units::CentsPerMwh;
 
 // The first of two that fails.

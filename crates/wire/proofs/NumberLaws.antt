@@ -5,8 +5,8 @@ use mathlib.Core.List.{List, [], _∷_, _++_}
 use mathlib.Core.Bool.{Bool, true, false, cond}
 use native.Mathlib.Nat.{mod-one, mod-lt, mod-eq-of-lt, mod-add-div, add-mul-mod-self-left, pow-succ', one-le-pow, pow-le-pow-right, mul-assoc, lt-of-lt-of-le, add-zero, zero-add, mul-add, suc-mul}
 use native.Mathlib.Omega.{arith}
-use lib.ListN.{length, getD, take, drop, length-take}
-use lib.Seq.{take-nil}
+use lib.ListN.{length, getD, take, drop, length-take, length-drop}
+use lib.Seq.{take-nil, length-take-le}
 use lib.Dec.{ltb}
 use lib.IntN.{pos, negsuc, subℕ}
 use mir.Syntax.{w8}
@@ -134,12 +134,22 @@ pub number-at-join : (s : List ℕ) (at m n : ℕ) {low high : ℕ} → low ≡ 
     → low + 256 ^ m * high ≡ numberAt s at (m + n)
 number-at-join s at m n e f = rw (e, f) (sym (number-at-add s at m n))
 
-pub number-at-small : {s : List ℕ} → Bytes s → (at w : ℕ) → numberAt s at w < 256 ^ w
+-- a number fits its width, and every greater one
+pub number-at-below : {s : List ℕ} → Bytes s → (at w n : ℕ) → w ≤ n → numberAt s at w < 256 ^ n
 unfolding numberAt
-number-at-small {s} h at w =
+number-at-below {s} h at w n f =
     let x : List ℕ = take w (drop at s) in
-    let l : length x ≤ w = rw (length-take w (drop at s)) (omega arith) in
+    let l : length x ≤ n = rw (length-take w (drop at s)) (omega arith) in
     lt-of-lt-of-le (number-small (bytes-take w (bytes-drop at h))) (pow-le-pow-right (omega arith) l)
+
+pub number-at-small : {s : List ℕ} → Bytes s → (at w : ℕ) → numberAt s at w < 256 ^ w
+number-at-small h at w = number-at-below h at w w (omega arith)
+
+-- the bytes of the number at a place are those that stand there
+pub le-number-at : {s : List ℕ} → Bytes s → (at w : ℕ) → at + w ≤ length s → le w (numberAt s at w) ≡ take w (drop at s)
+unfolding numberAt
+le-number-at {s} h at w f =
+    le-number-wide (bytes-take w (bytes-drop at h)) w (length-take-le w (drop at s) (omega (arith, length-drop at s)))
 
 -- ---- signed numbers
 

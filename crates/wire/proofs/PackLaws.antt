@@ -4,7 +4,7 @@ use mathlib.Core.Path.{_≡_, refl, sym, ap, _∙_}
 use mathlib.Core.List.{List, [], _∷_, map}
 use native.Mathlib.Omega.{arith}
 use lib.ListN.{length, getD, set, take, drop, length-map, length-drop, List·getD-map}
-use lib.Seq.{length-take-le}
+use lib.Seq.{length-take-le, drop-drop}
 use Rattle.wire.specs.Numbers.{number, numberAt, le, Bytes, none}
 use Rattle.wire.specs.Regions.{splice}
 use Rattle.wire.specs.Parts.{flat, cut, startOf, Wide, pieces, pack, unpack, Small}
@@ -64,7 +64,21 @@ pub unpack-at : (ws s : List ℕ) (k : ℕ) → getD (unpack ws s) k 0 ≡ numbe
 unfolding unpack numberAt number
 unpack-at ws s k = List·getD-map number (cut ws s) k [] ∙ ap number (cut-at ws s k)
 
--- the same, of bytes that stand in others
+-- numbers side by side from a place on, each in its width
+abbrev pub numbersAt : List ℕ → ℕ → List ℕ → List ℕ
+numbersAt s at [] = []
+numbersAt s at (w ∷ ws) = numberAt s at w ∷ numbersAt s (at + w) ws
+
+unpack-from : (ws s : List ℕ) (at : ℕ) → unpack ws (drop at s) ≡ numbersAt s at ws
+unfolding unpack cut numberAt
+unpack-from [] s at = refl
+unpack-from (w ∷ ws) s at = rw (drop-drop w at s, unpack-from ws s (at + w))
+
+-- numbers that were read at their places pack to the same bytes
+pub pack-numbers : (ws : List ℕ) {s : List ℕ} → Bytes s → length s ≡ startOf ws (length ws) → pack ws (numbersAt s 0 ws) ≡ s
+pack-numbers ws {s} h l = ap (pack ws) (sym (unpack-from ws s 0)) ∙ pack-unpack ws h l
+
+-- number k of bytes that stand in others
 pub unpack-inner : (ws s : List ℕ) (k m at : ℕ) → startOf ws k + getD ws k 0 ≤ m
     → getD (unpack ws (take m (drop at s))) k 0 ≡ numberAt s (at + startOf ws k) (getD ws k 0)
 unpack-inner ws s k m at h = unpack-at ws (take m (drop at s)) k ∙ number-inner (getD ws k 0) (startOf ws k) m at s h

@@ -174,15 +174,16 @@ cut-at (w ∷ ws) s (suc k) = cut-at ws (drop w s) k ∙ ap (take (getD ws k 0))
 pub bytes-cut : (ws : List ℕ) {s : List ℕ} (k : ℕ) → Bytes s → Bytes (getD (cut ws s) k [])
 bytes-cut ws {s} k h = rw (cut-at ws s k) (bytes-take (getD ws k 0) (bytes-drop (startOf ws k) h))
 
+-- a piece of a front
+pub take-drop-take : (n j m : ℕ) (s : List ℕ) → j + n ≤ m → take n (drop j (take m s)) ≡ take n (drop j s)
+take-drop-take n zero m s h = take-take n m s (omega arith)
+take-drop-take n (suc j) zero s h = absurd (omega arith)
+take-drop-take n (suc j) (suc m) [] h = refl
+take-drop-take n (suc j) (suc m) (x ∷ xs) h = take-drop-take n j m xs (omega arith)
+
 -- a piece of a piece
 pub inner : (n j m at : ℕ) (s : List ℕ) → j + n ≤ m → take n (drop j (take m (drop at s))) ≡ take n (drop (at + j) s)
-inner n j m at s h = drop-take n j m (drop at s) h ∙ ap (take n) (drop-drop j at s)
-  where
-    drop-take : (n j m : ℕ) (s : List ℕ) → j + n ≤ m → take n (drop j (take m s)) ≡ take n (drop j s)
-    drop-take n zero m s h = take-take n m s (omega arith)
-    drop-take n (suc j) zero s h = absurd (omega arith)
-    drop-take n (suc j) (suc m) [] h = refl
-    drop-take n (suc j) (suc m) (x ∷ xs) h = drop-take n j m xs (omega arith)
+inner n j m at s h = take-drop-take n j m (drop at s) h ∙ ap (take n) (drop-drop j at s)
 
 -- a number in a piece
 pub number-inner : (n j m at : ℕ) (s : List ℕ) → j + n ≤ m → numberAt (take m (drop at s)) j n ≡ numberAt s (at + j) n

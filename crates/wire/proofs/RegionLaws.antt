@@ -1,14 +1,14 @@
 -- What a replaced region holds, and what it leaves.
 use Prim.Native.Nat.{ℕ, zero, suc, _+_, _-_, _^_, _<_, _≤_}
 use mathlib.Core.Path.{_≡_, refl, _∙_, sym, ap}
-use mathlib.Core.List.{List, [], _++_, append-assoc, append-nil}
+use mathlib.Core.List.{List, [], _∷_, _++_, append-assoc, append-nil}
 use mathlib.Core.Logic.{_⊎_, ⊎-elim}
 use mathlib.Core.Bool.{Bool, true, _&&_, and-assoc, and-true}
-use native.Mathlib.Nat.{zero-add}
+use native.Mathlib.Nat.{zero-add, add-zero}
 use native.Mathlib.Numerals.{add-one}
 use native.Mathlib.Omega.{arith}
-use lib.ListN.{length, take, drop, getD, set, length-append, List·getD-append, length-drop}
-use lib.Seq.{paste-zero, paste-suc, length-paste, length-paste-head, take-length, drop-length, take-append-le, take-append-add, drop-append-le, drop-append-add, take-at, drop-at, take-take, getD-append-add, getD-take, getD-drop, length-take-le}
+use lib.ListN.{length, take, drop, getD, set, length-append, List·getD-append, length-drop, take-append-drop}
+use lib.Seq.{paste-zero, paste-suc, length-paste, length-paste-head, take-length, drop-length, take-append-le, take-append-add, drop-append-le, drop-append-add, take-at, drop-at, take-take, getD-append-add, getD-take, getD-drop, length-take-le, drop-drop, set-split}
 use lib.Dec.{eqb}
 use Rattle.wire.specs.Numbers.{number, numberAt, le, Bytes}
 use Rattle.wire.specs.Regions.{splice, pasted, Apart, zerosFrom}
@@ -103,6 +103,14 @@ module _ (s : List ℕ) (at : ℕ) (x : List ℕ) where
       ⊎-elim (λ w. get-pasted-before s at x (length x) k (omega arith) w)
       (λ w. get-pasted-after s at x (length x) k (omega arith) (omega arith) w) o
 
+-- a region of one
+pub splice-one : (s : List ℕ) (at x : ℕ) → at < length s → splice s at (x ∷ []) ≡ set s at x
+splice-one s at x h = splice-take-drop s at (x ∷ []) ∙ rw (add-one at) (sym (set-split s at x h))
+
+-- an empty region
+pub splice-none : (s : List ℕ) (at : ℕ) → splice s at [] ≡ s
+splice-none s at = splice-take-drop s at [] ∙ rw (add-zero at) (take-append-drop at s)
+
 -- a region of two lists side by side lies in the left one
 pub splice-left : (a b : List ℕ) (at : ℕ) (x : List ℕ) → at + length x ≤ length a → splice (a ++ b) at x ≡ splice a at x ++ b
 unfolding splice pasted
@@ -119,6 +127,23 @@ splice-right a b at j x e =
     let f : length a + j + length x ≡ length a + (j + length x) = omega arith in
     let d : drop (length a + (j + length x)) (a ++ b) ≡ drop (j + length x) b = drop-append-add a b (j + length x) in
     rw (e, t, f, d) (simp append-assoc)
+
+-- two regions, one behind the other
+pub splice-append : (s : List ℕ) (at : ℕ) (x y : List ℕ) → at ≤ length s → splice (splice s at x) (at + length x) y ≡ splice s at (x ++ y)
+splice-append s at x y h =
+    let p : List ℕ = take at s ++ x in
+    let d : List ℕ = drop (at + length x) s in
+    let whole : splice s at x ≡ p ++ d = splice-take-drop s at x ∙ sym (append-assoc (take at s) x d) in
+    let n : at + length x ≡ length p + 0 = omega (arith, length-append (take at s) x, length-take-le at s h) in
+    let e : List ℕ = drop (at + length (x ++ y)) s in
+    let m : at + length x + (0 + length y) ≡ at + length (x ++ y) = omega (arith, length-append x y) in
+    let rest : splice d 0 y ≡ y ++ e =
+    splice-take-drop d 0 y ∙ ap (λ (l : List ℕ). y ++ l) (drop-drop (0 + length y) (at + length x) s ∙ ap (λ (k : ℕ). drop k s) m) in
+    rw whole (splice-right p d (at + length x) 0 y n
+    ∙ ap (λ (l : List ℕ). p ++ l) rest
+    ∙ append-assoc (take at s) x (y ++ e)
+    ∙ ap (λ (l : List ℕ). take at s ++ l) (sym (append-assoc x y e))
+    ∙ sym (splice-take-drop s at (x ++ y)))
 
 -- a whole list is replaced
 pub splice-all : (a x : List ℕ) → length x ≡ length a → splice a 0 x ≡ x

@@ -1,11 +1,10 @@
 -- What has been read is the number from `p` on; each turn puts one byte more in front.
-use Prim.Native.Nat.{_+_, _-_, _^_, _≤_, _<_}
+use Prim.Native.Nat.{suc, _+_, _-_, _^_, _≤_, _<_}
 use mathlib.Core.Path.{_≡_, _∙_, sym}
 use native.Mathlib.Omega.{arith}
 use borrow.Author.Needs.{needs}
 use Rattle.wire.specs.Numbers.{numberAt}
-use Rattle.wire.proofs.NumberLaws.{bytes-known, number-at-zero}
-use Rattle.records.proofs.FieldLaws.{number-at-more, number-at-below}
+use Rattle.wire.proofs.NumberLaws.{bytes-known, number-at-zero, number-at-step, number-at-below}
 use Rattle.records.proofs.reader.number_at.Statement.{statement}
 use Rattle.records.proofs.reader.number_at.Tie as tie
 
@@ -50,7 +49,9 @@ loop-again : tie.Need-loop-again Inv-loop μ-loop
 loop-again c =
     let s = c .before .before .before .args in
     let l = c .before .before .loop in
-    (search needs, search needs, number-at-more (s .s .now) (l .p) (l .p - 1) (s .at + s .width - l .p) (s .at + s .width - (l .p - 1)) (l .v) (omega arith) (omega arith) (l .inv .2))
+    let w : s .at + s .width - (l .p - 1) ≡ suc (s .at + s .width - l .p) = omega arith in
+    let p : suc (l .p - 1) ≡ l .p = omega arith in
+    (search needs, search needs, rw (w, number-at-step, p, l .inv .2))
 
 returns : tie.Need-returns Inv-loop μ-loop
 returns c =

@@ -1,10 +1,12 @@
 -- The map and the length are held against the tables; what passes both is a whole record.
 use mathlib.Core.Path.{_∙_, sym}
 use native.Mathlib.Omega.{arith}
-use Rattle.rules.specs.Requests.{maps, mapOf}
-use Rattle.records.proofs.FieldLaws.{below-largest}
-use Rattle.records.proofs.KindLaws.{kind-bounds}
-use Rattle.records.proofs.ReadingLaws.{readable, reads-other-map, reads-other-length, reads-request, holds-fields}
+use Rattle.rules.specs.Requests.{mapOf}
+use Rattle.rules.proofs.Tests.{within-true}
+use Rattle.rules.proofs.Passed.{readable}
+use Rattle.rules.proofs.KindTables.{tables-agree}
+use Rattle.rules.proofs.RoundTrip.{reads, record-ends}
+use Rattle.records.proofs.ReadingLaws.{reads-other-map, reads-other-length, reads-on}
 use Rattle.records.proofs.reader.read_as.Statement.{statement}
 use Rattle.records.proofs.reader.read_as.Tie as tie
 
@@ -12,10 +14,12 @@ get-u16-requires : tie.Need-get-u16-requires
 get-u16-requires c κs = omega (arith, readable (c .before .args .bytes .now) (c .before .pre .0) .0)
 
 wanted-map-requires : tie.Need-wanted-map-requires
-wanted-map-requires c κs = kind-bounds (c .before .before .args .kind) (c .before .before .pre .2) .1
+wanted-map-requires c κs = within-true 1 (c .before .before .args .kind) 10 .0 (c .before .before .pre .2) .1
 
 fields-more-requires : tie.Need-fields-more-requires
-fields-more-requires c κs = omega (arith, c .before .wanted-map .ensures, below-largest maps (c .before .before .before .before .args .kind))
+fields-more-requires c κs =
+    let s = c .before .before .before .before in
+    omega (arith, c .before .wanted-map .ensures, tables-agree (s .args .kind) (s .pre .2) .small)
 
 fields-more-requires-2 : tie.Need-fields-more-requires-2
 unfolding mapOf
@@ -29,10 +33,10 @@ returns c =
     let s = c .before .before .before .before .before .before in
     let given = c .before .before .before .before .get-u16 .ensures in
     let wanted = c .before .before .before .wanted-map .ensures in
-    rw (c .before .fields-more .ensures, c .fields-more2 .ensures, wanted) (reads-other-map (s .args .bytes .now) (s .args .kind) (s .pre .0) (s .pre .1) (s .pre .2) (given) (λ e. c .before .before .if1 .taken (e ∙ sym wanted)))
+    rw (c .before .fields-more .ensures, c .fields-more2 .ensures, wanted) (reads-other-map (s .args .bytes .now) (s .args .kind) (s .pre .0) (s .pre .1) (s .pre .2) given (λ e. c .before .before .if1 .taken (e ∙ sym wanted)))
 
 wanted-length-requires : tie.Need-wanted-length-requires
-wanted-length-requires c κs = let s = c .before .before .before .before in kind-bounds (s .args .kind) (s .pre .2) .1
+wanted-length-requires c κs = let s = c .before .before .before .before in within-true 1 (s .args .kind) 10 .0 (s .pre .2) .1
 
 returns-2 : tie.Need-returns-2
 unfolding mapOf
@@ -40,7 +44,7 @@ returns-2 c =
     let s = c .before .before .before .before .before .before in
     let given = c .before .before .before .before .get-u16 .ensures in
     let wanted = c .before .before .before .wanted-map .ensures in
-    reads-other-length (s .args .bytes .now) (s .args .kind) (s .pre .0) (s .pre .1) (s .pre .2) (given) (c .before .before .if1 .left ∙ wanted) (λ e. c .if2 .taken (e ∙ sym (c .before .wanted-length .ensures)))
+    reads-other-length (s .args .bytes .now) (s .args .kind) (s .pre .0) (s .pre .1) (s .pre .2) given (c .before .before .if1 .left ∙ wanted) (λ e. c .if2 .taken (e ∙ sym (c .before .wanted-length .ensures)))
 
 request-requires : tie.Need-request-requires
 unfolding mapOf
@@ -48,7 +52,8 @@ request-requires c κs =
     let s = c .before .before .before .before .before .before in
     let given = c .before .before .before .before .get-u16 .ensures in
     let wanted = c .before .before .before .wanted-map .ensures in
-    holds-fields (s .args .bytes .now) (s .args .kind) (s .pre .0) (s .pre .1) (s .pre .2) (given) (c .before .before .if1 .left ∙ wanted) (c .if2 .left ∙ c .before .wanted-length .ensures)
+    let whole = reads-on (s .args .bytes .now) (s .args .kind) (s .pre .0) (s .pre .1) (s .pre .2) given (c .before .before .if1 .left ∙ wanted) (c .if2 .left ∙ c .before .wanted-length .ensures) in
+    omega (arith, record-ends (s .args .bytes .now) whole)
 
 returns-3 : tie.Need-returns-3
 unfolding mapOf
@@ -56,7 +61,8 @@ returns-3 c =
     let s = c .before .before .before .before .before .before .before in
     let given = c .before .before .before .before .before .get-u16 .ensures in
     let wanted = c .before .before .before .before .wanted-map .ensures in
-    rw (c .request .ensures) (reads-request (s .args .bytes .now) (s .args .kind) (s .pre .0) (s .pre .1) (s .pre .2) (given) (c .before .before .before .if1 .left ∙ wanted) (c .before .if2 .left ∙ c .before .before .wanted-length .ensures))
+    let whole = reads-on (s .args .bytes .now) (s .args .kind) (s .pre .0) (s .pre .1) (s .pre .2) given (c .before .before .before .if1 .left ∙ wanted) (c .before .if2 .left ∙ c .before .before .wanted-length .ensures) in
+    rw (c .request .ensures) (sym (reads (s .args .bytes .now) whole))
 
 pub read-as-spec : {M : Type 1} → statement M
 read-as-spec =

@@ -6,14 +6,14 @@ use lib.ListN.{getD}
 use Rattle.wire.proofs.NumberLaws.{bytes-known}
 use Rattle.rules.specs.Basics.{counting}
 use Rattle.rules.specs.Requests.{widthOf, bits, fieldIn, requestOf}
-use Rattle.records.proofs.FieldLaws.{field-small}
+use Rattle.rules.proofs.Fields.{field-in-fits}
 use borrow.Author.Needs.{needs}
 use Rattle.records.proofs.reader.request.Statement.{statement}
 use Rattle.records.proofs.reader.request.Tie as tie
 
 small : (c : tie.After-fields) (k : ℕ) → getD (map (fieldIn (c .before .before .args .bytes .now)) bits) k 0 ≡ fieldIn (c .before .before .args .bytes .now) k
     → getD (c .fields .result) k 0 < 256 ^ widthOf k
-small c k e = rw (c .fields .ensures, e) (field-small (bytes-known (c .before .before .args .bytes .now) (c .before .shared-slice-known .given)) k)
+small c k e = rw (c .fields .ensures, e) (field-in-fits (bytes-known (c .before .before .args .bytes .now) (c .before .shared-slice-known .given)) k)
 
 fields-requires : tie.Need-fields-requires
 fields-requires c κs = search needs

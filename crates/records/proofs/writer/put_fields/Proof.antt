@@ -1,23 +1,24 @@
 -- Putting the fields from `k` on at `at`, where they begin, gives the whole.
-use Prim.Native.Nat.{_+_, _-_, _≤_}
+use Prim.Native.Nat.{suc, _+_, _-_, _≤_}
 use mathlib.Core.Path.{_≡_, refl, _∙_, sym}
 use lib.ListN.{length}
+use native.Mathlib.Numerals.{add-one}
 use native.Mathlib.Omega.{arith}
 use borrow.Author.Needs.{needs}
 use Rattle.wire.specs.Regions.{splice}
 use Rattle.rules.specs.Basics.{total, counting}
-use Rattle.rules.specs.Requests.{offset, fieldBytes}
-use Rattle.records.proofs.FieldLaws.{offset-next, offset-within}
+use Rattle.rules.specs.Requests.{fieldCount, offset, fieldBytes}
+use Rattle.rules.proofs.Fields.{offset-step, offset-grows}
 use Rattle.records.proofs.WritingLaws.{fields-put, fields-next}
 use Rattle.records.proofs.writer.put_fields.Statement.{statement}
 use Rattle.records.proofs.writer.put_fields.Tie as tie
 
 abbrev Inv-loop : tie.InvT-loop
 Inv-loop q map buffer₀ at₀ k₀ buffer at k =
-    (k ≤ 13) × (at ≡ offset map k) × (length buffer ≡ length buffer₀) × (splice buffer at (fieldBytes map q k (13 - k)) ≡ splice buffer₀ 2 (fieldBytes map q 0 13))
+    (k ≤ fieldCount) × (at ≡ offset map k) × (length buffer ≡ length buffer₀) × (splice buffer at (fieldBytes map q k (fieldCount - k)) ≡ splice buffer₀ 2 (fieldBytes map q 0 fieldCount))
 
 abbrev μ-loop : tie.MeasureT-loop
-μ-loop q map buffer₀ at₀ k₀ buffer at k = 13 - k
+μ-loop q map buffer₀ at₀ k₀ buffer at k = fieldCount - k
 
 loop-holds : tie.Need-loop-holds Inv-loop μ-loop
 unfolding offset total counting
@@ -34,7 +35,7 @@ within-buffer : (c : tie.After-room-of Inv-loop μ-loop) → c .before .before .
 within-buffer c =
     let s = c .before .before .before .before in
     let l = c .before .before .loop in
-    omega (arith, c .room-of .ensures, offset-within (s .args .map) (l .k) 13 (omega arith))
+    omega (arith, c .room-of .ensures, offset-step (s .args .map) (l .k), offset-grows (s .args .map) (suc (l .k)) fieldCount (omega arith))
 
 put-number-requires : tie.Need-put-number-requires Inv-loop μ-loop
 put-number-requires c κs = omega (arith, within-buffer (c .before .before))
@@ -54,7 +55,7 @@ loop-again c =
     let l = room .before .before .loop in
     let s = room .before .before .before .before .args in
     let put = c .before .before .put-number in
-    (search needs, omega (arith, room .room-of .ensures, offset-next (s .map) (l .k)), put .kept .0 ∙ l .inv .2, rw (put .ensures) (fields-next (s .map) (s .q) (l .buffer) (l .at) (l .k) (13 - l .k) (13 - (l .k + 1)) (room .room-of .result) (c .before .before .before .before .field-of .result) (omega arith) (room .room-of .ensures) (c .before .before .before .before .field-of .ensures) (omega (arith, within-buffer room))) ∙ l .inv .3)
+    (search needs, rw add-one (omega (arith, room .room-of .ensures, offset-step (s .map) (l .k))), put .kept .0 ∙ l .inv .2, rw (put .ensures) (fields-next (s .map) (s .q) (l .buffer) (l .at) (l .k) (fieldCount - l .k) (fieldCount - (l .k + 1)) (room .room-of .result) (c .before .before .before .before .field-of .result) (omega arith) (room .room-of .ensures) (c .before .before .before .before .field-of .ensures) (omega (arith, within-buffer room))) ∙ l .inv .3)
 
 same-length : tie.Need-same-length Inv-loop μ-loop
 same-length c = search needs
@@ -63,7 +64,7 @@ returns : tie.Need-returns Inv-loop μ-loop
 returns c =
     let l = c .before .loop in
     let s = c .before .before .before .args in
-    sym (fields-put (s .map) (s .q) (l .buffer) (l .at) (l .k) (13 - l .k) (omega arith)) ∙ l .inv .3
+    sym (fields-put (s .map) (s .q) (l .buffer) (l .at) (l .k) (fieldCount - l .k) (omega arith)) ∙ l .inv .3
 
 pub put-fields-spec : {M : Type 1} → statement M
 put-fields-spec =

@@ -1,28 +1,27 @@
 -- The map, and behind it the fields.
 use native.Mathlib.Omega.{arith}
 use Rattle.rules.specs.Requests.{offset}
-use Rattle.records.proofs.KindLaws.{kind-bounds, wanted-whole}
+use Rattle.rules.proofs.Tests.{within-true}
+use Rattle.rules.proofs.KindTables.{tables-agree}
 use Rattle.records.proofs.WritingLaws.{record-put}
 use borrow.Author.Needs.{needs}
 use Rattle.records.proofs.writer.put_record.Statement.{statement}
 use Rattle.records.proofs.writer.put_record.Tie as tie
 
 wanted-map-requires : tie.Need-wanted-map-requires
-wanted-map-requires c κs = kind-bounds (c .before .args .q .kind) (c .before .pre .0) .1
+wanted-map-requires c κs = within-true 1 (c .before .args .q .kind) 10 .0 (c .before .pre .0) .1
 
 put-u16-requires : tie.Need-put-u16-requires
 unfolding offset
 put-u16-requires c κs =
     let s = c .before .before .before in
-    let b = kind-bounds (s .args .q .kind) (s .pre .0) in
-    omega (arith, s .pre .1, wanted-whole (s .args .q .kind) (b .0) (b .1))
+    omega (arith, s .pre .1, tables-agree (s .args .q .kind) (s .pre .0) .ends)
 
 put-fields-requires : tie.Need-put-fields-requires
 put-fields-requires c κs =
     let put = c .before .before .before in
     let s = put .before .before .before .before in
-    let b = kind-bounds (s .args .q .kind) (s .pre .0) in
-    rw (put .before .before .wanted-map .ensures) (omega (arith, s .pre .1, put .put-u16 .kept .0, wanted-whole (s .args .q .kind) (b .0) (b .1)))
+    rw (put .before .before .wanted-map .ensures) (omega (arith, s .pre .1, put .put-u16 .kept .0, tables-agree (s .args .q .kind) (s .pre .0) .ends))
 
 same-length : tie.Need-same-length
 same-length c = search needs

@@ -2,7 +2,7 @@
 use mathlib.Core.Path.{_∙_, sym}
 use native.Mathlib.Omega.{arith}
 use borrow.Author.Tests.{not-true, not-false}
-use Rattle.records.proofs.KindLaws.{kind-bounds}
+use Rattle.rules.proofs.Tests.{within-true}
 use Rattle.records.proofs.WritingLaws.{writes-no-kind, writes-no-room, writes-record}
 use borrow.Author.Needs.{needs}
 use Rattle.records.proofs.writer.write.Statement.{statement}
@@ -17,7 +17,7 @@ returns c =
     writes-no-kind (s .request) (s .buffer .now) (sym (c .before .is-kind .ensures) ∙ not-true (c .before .is-kind .result) (c .if1 .taken))
 
 wanted-length-requires : tie.Need-wanted-length-requires
-wanted-length-requires c κs = kind-bounds (c .before .before .before .args .request .kind) (sym (c .before .is-kind .ensures) ∙ not-false (c .before .is-kind .result) (c .if1 .left)) .1
+wanted-length-requires c κs = within-true 1 (c .before .before .before .args .request .kind) 10 .0 (sym (c .before .is-kind .ensures) ∙ not-false (c .before .is-kind .result) (c .if1 .left)) .1
 
 returns-2 : tie.Need-returns-2
 returns-2 c =
