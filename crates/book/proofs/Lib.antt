@@ -69,3 +69,5 @@ pub mod RowsFrom
 pub mod FollowLaws
 -- TwinLaws: twins found by keys.
 pub mod TwinLaws
+-- StateLaws: what stands at a place of bytes that are a book.
+pub mod StateLaws

@@ -7,5 +7,6 @@ pub mod opening;
 pub mod rows;
 pub mod saved;
 pub mod schedules;
+pub mod state;
 pub mod sums;
 pub mod twins;

@@ -1,18 +1,18 @@
 -- Zero bytes: how many, side by side, under a number or a region, and found by the test.
-use Prim.Native.Nat.{ℕ, zero, suc, _+_, _-_, _≤_}
+use Prim.Native.Nat.{ℕ, zero, suc, _+_, _-_, _≤_, _<_}
 use mathlib.Core.Path.{_≡_, refl, sym, ap, _∙_}
 use mathlib.Core.List.{List, [], _∷_, _++_}
 use mathlib.Core.Bool.{true, and-eq-true-iff}
 use native.Mathlib.Numerals.{add-one}
 use native.Mathlib.Omega.{arith}
-use lib.ListN.{length, getD, take, drop, length-append, length-replicate, replicate-append-replicate}
+use lib.ListN.{length, getD, take, drop, set, length-append, length-replicate, getD-replicate, replicate-append-replicate}
 use lib.Seq.{drop-cons, take-at}
 use lib.Dec.{eqb}
 use borrow.Author.Tests.{eqb-true, eq-eqb}
 use Rattle.wire.specs.Numbers.{le, Bytes, none, more}
-use Rattle.wire.specs.Regions.{splice, zerosFrom}
+use Rattle.wire.specs.Regions.{splice, pasted, zerosFrom}
 use Rattle.wire.specs.Parts.{zeros, padded}
-use Rattle.wire.proofs.RegionLaws.{splice-left, splice-all}
+use Rattle.wire.proofs.RegionLaws.{pasted-more, pasted-all, splice-left, splice-all}
 
 pub length-zeros : (n : ℕ) → length (zeros n) ≡ n
 unfolding zeros
@@ -36,6 +36,17 @@ pub le-zero : (w : ℕ) → le w 0 ≡ zeros w
 unfolding le zeros
 le-zero zero = refl
 le-zero (suc w) = ap (λ (l : List ℕ). 0 ∷ l) (le-zero w)
+
+-- one byte more of a region that is cleared, and all of it
+pub cleared-more : (d : List ℕ) (at n : ℕ) (x : List ℕ) (j : ℕ) → at + n ≤ length d → j < n → x ≡ pasted d at (zeros n) j
+    → set x (at + j) 0 ≡ pasted d at (zeros n) (j + 1)
+unfolding zeros
+cleared-more d at n x j h l e =
+    let z : getD (zeros n) j 0 ≡ 0 = getD-replicate n j 0 0 l in
+    ap (set x (at + j)) (sym z) ∙ pasted-more d at (zeros n) x j (omega arith) (omega (arith, length-zeros n)) e
+
+pub cleared-all : (d : List ℕ) (at n j : ℕ) → j ≡ n → pasted d at (zeros n) j ≡ splice d at (zeros n)
+cleared-all d at n j e = pasted-all d at (zeros n) j (e ∙ sym (length-zeros n))
 
 -- ---- bytes, and zeros up to n
 

@@ -1,8 +1,9 @@
-// Regions of a slice: replaced, copied over another, tested for zero.
+// Regions of a slice: replaced, copied over another, cleared, tested for zero.
 ghost use mathlib.Core.Path.{_≡_};
 ghost use Prim.Native.Nat.{_+_, _≤_};
 ghost use lib.ListN.{length, drop};
 ghost use Rattle.wire.specs.Regions.{splice, pasted, Apart, zerosFrom};
+ghost use Rattle.wire.specs.Parts.{zeros};
 
 // Puts all of `src` into `dst` from `at` on.
 pub fn copy_in(dst: &mut [u8], at: usize, src: &[u8])
@@ -24,6 +25,18 @@ pub fn copy_within(s: &mut [u8], from: usize, to: usize, n: usize)
     let mut i = 0;
     while i < n {
         s[to + i] = s[from + i];
+        i += 1;
+    }
+}
+
+// Makes the `n` bytes from `at` on zero.
+pub fn clear_at(s: &mut [u8], at: usize, n: usize)
+    requires { ⌜ at + n ≤ length (now s) ⌝ }
+    ensures { λ _. ⌜ now (s .exit) ≡ splice (now (s .entry)) at (zeros n) ⌝ }
+{
+    let mut i = 0;
+    while i < n {
+        s[at + i] = 0;
         i += 1;
     }
 }

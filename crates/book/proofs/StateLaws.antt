@@ -1,0 +1,116 @@
+-- What stands at a place of bytes that are a book: they are the image of the book that they say, and so each place is read there.
+use Prim.Native.Nat.{ℕ, zero, suc, _+_, _-_, _≤_, _<_}
+use mathlib.Core.Path.{_≡_, refl, sym, ap, _∙_}
+use mathlib.Core.List.{List, [], _∷_}
+use mathlib.Core.Option.{Option, none, some}
+use mathlib.Core.Bool.{true}
+use native.Mathlib.Omega.{arith}
+use lib.ListN.{length, getD, take, drop}
+use lib.Dec.{eqb}
+use Rattle.wire.specs.Numbers.{numberAt}
+use Rattle.wire.specs.Parts.{startOf}
+use Rattle.rules.specs.declared.Row.{Row}
+use Rattle.rules.specs.Basics.{isSome, nth}
+use Rattle.rules.specs.Limits.{mostHours, mostRows, bookSize}
+use Rattle.rules.specs.Books.{Part, Book, noRow}
+use Rattle.rules.specs.Calls.{restored}
+use Rattle.rules.proofs.Searches.{some-of, each-at}
+use Rattle.book.specs.Layout.{rowWidths, rowWidth, phaseAt, flagAt, presentAt, savedAt, rowCountAt, rowAt}
+use Rattle.book.specs.Image.{rowValues, rowBytes, rowIn, flag}
+use Rattle.book.specs.Valid.{valid, follows, isBook, bookIn, bookBytes}
+use Rattle.book.proofs.Soundness.{SoundBook, sound}
+use Rattle.book.proofs.Sizes.{Fits, fits, row-small}
+use Rattle.book.proofs.KeepsRows.{follows-cons}
+use Rattle.book.proofs.Keeps.{batch-follows}
+use Rattle.book.proofs.ImageReads.{phase-read, flag-read, row-count-read, saved-row-count-read, row-read, row-value-read}
+use Rattle.book.proofs.Round.{row-back, book-is-image, length-book}
+
+-- the flag says whether a batch is open
+flag-open : (o : Option Part) → eqb (flag o) 1 ≡ isSome o
+flag-open none = refl
+flag-open (some p) = refl
+
+-- rows that follow others are no fewer
+follows-longer : (xs ys : List Row) → follows xs ys ≡ true → length xs ≤ length ys
+unfolding follows
+follows-longer [] ys h = omega arith
+follows-longer (x ∷ xs) [] h = let z : _≡_ {A = ℕ} 0 1 = cc in absurd (omega arith)
+follows-longer (x ∷ xs) (y ∷ ys) h = let ih = follows-longer xs ys (follows-cons x y xs ys .0 h .1) in omega arith
+
+module _ (s : List ℕ) (h : isBook s ≡ true) where
+  -- bytes that are a book are the image of the book that they say
+  pub book-image : s ≡ bookBytes (bookIn s)
+  book-image = book-is-image mostHours bookSize s h .0
+
+  pub book-valid : valid (bookIn s) ≡ true
+  book-valid = book-is-image mostHours bookSize s h .1
+
+  pub book-length : length s ≡ bookSize
+  book-length = length-book mostHours bookSize s h
+
+  -- it is sound, and every value fits its place
+  pub book-is-sound : SoundBook (bookIn s)
+  book-is-sound = sound (bookIn s) book-valid
+
+  pub book-fits : Fits (bookIn s)
+  book-fits = fits (bookIn s) book-is-sound
+
+  -- a number of a book is that of its image
+  pub number-in-book : (at width : ℕ) → numberAt s at width ≡ numberAt (bookBytes (bookIn s)) at width
+  number-in-book at width = ap (λ (t : List ℕ). numberAt t at width) book-image
+
+  pub phase-stands : numberAt s phaseAt 1 ≡ bookIn s .phase
+  phase-stands =
+      let high = book-is-sound .phase-high in
+      number-in-book phaseAt 1 ∙ phase-read mostHours bookSize (bookIn s) book-fits (omega arith)
+
+  pub flag-stands : eqb (numberAt s flagAt 1) 1 ≡ isSome (bookIn s .saved)
+  flag-stands =
+      ap (λ (n : ℕ). eqb n 1) (number-in-book flagAt 1 ∙ flag-read mostHours bookSize (bookIn s) book-fits) ∙ flag-open (bookIn s .saved)
+
+  pub row-count-stands : numberAt s (presentAt + rowCountAt) 2 ≡ length (bookIn s .part .rows)
+  row-count-stands = number-in-book (presentAt + rowCountAt) 2 ∙ row-count-read mostHours bookSize (bookIn s) book-fits
+
+  pub row-count-high : length (bookIn s .part .rows) ≤ mostRows
+  row-count-high = book-is-sound .part-sound .rows-high
+
+  -- while a batch is open: how many rows undo restores, which are no more than there are
+  pub saved-row-count-stands : isSome (bookIn s .saved) ≡ true
+      → numberAt s (savedAt mostHours + rowCountAt) 2 ≡ length (restored (bookIn s .saved) (bookIn s .part) .rows)
+  saved-row-count-stands batch =
+      let (p, e) = some-of (bookIn s .saved) batch in
+      number-in-book (savedAt mostHours + rowCountAt) 2
+      ∙ saved-row-count-read mostHours bookSize (bookIn s) book-fits p e
+      ∙ ap (λ (o : Option Part). length (restored o (bookIn s .part) .rows)) (sym e)
+
+  pub saved-rows-fewer : isSome (bookIn s .saved) ≡ true
+      → length (restored (bookIn s .saved) (bookIn s .part) .rows) ≤ length (bookIn s .part .rows)
+  saved-rows-fewer batch =
+      let (p, e) = some-of (bookIn s .saved) batch in
+      rw e (follows-longer (p .rows) (bookIn s .part .rows) (batch-follows (bookIn s) p book-valid e))
+
+  -- value k of the row that has i before it
+  pub row-value-stands : (i k at : ℕ) → i < length (bookIn s .part .rows) → at ≡ presentAt + rowAt i + startOf rowWidths k
+      → numberAt s at (getD rowWidths k 0) ≡ getD (rowValues (getD (bookIn s .part .rows) i noRow)) k 0
+  row-value-stands i k at l e =
+      let b : Book = bookIn s in
+      let small = row-small (b .setup) _ (book-is-sound .setup-sound) (each-at noRow i (book-is-sound .part-sound .rows-sound) l) in
+      number-in-book at (getD rowWidths k 0) ∙ row-value-read mostHours bookSize b book-fits i k at l small e
+
+  -- the same of the row of a number
+  pub numbered-value-stands : (n k at : ℕ) → 1 ≤ n → n ≤ length (bookIn s .part .rows) → at ≡ presentAt + rowAt (n - 1) + startOf rowWidths k
+      → numberAt s at (getD rowWidths k 0) ≡ getD (rowValues (nth (bookIn s .part .rows) n noRow)) k 0
+  numbered-value-stands zero k at low high e = absurd (omega arith)
+  numbered-value-stands (suc i) k at low high e = row-value-stands i k at (omega arith) (omega arith)
+
+  -- the whole row of a number
+  pub numbered-row-stands : (n at : ℕ) → 1 ≤ n → n ≤ length (bookIn s .part .rows) → at ≡ presentAt + rowAt (n - 1)
+      → rowIn (take rowWidth (drop at s)) ≡ nth (bookIn s .part .rows) n noRow
+  numbered-row-stands zero at low high e = absurd (omega arith)
+  numbered-row-stands (suc i) at low high e =
+      let b : Book = bookIn s in
+      let r : Row = getD (b .part .rows) i noRow in
+      let here : take rowWidth (drop at s) ≡ rowBytes r =
+      ap (λ (t : List ℕ). take rowWidth (drop at t)) book-image
+      ∙ row-read mostHours bookSize b book-fits i at (omega arith) (omega arith) in
+      ap rowIn here ∙ row-back (b .setup) (book-is-sound .setup-sound) r (each-at noRow i (book-is-sound .part-sound .rows-sound) (omega arith))

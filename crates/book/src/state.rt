@@ -1,0 +1,74 @@
+// What stands in a book, read from its bytes.
+ghost use mathlib.Core.Path.{_≡_};
+ghost use mathlib.Core.Bool.{true};
+ghost use Prim.Native.Nat.{_+_, _-_, _≤_};
+ghost use lib.ListN.{length};
+ghost use Rattle.rules.specs.Basics.{isSome};
+ghost use Rattle.rules.specs.Limits.{mostRows};
+ghost use Rattle.rules.specs.Calls.{restored};
+ghost use Rattle.book.specs.Layout.{presentAt, rowAt};
+ghost use Rattle.book.specs.Valid.{isBook, bookIn};
+use crate::layout::FLAG_AT;
+use crate::layout::PHASE_AT;
+use crate::layout::PRESENT_AT;
+use crate::layout::ROW_COUNT_IN;
+use crate::layout::ROW_WIDTH;
+use crate::layout::ROWS_IN;
+use crate::layout::SAVED_AT;
+use wire::numbers::get_u8;
+use wire::numbers::get_u16;
+
+// The phases of a day.
+pub const REGISTRATION: u8 = 1;
+
+pub const SCHEDULES: u8 = 2;
+
+// The statuses of a row.
+pub const PENDING: u8 = 1;
+
+pub const CONFIRMED: u8 = 2;
+
+pub const WITHDRAWN: u8 = 3;
+
+// The phase: 1 registration, 2 schedules, 3 settled.
+pub fn phase(book: &[u8]) -> u8
+    requires { ⌜ isBook (now book) ≡ true ⌝ }
+    ensures { λ r. ⌜ r ≡ bookIn (now (book .entry)) .phase ⌝ }
+{
+    get_u8(book, PHASE_AT)
+}
+
+// Whether a batch is open.
+pub fn batch_open(book: &[u8]) -> bool
+    requires { ⌜ isBook (now book) ≡ true ⌝ }
+    ensures { λ r. ⌜ r ≡ isSome (bookIn (now (book .entry)) .saved) ⌝ }
+{
+    get_u8(book, FLAG_AT) == 1
+}
+
+// How many rows have numbers.
+pub fn row_count(book: &[u8]) -> u16
+    requires { ⌜ isBook (now book) ≡ true ⌝ }
+    ensures { λ r. ⌜ r ≡ length (bookIn (now (book .entry)) .part .rows) ⌝ }
+    ensures bound { λ r. ⌜ r ≤ mostRows ⌝ }
+{
+    get_u16(book, PRESENT_AT + ROW_COUNT_IN)
+}
+
+// How many rows had numbers when the open batch was opened: at most as many as now.
+pub fn saved_row_count(book: &[u8]) -> u16
+    requires { ⌜ isBook (now book) ≡ true ⌝ }
+    requires { ⌜ isSome (bookIn (now book) .saved) ≡ true ⌝ }
+    ensures { λ r. ⌜ r ≡ length (restored (bookIn (now (book .entry)) .saved) (bookIn (now (book .entry)) .part) .rows) ⌝ }
+    ensures bound { λ r. ⌜ r ≤ length (bookIn (now (book .entry)) .part .rows) ⌝ }
+{
+    get_u16(book, SAVED_AT + ROW_COUNT_IN)
+}
+
+// Where the row of a number begins.
+pub fn row_place(number: u16) -> usize
+    requires { ⌜ (1 ≤ number) × (number ≤ mostRows) ⌝ }
+    ensures { λ r. ⌜ r ≡ presentAt + rowAt (number - 1) ⌝ }
+{
+    PRESENT_AT + ROWS_IN + ROW_WIDTH * ((number - 1) as usize)
+}

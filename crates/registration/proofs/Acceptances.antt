@@ -1,0 +1,98 @@
+-- What an accepted call of each kind writes: the bytes are the image of the book, so that the write laws of images apply, and the
+-- checks that it passed keep the book sound.
+use Prim.Native.Nat.{ℕ, _+_, _-_}
+use mathlib.Core.Path.{_≡_, refl, ap, _∙_}
+use mathlib.Core.List.{List}
+use mathlib.Core.Option.{none}
+use mathlib.Core.Bool.{true}
+use native.Mathlib.Omega.{arith}
+use lib.ListN.{length, drop}
+use Rattle.wire.specs.Numbers.{le}
+use Rattle.wire.specs.Regions.{splice, pasted}
+use Rattle.wire.specs.Parts.{zeros, sweep}
+use Rattle.rules.specs.declared.Request.{Request}
+use Rattle.rules.specs.Limits.{mostHours, bookSize}
+use Rattle.rules.specs.Verdicts.{accepted}
+use Rattle.rules.specs.Requests.{withdraw, openBatch, undo, keep, closeGate}
+use Rattle.rules.specs.Calls.{restored, given}
+use Rattle.rules.proofs.Passed.{passed-13}
+use Rattle.rules.proofs.RowTests.{passed-withdraw}
+use Rattle.rules.proofs.AccountHours.{pending-inside}
+use Rattle.book.specs.Layout.{rowWidth, partSize, phaseAt, flagAt, presentAt, savedAt, rowAt, statusIn}
+use Rattle.book.specs.Valid.{isBook, bookIn}
+use Rattle.book.specs.Changes.{ended}
+use Rattle.book.proofs.Sizes.{statuses-small}
+use Rattle.book.proofs.BookWrites.{write-withdraw, write-open, write-undo, write-keep, write-close}
+use Rattle.book.proofs.KeepsKinds.{withdraw-keeps, open-keeps, undo-keeps, keep-keeps, close-keeps}
+use Rattle.book.proofs.StateLaws.{book-image, book-fits, book-is-sound}
+use Rattle.registration.specs.Kinds.{decided}
+use Rattle.registration.proofs.Decisions.{decided-clear}
+use Rattle.registration.proofs.Answers.{Answered, AnsweredAll, accepted-answered, answered-all}
+
+module _ (s t : List ℕ) (h : isBook s ≡ true) where
+  -- 3: the row's status
+  pub withdrawn-answered : (q : Request) (at : ℕ) → decided withdraw (bookIn s) q ≡ none → at ≡ presentAt + rowAt (q .number - 1) + statusIn
+      → t ≡ splice s at (le 1 3) → Answered withdraw s q (accepted 0) t
+  unfolding given
+  withdrawn-answered q at d place e =
+      let clear = decided-clear withdraw (bookIn s) q d in
+      let pend = passed-withdraw (bookIn s) q clear .0 in
+      let low = pending-inside (bookIn s .part .rows) (q .number) pend .0 in
+      accepted-answered withdraw s q h t 0 d refl
+      (e
+      ∙ ap (λ (x : List ℕ). splice x at (le 1 3)) (book-image s h)
+      ∙ write-withdraw mostHours bookSize (bookIn s) (book-fits s h) q (q .number - 1) at (omega arith) pend place)
+      (withdraw-keeps (bookIn s) q (book-is-sound s h) clear)
+
+  -- 5: the present part copied over the saved one, and the flag
+  pub opened-answered : ((q : Request) → decided openBatch (bookIn s) q ≡ none)
+      → t ≡ splice (pasted s (savedAt mostHours) (drop presentAt s) (partSize mostHours)) flagAt (le 1 1)
+      → AnsweredAll openBatch s (accepted 0) t
+  unfolding given
+  opened-answered d e =
+      answered-all openBatch s (accepted 0) t (λ q. accepted-answered openBatch s q h t 0 (d q) refl
+      (e
+      ∙ ap (λ (x : List ℕ). splice (pasted x (savedAt mostHours) (drop presentAt x) (partSize mostHours)) flagAt (le 1 1)) (book-image s h)
+      ∙ write-open mostHours bookSize (bookIn s) (book-fits s h) q (omega arith))
+      (open-keeps (bookIn s) q (book-is-sound s h) (decided-clear openBatch (bookIn s) q (d q))))
+
+  -- 6: the saved part copied over the present one and cleared, and the flag
+  pub undone-answered : (n : ℕ) → ((q : Request) → decided undo (bookIn s) q ≡ none)
+      → n ≡ length (bookIn s .part .rows) - length (restored (bookIn s .saved) (bookIn s .part) .rows)
+      → t ≡ splice (splice (pasted s presentAt (drop (savedAt mostHours) s) (partSize mostHours)) (savedAt mostHours) (zeros (partSize mostHours))) flagAt (le 1 0)
+      → AnsweredAll undo s (accepted n) t
+  unfolding given
+  undone-answered n d g e =
+      answered-all undo s (accepted n) t (λ q.
+      let clear = decided-clear undo (bookIn s) q (d q) in
+      let (p, saved) = passed-13 (bookIn s) q undo refl clear in
+      accepted-answered undo s q h t n (d q) g
+      (e
+      ∙ ap (λ (x : List ℕ). splice (splice (pasted x presentAt (drop (savedAt mostHours) x) (partSize mostHours)) (savedAt mostHours) (zeros (partSize mostHours))) flagAt (le 1 0)) (book-image s h)
+      ∙ write-undo mostHours bookSize (bookIn s) (book-fits s h) q p (omega arith) saved)
+      (undo-keeps (bookIn s) q (book-is-sound s h) clear))
+
+  -- 7: the saved part cleared, and the flag
+  pub kept-answered : ((q : Request) → decided keep (bookIn s) q ≡ none)
+      → t ≡ splice (splice s (savedAt mostHours) (zeros (partSize mostHours))) flagAt (le 1 0)
+      → AnsweredAll keep s (accepted 0) t
+  unfolding given
+  kept-answered d e =
+      answered-all keep s (accepted 0) t (λ q. accepted-answered keep s q h t 0 (d q) refl
+      (e
+      ∙ ap (λ (x : List ℕ). splice (splice x (savedAt mostHours) (zeros (partSize mostHours))) flagAt (le 1 0)) (book-image s h)
+      ∙ write-keep mostHours bookSize (bookIn s) (book-fits s h) q)
+      (keep-keeps (bookIn s) q (book-is-sound s h) (decided-clear keep (bookIn s) q (d q))))
+
+  -- 8: a loop over the rows, and the phase
+  pub closed-answered : (n : ℕ) → ((q : Request) → decided closeGate (bookIn s) q ≡ none) → n ≡ length (bookIn s .part .rows)
+      → t ≡ splice (sweep ended rowWidth s (presentAt + rowAt 0) n) phaseAt (le 1 2)
+      → AnsweredAll closeGate s (accepted 0) t
+  unfolding given
+  closed-answered n d count e =
+      answered-all closeGate s (accepted 0) t (λ q. accepted-answered closeGate s q h t 0 (d q) refl
+      (e
+      ∙ ap (λ (x : List ℕ). splice (sweep ended rowWidth x (presentAt + rowAt 0) n) phaseAt (le 1 2)) (book-image s h)
+      ∙ write-close mostHours bookSize (bookIn s) (book-fits s h) q n (presentAt + rowAt 0) count
+      (statuses-small (book-is-sound s h .part-sound .rows-sound)) refl)
+      (close-keeps (bookIn s) q (book-is-sound s h) (decided-clear closeGate (bookIn s) q (d q))))

@@ -1,0 +1,106 @@
+-- What the state refuses a call for, test by test: the checks of other kinds vanish, and the first that is left and holds decides.
+use Prim.Native.Nat.{ℕ}
+use mathlib.Core.Path.{_≡_, refl, sym, ap, _∙_}
+use mathlib.Core.List.{[], _∷_}
+use mathlib.Core.Option.{none, some}
+use mathlib.Core.Bool.{Bool, true, false, _||_}
+use native.Mathlib.Omega.{arith}
+use lib.Dec.{eqb}
+use borrow.Author.Tests.{eqb-true, eq-eqb, ne-eqb}
+use Rattle.rules.specs.declared.Request.{Request}
+use Rattle.rules.specs.declared.Refusal.the-variants.{WrongPhase, BatchOpen, NoBatch, NoSuchRow}
+use Rattle.rules.specs.Basics.{isSome}
+use Rattle.rules.specs.Verdicts.{lowest}
+use Rattle.rules.specs.Books.{Book}
+use Rattle.rules.specs.Requests.{Kind, register, confirm, withdraw, guarantee, openBatch, undo, keep, closeGate, schedule, settle, kindNumber, kindOf}
+use Rattle.rules.specs.Registration.{withdraws}
+use Rattle.rules.specs.Calls.{_∈_, phaseOf, stateChecks}
+use Rattle.rules.proofs.Clearing.{Clear, clear}
+use Rattle.rules.proofs.Passed.{passed-13}
+use Rattle.registration.specs.Kinds.{decided}
+
+-- where nothing is decided every check passed
+pub decided-clear : (k : Kind) (b : Book) (q : Request) → decided k b q ≡ none → Clear (stateChecks b k q)
+unfolding decided
+decided-clear k b q e = clear (stateChecks b k q) e
+
+-- ---- a kind of a list is one of it
+
+kind-again : (k : Kind) → kindOf (kindNumber k) ≡ k
+kind-again register = refl
+kind-again confirm = refl
+kind-again withdraw = refl
+kind-again guarantee = refl
+kind-again openBatch = refl
+kind-again undo = refl
+kind-again keep = refl
+kind-again closeGate = refl
+kind-again schedule = refl
+kind-again settle = refl
+
+same-kind : (i k : Kind) → eqb (kindNumber k) (kindNumber i) ≡ true → i ≡ k
+same-kind i k e =
+    let n : kindNumber i ≡ kindNumber k = sym (eqb-true _ _ e) in
+    sym (kind-again i) ∙ ap kindOf n ∙ kind-again k
+
+module _ (P : Kind → Type 0) (i j k : Kind) where
+  of-two-go : (s t : Bool) → eqb (kindNumber k) (kindNumber i) ≡ s → eqb (kindNumber k) (kindNumber j) ≡ t → s || (t || false) ≡ true
+      → P i → P j → P k
+  of-two-go true t e f m x y = rw (← same-kind i k e) x
+  of-two-go false true e f m x y = rw (← same-kind j k f) y
+  of-two-go false false e f m x y = let z : _≡_ {A = ℕ} 0 1 = cc in absurd (omega arith)
+
+  -- what holds of both holds of the one that it is
+  pub of-two : k ∈ (i ∷ j ∷ []) ≡ true → P i → P j → P k
+  of-two m x y = of-two-go (eqb (kindNumber k) (kindNumber i)) (eqb (kindNumber k) (kindNumber j)) refl refl m x y
+
+-- ---- the tests
+
+module _ (b : Book) (q : Request) where
+  -- 11, of every kind
+  pub in-wrong-phase : (k : Kind) → (b .phase ≡ phaseOf k → ⊥) → decided k b q ≡ some WrongPhase
+  unfolding decided stateChecks lowest
+  in-wrong-phase k n = rw (ne-eqb _ _ n)
+
+  module _ (first : b .phase ≡ 1) where
+    -- 12, of opening a batch and of closing the gate
+    pub with-batch : (k : Kind) → k ∈ (openBatch ∷ closeGate ∷ []) ≡ true → isSome (b .saved) ≡ true → decided k b q ≡ some BatchOpen
+    unfolding decided stateChecks lowest
+    with-batch k m o =
+        of-two (λ i. decided i b q ≡ some BatchOpen) openBatch closeGate k m (rw (eq-eqb _ 1 first, o)) (rw (eq-eqb _ 1 first, o))
+
+    pub outside-batch : (k : Kind) → k ∈ (openBatch ∷ closeGate ∷ []) ≡ true → isSome (b .saved) ≡ false → decided k b q ≡ none
+    unfolding decided stateChecks lowest
+    outside-batch k m o =
+        of-two (λ i. decided i b q ≡ none) openBatch closeGate k m (rw (eq-eqb _ 1 first, o)) (rw (eq-eqb _ 1 first, o))
+
+    -- 13, of undo and of keep
+    pub without-batch : (k : Kind) → k ∈ (undo ∷ keep ∷ []) ≡ true → isSome (b .saved) ≡ false → decided k b q ≡ some NoBatch
+    unfolding decided stateChecks lowest
+    without-batch k m o =
+        of-two (λ i. decided i b q ≡ some NoBatch) undo keep k m (rw (eq-eqb _ 1 first, o)) (rw (eq-eqb _ 1 first, o))
+
+    pub inside-batch : (k : Kind) → k ∈ (undo ∷ keep ∷ []) ≡ true → isSome (b .saved) ≡ true → decided k b q ≡ none
+    unfolding decided stateChecks lowest
+    inside-batch k m o =
+        of-two (λ i. decided i b q ≡ none) undo keep k m (rw (eq-eqb _ 1 first, o)) (rw (eq-eqb _ 1 first, o))
+
+    -- 16, of withdraw
+    pub no-row-to-withdraw : withdraws (b .part .rows) q ≡ false → decided withdraw b q ≡ some NoSuchRow
+    unfolding decided stateChecks lowest
+    no-row-to-withdraw w = rw (eq-eqb _ 1 first, w)
+
+    pub row-to-withdraw : withdraws (b .part .rows) q ≡ true → decided withdraw b q ≡ none
+    unfolding decided stateChecks lowest
+    row-to-withdraw w = rw (eq-eqb _ 1 first, w)
+
+-- the phase of the two kinds that want no open batch, and of the two that want one
+pub phase-outside : (k : Kind) → k ∈ (openBatch ∷ closeGate ∷ []) ≡ true → phaseOf k ≡ 1
+phase-outside k m = of-two (λ i. phaseOf i ≡ 1) openBatch closeGate k m refl refl
+
+pub phase-inside : (k : Kind) → k ∈ (undo ∷ keep ∷ []) ≡ true → phaseOf k ≡ 1
+phase-inside k m = of-two (λ i. phaseOf i ≡ 1) undo keep k m refl refl
+
+-- what undo accepts has a batch open
+pub undo-finds-batch : (b : Book) (q : Request) → decided undo b q ≡ none → isSome (b .saved) ≡ true
+undo-finds-batch b q d = let (p, e) = passed-13 b q undo refl (decided-clear undo b q d) in rw e

@@ -1,0 +1,51 @@
+-- The row that a withdrawal names: its number is in range, and its status and proposer stand at its place.
+use Prim.Native.Nat.{ℕ, _+_, _-_, _≤_, _<_}
+use mathlib.Core.Path.{_≡_, refl, _∙_}
+use mathlib.Core.List.{List}
+use mathlib.Core.Bool.{Bool, true, false, _&&_}
+use native.Mathlib.Omega.{arith}
+use lib.ListN.{length}
+use lib.Dec.{eqb}
+use Rattle.wire.specs.Numbers.{numberAt}
+use Rattle.rules.specs.declared.Row.{Row}
+use Rattle.rules.specs.declared.Request.{Request}
+use Rattle.rules.specs.Basics.{bit}
+use Rattle.rules.specs.Limits.{mostRows}
+use Rattle.rules.specs.Books.{Book, countsOf}
+use Rattle.rules.specs.Requests.{withdraw, inRange}
+use Rattle.rules.specs.Registration.{withdraws}
+use Rattle.rules.proofs.Tests.{and-both, within-true}
+use Rattle.rules.proofs.Passed.{field-in-range}
+use Rattle.rules.proofs.AccountHours.{pending-inside}
+use Rattle.book.specs.Layout.{presentAt, rowAt, statusIn}
+use Rattle.book.specs.Valid.{isBook, bookIn}
+use Rattle.book.proofs.StateLaws.{numbered-value-stands}
+use Rattle.registration.specs.Kinds.{Ready}
+
+-- a request that is ready names a number from 1 to 256
+pub ready-number : (b : Book) (q : Request) → Ready withdraw b q → (1 ≤ q .number) × (q .number ≤ mostRows)
+unfolding bit inRange
+ready-number b q r =
+    within-true 1 (q .number) mostRows .0 (field-in-range (countsOf (b .setup)) q 8 (r .in-range) (omega arith) (rw (r .of-kind)))
+
+-- no row has that number
+pub no-such-number : (rows : List Row) (q : Request) → length rows < q .number → withdraws rows q ≡ false
+unfolding withdraws
+no-such-number rows q h = go (withdraws rows q) refl
+  where
+    go : (t : Bool) → withdraws rows q ≡ t → withdraws rows q ≡ false
+    go false e = e
+    go true e =
+        let high = pending-inside rows (q .number) (and-both _ _ .0 e .0) .1 in
+        absurd (omega arith)
+
+-- the row of that number, by what stands at its place
+pub own-pending : (s : List ℕ) (q : Request) (at status proposer : ℕ) → isBook s ≡ true → 1 ≤ q .number
+    → q .number ≤ length (bookIn s .part .rows) → at ≡ presentAt + rowAt (q .number - 1)
+    → status ≡ numberAt s (at + statusIn) 1 → proposer ≡ numberAt s at 1
+    → eqb status 1 && eqb proposer (q .account) ≡ withdraws (bookIn s .part .rows) q
+unfolding withdraws
+own-pending s q at status proposer h low high place e f =
+    let x = e ∙ numbered-value-stands s h (q .number) 7 (at + statusIn) low high (omega arith) in
+    let y = f ∙ numbered-value-stands s h (q .number) 0 at low high (omega arith) in
+    rw (x, y)

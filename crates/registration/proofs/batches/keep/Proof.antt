@@ -1,0 +1,55 @@
+-- What was checked is what the state decides, and what is written is the book with nothing saved.
+use mathlib.Core.Path.{_≡_, refl, sym, _∙_}
+use mathlib.Core.Option.{none}
+use denote.Ref.{now}
+use Rattle.rules.specs.declared.Request.{Request}
+use Rattle.rules.specs.Requests.{keep}
+use Rattle.book.specs.Valid.{bookIn}
+use Rattle.book.proofs.StateLaws.{book-length}
+use Rattle.registration.specs.Kinds.{decided}
+use Rattle.registration.proofs.Answers.{fails-refused, clear-accepted, refused-all}
+use Rattle.registration.proofs.Acceptances.{kept-answered}
+use borrow.Author.Needs.{needs}
+use Rattle.registration.proofs.batches.keep.Statement.{statement}
+use Rattle.registration.proofs.batches.keep.Tie as tie
+
+-- past the checks nothing is decided
+free : (c : tie.After-enum-told) (q : Request) → decided keep (bookIn (now (c .before .before .before .before .before .args .book))) q ≡ none
+free c q = clear-accepted _ (sym (c .enum-told .given .1) ∙ c .before .before .inside-batch .ensures keep q refl)
+
+inside-batch-requires : tie.Need-inside-batch-requires
+inside-batch-requires c κs = search needs
+
+enum-known-r : tie.Need-enum-known-r
+enum-known-r c = search needs
+
+same-length : tie.Need-same-length
+same-length c = search needs
+
+returns : tie.Need-returns
+returns c = refused-all keep _ _ (c .before .before .before .before .before .before .pre) (λ q. fails-refused _ _ (sym (c .before .r .given .1) ∙ c .before .before .before .inside-batch .ensures keep q refl))
+
+enum-told : tie.Need-enum-told
+enum-told c = search needs
+
+end-batch-requires : tie.Need-end-batch-requires
+end-batch-requires c κs = book-length _ (c .before .before .before .before .before .before .pre)
+
+same-length-2 : tie.Need-same-length-2
+same-length-2 c = search needs
+
+returns-2 : tie.Need-returns-2
+returns-2 c = kept-answered _ _ (c .before .before .before .before .before .before .before .before .before .pre) (free (c .before .before .before .before)) (c .before .before .end-batch .ensures)
+
+pub keep-spec : {M : Type 1} → statement M
+keep-spec =
+    tie.close
+    (tie.spec
+    inside-batch-requires
+    enum-known-r
+    same-length
+    returns
+    enum-told
+    end-batch-requires
+    same-length-2
+    returns-2)

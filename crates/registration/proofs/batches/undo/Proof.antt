@@ -1,0 +1,83 @@
+-- What was checked is what the state decides, and what is written is the book as it was saved, with nothing saved any more.
+use Prim.Native.Nat.{ℕ}
+use mathlib.Core.Path.{_≡_, refl, sym, ap, _∙_}
+use mathlib.Core.List.{List, []}
+use mathlib.Core.Option.{none}
+use mathlib.Core.Logic.{inr}
+use native.Mathlib.Omega.{arith}
+use denote.Ref.{now}
+use Rattle.wire.specs.Numbers.{le}
+use Rattle.wire.specs.Regions.{splice}
+use Rattle.wire.specs.Parts.{zeros}
+use Rattle.rules.specs.declared.Request.{Request}
+use Rattle.rules.specs.Limits.{mostHours}
+use Rattle.rules.specs.Requests.{undo, requestOf}
+use Rattle.book.specs.Layout.{flagAt, savedAt, partSize}
+use Rattle.book.specs.Valid.{bookIn}
+use Rattle.book.proofs.StateLaws.{book-length}
+use Rattle.registration.specs.Kinds.{decided}
+use Rattle.registration.proofs.Decisions.{undo-finds-batch}
+use Rattle.registration.proofs.Answers.{fails-refused, clear-accepted, refused-all}
+use Rattle.registration.proofs.Acceptances.{undone-answered}
+use borrow.Author.Needs.{needs}
+use Rattle.registration.proofs.batches.undo.Statement.{statement}
+use Rattle.registration.proofs.batches.undo.Tie as tie
+
+-- past the checks nothing is decided
+free : (c : tie.After-enum-told) (q : Request) → decided undo (bookIn (now (c .before .before .before .before .before .args .book))) q ≡ none
+free c q = clear-accepted _ (sym (c .enum-told .given .1) ∙ c .before .before .inside-batch .ensures undo q refl)
+
+inside-batch-requires : tie.Need-inside-batch-requires
+inside-batch-requires c κs = search needs
+
+enum-known-r : tie.Need-enum-known-r
+enum-known-r c = search needs
+
+same-length : tie.Need-same-length
+same-length c = search needs
+
+returns : tie.Need-returns
+returns c = refused-all undo _ _ (c .before .before .before .before .before .before .pre) (λ q. fails-refused _ _ (sym (c .before .r .given .1) ∙ c .before .before .before .inside-batch .ensures undo q refl))
+
+enum-told : tie.Need-enum-told
+enum-told c = search needs
+
+row-count-requires : tie.Need-row-count-requires
+row-count-requires c κs = search needs
+
+saved-row-count-requires : tie.Need-saved-row-count-requires
+saved-row-count-requires c κs = (c .before .before .before .before .before .before .before .before .pre, undo-finds-batch _ (requestOf []) (free (c .before .before .before) (requestOf [])))
+
+sub-since : tie.Need-sub-since
+sub-since c = search needs
+
+copy-within-requires : tie.Need-copy-within-requires
+copy-within-requires c κs =
+    let n = book-length _ (c .before .before .before .before .before .before .before .before .before .before .pre) in
+    (omega arith, omega arith, inr (omega arith))
+
+end-batch-requires : tie.Need-end-batch-requires
+end-batch-requires c κs = let n = book-length _ (c .before .before .before .before .before .before .before .before .before .before .before .before .before .before .pre) in omega arith
+
+same-length-2 : tie.Need-same-length-2
+same-length-2 c = search needs
+
+returns-2 : tie.Need-returns-2
+returns-2 c = undone-answered _ _ (c .before .before .before .before .before .before .before .before .before .before .before .before .before .before .before .before .before .pre) _ (free (c .before .before .before .before .before .before .before .before .before .before .before .before)) (rw (c .before .before .before .before .before .before .before .before .before .before .row-count .ensures .0, c .before .before .before .before .before .before .before .before .saved-row-count .ensures .0)) (c .before .before .end-batch .ensures ∙ ap (λ (x : List ℕ). splice (splice x (savedAt mostHours) (zeros (partSize mostHours))) flagAt (le 1 0)) (c .before .before .before .before .before .before .copy-within .ensures))
+
+pub undo-spec : {M : Type 1} → statement M
+undo-spec =
+    tie.close
+    (tie.spec
+    inside-batch-requires
+    enum-known-r
+    same-length
+    returns
+    enum-told
+    row-count-requires
+    saved-row-count-requires
+    sub-since
+    copy-within-requires
+    end-batch-requires
+    same-length-2
+    returns-2)
