@@ -29,3 +29,13 @@ pub mod RoundTrip
 pub mod SetupEntries
 -- SetupShape: what is known of set-up bytes that are in shape, and of those that are not refused.
 pub mod SetupShape
+-- RowChanges: what marking a row and closing the gate keep.
+pub mod RowChanges
+-- Entries: the ledger's pending entries are the book's pending rows with their numbers.
+pub mod Entries
+-- Ranged: every book that calls make has rows between its accounts and schedules on its points.
+pub mod Ranged
+-- PageAgreement: a page of the ledger agrees with the book's part, and each call changes both alike.
+pub mod PageAgreement
+-- Agreement: the ledger agrees with the book after any list of calls.
+pub mod Agreement

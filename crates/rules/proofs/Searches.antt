@@ -1,13 +1,13 @@
 -- What a search over a list says of its elements, by recursion on the list and cases on the test of its first element.
 use Prim.Native.Nat.{ℕ, zero, suc, _+_, _-_, _≤_, _<_}
 use mathlib.Core.Path.{_≡_, refl, ap, _∙_}
-use mathlib.Core.List.{List, [], _∷_}
+use mathlib.Core.List.{List, [], _∷_, _++_, map}
 use mathlib.Core.Option.{Option, none, some}
 use mathlib.Core.Bool.{Bool, true, false}
 use native.Mathlib.Omega.{arith}
 use lib.ListN.{length, getD}
 use Rattle.rules.proofs.Tests.{and-both}
-use Rattle.rules.specs.Basics.{any, every, find, indexOf, isSome, counting, Each, nil, cons}
+use Rattle.rules.specs.Basics.{any, every, find, indexOf, isSome, nth, counting, Each, nil, cons}
 
 -- an option that holds something
 pub some-of {ℓ} : {A : Type ℓ} (o : Option A) → isSome o ≡ true → (x : A) × (o ≡ some x)
@@ -35,6 +35,21 @@ pub each-at {ℓ κ} : {A : Type ℓ} {P : A → Type κ} {xs : List A} (d : A) 
 each-at d i nil h = absurd (omega arith)
 each-at d zero (cons p e) h = p
 each-at d (suc i) (cons p e) h = each-at d i e (omega arith)
+
+-- the same counted from 1
+pub each-nth {ℓ κ} : {A : Type ℓ} {P : A → Type κ} {xs : List A} (d : A) (n : ℕ) → Each P xs → 1 ≤ n → n ≤ length xs → P (nth xs n d)
+each-nth d zero e l h = absurd (omega arith)
+each-nth d (suc i) e l h = each-at d i e (omega arith)
+
+-- one element more
+pub each-snoc {ℓ κ} : {A : Type ℓ} {P : A → Type κ} {xs : List A} {x : A} → Each P xs → P x → Each P (xs ++ x ∷ [])
+each-snoc nil p = cons p nil
+each-snoc (cons q e) p = cons q (each-snoc e p)
+
+-- each element changed
+pub each-mapped {ℓ κ} : {A : Type ℓ} {P : A → Type κ} {xs : List A} (f : A → A) → ((x : A) → P x → P (f x)) → Each P xs → Each P (map f xs)
+each-mapped f h nil = nil
+each-mapped f h (cons {x = x} q e) = cons (h x q) (each-mapped f h e)
 
 -- what follows for each element
 pub each-map {ℓ κ μ} : {A : Type ℓ} {P : A → Type κ} {Q : A → Type μ} {xs : List A} → ((x : A) → P x → Q x) → Each P xs → Each Q xs

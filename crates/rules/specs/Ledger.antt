@@ -12,14 +12,17 @@ use Rattle.rules.specs.declared.Net.{Net}
 use Rattle.rules.specs.declared.AccountHour.{AccountHour}
 use Rattle.rules.specs.declared.Schedule.{Schedule}
 use Rattle.rules.specs.declared.Request.{Request}
+use Rattle.rules.specs.declared.Outcome.{Outcome}
+use Rattle.rules.specs.declared.Verdict.{Verdict}
+use Rattle.rules.specs.declared.Verdict.the-variants.{Accepted, Refused}
 use Rattle.rules.specs.Basics.{if_then_else_, total, put, within}
 use Rattle.rules.specs.Limits.{thousand}
-use Rattle.rules.specs.Books.{Setup, guaranteeAt, maintenanceAt}
+use Rattle.rules.specs.Books.{Setup, Book, guaranteeAt, maintenanceAt}
 use Rattle.rules.specs.Opening.{setupOf, guaranteesOf}
 use Rattle.rules.specs.Requests.{Kind, register, confirm, withdraw, guarantee, openBatch, undo, keep, closeGate, schedule, settle, kindOf, requestOf}
 use Rattle.rules.specs.Registration.{proposed, alike, counted, covers, exposureOf}
 use Rattle.rules.specs.Settlement.{Judged, settled}
-use Rattle.rules.specs.Calls.{_∈_, scheduled}
+use Rattle.rules.specs.Calls.{Call, _∈_, scheduled, step}
 
 -- a trade: who sells to whom, in which hours, how much in each
 pub record Trade : Type 0 where
@@ -132,6 +135,30 @@ feed k q l =
 unfoldable pub fed : List ℕ → Bool → Ledger → Ledger
 fed record′ true l = feed (kindOf (requestOf record′ .kind)) (requestOf record′) l
 fed record′ false l = l
+
+-- ---- a list of calls
+
+abbrev pub accepting : Verdict → Bool
+accepting (Accepted n) = true
+accepting (Refused r) = false
+
+abbrev pub accepts : Outcome → Bool
+accepts o = accepting (o .verdict)
+
+-- each record of the list, and whether the book accepted it
+unfoldable pub heard : Book → List Call → List (List ℕ × Bool)
+heard b [] = []
+heard b (c ∷ cs) = (c .bytes, accepts (step b c .outcome)) ∷ heard (step b c .book) cs
+
+-- the ledger after records, each with whether it was accepted
+unfoldable pub fedAll : Ledger → List (List ℕ × Bool) → Ledger
+fedAll l [] = l
+fedAll l (x ∷ xs) = fedAll (fed (x .0) (x .1) l) xs
+
+-- the book after the list
+unfoldable pub lastBook : Book → List Call → Book
+lastBook b [] = b
+lastBook b (c ∷ cs) = lastBook (step b c .book) cs
 
 -- ---- what the ledger says
 
