@@ -71,3 +71,11 @@ pub mod FollowLaws
 pub mod TwinLaws
 -- StateLaws: what stands at a place of bytes that are a book.
 pub mod StateLaws
+-- CoverLaws: what is available to an operator, read from bytes.
+pub mod CoverLaws
+-- StandLaws: the set-up's section as code tests it.
+pub mod StandLaws
+-- PartStands: a part as code tests it.
+pub mod PartStands
+-- BookStands: bytes are a book where each section stands.
+pub mod BookStands

@@ -17,3 +17,5 @@ pub mod Fresh
 pub mod Plain
 -- Twins: the keys by which pending rows alike are found.
 pub mod Twins
+-- Stands: a book section by section, as code tests it.
+pub mod Stands

@@ -104,6 +104,7 @@ numbered-go n i r rs t e ih = go t e (rw (the-number) at ih)
   where
     the-number : suc n + i ≡ n + suc i
     the-number = omega arith
+
     go : (t : Bool) → pending r ≡ t
         → without (λ e. eqb (e .number) (n + suc i)) (entriesFrom (suc n) rs) ≡ entriesFrom (suc n) (mark (suc i) 3 rs)
         → without (λ e. eqb (e .number) (n + suc i)) (entriesFrom n (r ∷ rs)) ≡ entriesFrom n (mark (suc (suc i)) 3 (r ∷ rs))
