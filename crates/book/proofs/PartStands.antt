@@ -13,7 +13,7 @@ use borrow.Author.Tests.{eq-eqb, le-leb, leb-true}
 use Rattle.wire.specs.Numbers.{number, numberAt}
 use Rattle.wire.specs.Regions.{zerosFrom}
 use Rattle.wire.specs.Parts.{cut, chunks}
-use Rattle.wire.proofs.PartLaws.{cut-at, inner}
+use Rattle.wire.proofs.PartLaws.{take-drop-take, cut-at, inner}
 use Rattle.wire.proofs.SlotLaws.{length-chunks}
 use Rattle.units.specs.declared.Cents.{Cents}
 use Rattle.units.specs.Units.{cents}
@@ -25,7 +25,7 @@ use Rattle.rules.specs.Books.{Setup, Part, operatorCount}
 use Rattle.rules.specs.Opening.{countsIn, setupOf}
 use Rattle.rules.proofs.Tests.{test-same, and-both}
 use Rattle.rules.proofs.Searches.{every-each, each-map}
-use Rattle.rules.proofs.SetupEntries.{counts-of-setup, take-drop-take}
+use Rattle.rules.proofs.SetupEntries.{counts-of-setup}
 use Rattle.book.specs.Layout.{rowWidth, partWidths, partSize, rowCountAt, rowsAt, netsAt, netAt}
 use Rattle.book.specs.Image.{rowIn, partOf, partIn}
 use Rattle.book.specs.Valid.{rowOk, noTwins, marginsKept, guaranteesKept, partTests, partOk}
