@@ -79,3 +79,7 @@ pub mod StandLaws
 pub mod PartStands
 -- BookStands: bytes are a book where each section stands.
 pub mod BookStands
+-- BookRows: the set-up and the rows of bytes that are a book, and what code asks of them.
+pub mod BookRows
+-- ReadingLaws: what the two readings answer.
+pub mod ReadingLaws

@@ -1,0 +1,143 @@
+-- The set-up and the rows of bytes that are a book stand at their places, and what they say is in range: all that the sums, the margins and
+-- the exposure ask of such bytes.
+use Prim.Native.Nat.{ℕ, zero, suc, _+_, _*_, _≤_}
+use mathlib.Core.Path.{_≡_, refl, sym, ap, _∙_}
+use mathlib.Core.List.{List, []}
+use mathlib.Core.Bool.{true}
+use native.Mathlib.Nat.{mul-suc}
+use native.Mathlib.Omega.{arith}
+use lib.ListN.{length, getD, take, drop, replicate}
+use lib.Seq.{take-take, drop-drop}
+use Rattle.wire.specs.Numbers.{number, numberAt}
+use Rattle.wire.specs.Parts.{cut, chunks}
+use Rattle.wire.proofs.PartLaws.{take-drop-take, cut-at, inner}
+use Rattle.units.specs.Units.{cents}
+use Rattle.rules.specs.declared.Counts.{Counts}
+use Rattle.rules.specs.declared.Row.{Row}
+use Rattle.rules.specs.Basics.{Each}
+use Rattle.rules.specs.Limits.{mostPrice, mostRows, mostHours, bookSize}
+use Rattle.rules.specs.Books.{Setup, Book, countsOf, operatorCount}
+use Rattle.rules.specs.Opening.{countsIn, setupLength, estimatesIn, setupOf, operatorsOf}
+use Rattle.rules.proofs.Searches.{each-map}
+use Rattle.rules.proofs.SetupEntries.{counts-of-setup}
+use Rattle.book.specs.Layout.{setupRoom, rowWidth, partWidths, partSize, presentAt, rowCountAt, rowsAt}
+use Rattle.book.specs.Image.{partOf, partIn}
+use Rattle.book.specs.Valid.{isBook, bookIn}
+use Rattle.book.specs.Plain.{partAt}
+use Rattle.book.specs.Sums.{rowsFrom, SumsOf, Tabled, SetupTabled}
+use Rattle.book.proofs.Soundness.{SoundSetup, SoundRow, SoundBook, sound}
+use Rattle.book.proofs.Sizes.{fits}
+use Rattle.book.proofs.SetupRanges.{InRange, values-in-range}
+use Rattle.book.proofs.SetupAgain.{counts-first-bytes, setup-front}
+use Rattle.book.proofs.Round.{book-is-image, length-book}
+use Rattle.book.proofs.ImageReads.{row-count-read}
+use Rattle.book.proofs.Places.{decode-places}
+
+-- ---- a part
+
+-- cells inside the first bytes are cells of the whole
+chunks-first : (w n at m : ℕ) (s : List ℕ) → at + w * n ≤ m → chunks w n (drop at (take m s)) ≡ chunks w n (drop at s)
+unfolding chunks
+chunks-first w zero at m s h = refl
+chunks-first w (suc n) at m s h =
+    let e : w * suc n ≡ w + w * n = omega (arith, mul-suc w n) in
+    rw (take-drop-take w at m s (omega arith), drop-drop w at (take m s), drop-drop w at s, chunks-first w n (at + w) m s (omega arith))
+
+-- the rows of a part stand side by side from its place for rows on
+pub part-rows : (top operators : ℕ) (s : List ℕ) (at n : ℕ) → n ≡ numberAt s (at + rowCountAt) 2 → n ≤ mostRows
+    → partAt top operators s at .rows ≡ rowsFrom s (at + rowsAt) n
+unfolding partIn partOf rowsFrom numberAt
+part-rows top operators s at n e l =
+    let ws : List ℕ = partWidths top in
+    let x : List ℕ = take (partSize top) (drop at s) in
+    let count : number (getD (cut ws x) 1 []) ≡ n = ap number (cut-at ws x 1 ∙ inner 2 rowCountAt (partSize top) at s (omega arith)) ∙ sym e in
+    let place : getD (cut ws x) 2 [] ≡ take (rowWidth * mostRows) (drop (at + rowsAt) s) =
+    cut-at ws x 2 ∙ inner (rowWidth * mostRows) rowsAt (partSize top) at s (omega arith) in
+    rw (count, place, chunks-first rowWidth n 0 (rowWidth * mostRows) (drop (at + rowsAt) s) (omega arith))
+
+-- the table of sums has room for a sound row
+pub sound-tabled : (u : Setup) → SoundSetup u → (r : Row) → SoundRow u r → Tabled r
+sound-tabled u k r s =
+    record {
+      proposer-low = s .proposer-low;
+      proposer-high = omega (arith, s .proposer-high, k .accounts-high);
+      counterparty-low = s .counterparty-low;
+      counterparty-high = omega (arith, s .counterparty-high, k .accounts-high);
+      first-low = s .first-low;
+      in-order = s .in-order;
+      last-high = omega (arith, s .last-high, k .hours-high);
+      quantity-high = s .quantity-high;
+    }
+
+-- ---- bytes that are a book
+
+module _ (s : List ℕ) (h : isBook s ≡ true) where
+  pub sound-in : SoundBook (bookIn s)
+  sound-in = sound (bookIn s) (book-is-image mostHours bookSize s h .1)
+
+  pub length-in : length s ≡ bookSize
+  length-in = length-book mostHours bookSize s h
+
+  -- the counts are the first bytes
+  pub counts-in : countsOf (bookIn s .setup) ≡ countsIn s
+  counts-in =
+      ap (λ (b : Book). countsOf (b .setup)) (decode-places mostHours bookSize s)
+      ∙ counts-of-setup (take setupRoom s)
+      ∙ counts-first-bytes setupRoom s (omega arith)
+
+  setup-short : setupLength (countsIn s) ≤ setupRoom
+  setup-short =
+      let k = sound-in .setup-sound in
+      omega (arith, ap setupLength counts-in, k .hours-high, k .operators-high, k .accounts-high, k .points-high)
+
+  -- the set-up is what the whole bytes say
+  pub setup-in : bookIn s .setup ≡ setupOf s
+  setup-in =
+      let first : List ℕ = take setupRoom s in
+      let front : take (setupLength (countsIn first)) first ≡ take (setupLength (countsIn s)) s =
+      ap (λ (n : Counts). take (setupLength n) first) (counts-first-bytes setupRoom s (omega arith))
+      ∙ take-take (setupLength (countsIn s)) setupRoom s setup-short in
+      ap (λ (b : Book). b .setup) (decode-places mostHours bookSize s) ∙ sym (setup-front first) ∙ ap setupOf front ∙ setup-front s
+
+  pub setup-tabled : SetupTabled s
+  setup-tabled =
+      let k = sound-in .setup-sound in
+      record {
+        whole = omega (arith, length-in, setup-short);
+        accounts-high = omega (arith, ap (λ (n : Counts). n .accounts) counts-in, k .accounts-high);
+        hours-high = omega (arith, ap (λ (n : Counts). n .hours) counts-in, k .hours-high);
+      }
+
+  pub values-in : InRange (bookIn s .setup) (operatorsOf (replicate (operatorCount (bookIn s .setup)) (cents 0)) (bookIn s .setup .maintenance))
+  values-in = values-in-range (bookIn s .setup) _ (sound-in .setup-sound .in-range)
+
+  pub estimates-in : Each (λ p. p .0 ≤ mostPrice) (estimatesIn s)
+  unfolding setupOf
+  estimates-in = rw (ap (λ (u : Setup). u .estimates) setup-in) at (values-in .estimates-sound)
+
+  -- how many rows there are
+  pub row-count-in : numberAt s (presentAt + rowCountAt) 2 ≡ length (bookIn s .part .rows)
+  row-count-in =
+      ap (λ (x : List ℕ). numberAt x (presentAt + rowCountAt) 2) (book-is-image mostHours bookSize s h .0)
+      ∙ row-count-read mostHours bookSize (bookIn s) (fits (bookIn s) sound-in)
+
+  pub rows-tabled : Each Tabled (bookIn s .part .rows)
+  rows-tabled = each-map (sound-tabled (bookIn s .setup) (sound-in .setup-sound)) (sound-in .part-sound .rows-sound)
+
+  module _ (n : ℕ) (e : n ≡ length (bookIn s .part .rows)) where
+    few : n ≤ mostRows
+    few = omega (arith, sound-in .part-sound .rows-high)
+
+    -- the rows stand side by side
+    pub rows-in : bookIn s .part .rows ≡ rowsFrom s (presentAt + rowsAt) n
+    rows-in =
+        ap (λ (b : Book). b .part .rows) (decode-places mostHours bookSize s)
+        ∙ part-rows mostHours (countsIn s .operators) s presentAt n (e ∙ sym row-count-in) few
+
+    -- what the sums ask of them
+    pub rows-summable : (presentAt + rowsAt + rowWidth * n ≤ length s) × (n ≤ mostRows) × Each Tabled (rowsFrom s (presentAt + rowsAt) n)
+    rows-summable = (omega (arith, length-in, few), few, rw rows-in at rows-tabled)
+
+    -- and the table that is made of them is that of the book's rows
+    pub table-of-a-book : (table : List ℕ) → SumsOf (rowsFrom s (presentAt + rowsAt) n) table → SumsOf (bookIn s .part .rows) table
+    table-of-a-book table t = rw rows-in t

@@ -1,0 +1,173 @@
+-- What the readings answer, by the tests that code makes: the lowest bit that is out of range, else what stands. A net within the margins is
+-- read off its 4 bytes, as it is nearer to zero than half a turn.
+use Prim.Native.Nat.{ℕ, zero, suc, _+_, _-_, _*_, _%_, _^_, _≤_}
+use mathlib.Core.Path.{_≡_, refl, sym, ap, _∙_}
+use mathlib.Core.List.{List, [], _∷_}
+use mathlib.Core.Option.{Option, some}
+use mathlib.Core.Bool.{Bool, true, false, not}
+use native.Mathlib.Omega.{arith}
+use lib.Dec.{leb, ltb}
+use borrow.Author.Tests.{ltb-true, ltb-false, lt-ltb, le-ltb, leb-true, not-false}
+use Rattle.wire.specs.Numbers.{numberAt}
+use Rattle.units.specs.declared.MilliCents.{MilliCents}
+use Rattle.units.specs.Units.{kwh, milliCents}
+use Rattle.rules.specs.declared.Counts.{Counts}
+use Rattle.rules.specs.declared.Operator.{Operator}
+use Rattle.rules.specs.declared.Account.{Account}
+use Rattle.rules.specs.declared.AccountHour.{AccountHour}
+use Rattle.rules.specs.declared.NetReading.{NetReading}
+use Rattle.rules.specs.declared.ExposureReading.{ExposureReading}
+use Rattle.rules.specs.declared.Position.{Position}
+use Rattle.rules.specs.declared.Position.the-variants.{Long, Short}
+use Rattle.rules.specs.declared.Refusal.{Refusal}
+use Rattle.rules.specs.declared.Refusal.the-variants.{OutOfRange}
+use Rattle.rules.specs.Basics.{if_then_else_, within}
+use Rattle.rules.specs.Limits.{mostEnergy, mostHours, bookSize}
+use Rattle.rules.specs.Books.{Setup, noAccount, accountAt, operatorCount, accountCount}
+use Rattle.rules.specs.Opening.{countsIn, setupOf}
+use Rattle.rules.specs.Registration.{bought, sold, netOf, accountHour, keepsMargins, exposure}
+use Rattle.rules.specs.Verdicts.{Check, _⇒_, lowest}
+use Rattle.rules.specs.Readings.{position, netChecks, netReadingOf, netReading, exposureChecks, exposureReadingOf, exposureReading}
+use Rattle.rules.proofs.Tests.{and-both, within-true}
+use Rattle.rules.proofs.Searches.{each-at}
+use Rattle.rules.proofs.Clearing.{clear-lowest}
+use Rattle.book.specs.Layout.{presentAt, netAt}
+use Rattle.book.specs.Valid.{isBook, bookIn}
+use Rattle.book.specs.Sums.{InTable}
+use Rattle.book.proofs.Sizes.{fits}
+use Rattle.book.proofs.SetupRanges.{InRange, SoundAccount}
+use Rattle.book.proofs.Round.{book-is-image}
+use Rattle.book.proofs.ImageReads.{net-read}
+use Rattle.book.proofs.BookRows.{sound-in, counts-in, setup-in, values-in}
+
+-- ---- a stored net
+
+-- 4 bytes of a net that is nearer to zero than half a turn say its position
+pub stored-position : (b s v : ℕ) → v ≡ (b + (256 ^ 4 - 1) * s) % 256 ^ 4 → s ≤ b + mostEnergy → b ≤ s + mostEnergy
+    → position (record { bought = kwh b; sold = kwh s }) ≡ (if ltb v (2 ^ 31) then Long (kwh v) else Short (kwh (2 ^ 32 - v)))
+unfolding position
+stored-position b s v e low high = go (ltb b s) refl
+  where
+    go : (t : Bool) → ltb b s ≡ t
+        → (if t then Short (kwh (s - b)) else Long (kwh (b - s))) ≡ (if ltb v (2 ^ 31) then Long (kwh v) else Short (kwh (2 ^ 32 - v)))
+    go true t =
+        let less = ltb-true b s t in
+        let back : s - b ≡ 4294967296 - v = omega arith in
+        rw (le-ltb v 2147483648 (omega arith), back)
+    go false t =
+        let more = ltb-false b s t in
+        let same : b - s ≡ v = omega arith in
+        rw (lt-ltb v 2147483648 (omega arith), same)
+
+-- ---- tests, the lowest first
+
+lowest-here : (t : Bool) (r : Refusal) (cs : List Check) → t ≡ true → lowest ((t ⇒ r) ∷ cs) ≡ some r
+unfolding lowest
+lowest-here t r cs e = rw (e, lowest)
+
+lowest-past : (t : Bool) (r : Refusal) (cs : List Check) → t ≡ false → lowest ((t ⇒ r) ∷ cs) ≡ lowest cs
+unfolding lowest
+lowest-past t r cs e = rw (e, lowest)
+
+-- an account of a set-up in range
+account-in-range : (u : Setup) (os : List Operator) (a : ℕ) → InRange u os → 1 ≤ a → a ≤ accountCount u → SoundAccount (operatorCount u) (accountAt u a)
+account-in-range u os zero k low high = absurd (omega arith)
+account-in-range u os (suc i) k low high = each-at noAccount i (k .accounts-sound) (omega arith)
+
+-- margins in range keep the two sums of a net near each other
+margins-near : (account : Account) (x : AccountHour) (operators : ℕ) → SoundAccount operators account → keepsMargins account x ≡ true
+    → (x .net .sold .0 ≤ x .net .bought .0 + mostEnergy) × (x .net .bought .0 ≤ x .net .sold .0 + mostEnergy)
+unfolding keepsMargins
+margins-near account x operators k h =
+    let owed = x .net .sold .0 + x .sales .0 in
+    let lower = x .net .bought .0 + account .lower .0 in
+    let due = x .net .bought .0 + x .purchases .0 in
+    let upper = x .net .sold .0 + account .upper .0 in
+    let w = and-both (leb owed lower) (leb due upper) .0 h in
+    (omega (arith, leb-true owed lower (w .0), k .lower-high), omega (arith, leb-true due upper (w .1), k .upper-high))
+
+-- ---- the readings of a book with these counts
+
+module _ (s : List ℕ) (h : isBook s ≡ true) (n : Counts) (e : n ≡ countsIn s) where
+  abbrev u : Setup
+  u = bookIn s .setup
+
+  accounts-counted : accountCount u ≡ n .accounts
+  accounts-counted = ap (λ (c : Counts). c .accounts) (counts-in s h ∙ sym e)
+
+  hours-counted : u .hours ≡ n .hours
+  hours-counted = ap (λ (c : Counts). c .hours) (counts-in s h ∙ sym e)
+
+  operators-counted : operatorCount u ≡ n .operators
+  operators-counted = ap (λ (c : Counts). c .operators) (counts-in s h ∙ sym e)
+
+  module _ (a t : ℕ) where
+    abbrev net : Position
+    net = position (netOf (bookIn s .part .rows) a t)
+
+    by-account : {o : Bool} → not (within 1 a (n .accounts)) ≡ o → not (within 1 a (accountCount u)) ≡ o
+    by-account x = ap (λ (m : ℕ). not (within 1 a m)) accounts-counted ∙ x
+
+    by-hour : {o : Bool} → not (within 1 t (n .hours)) ≡ o → not (within 1 t (u .hours)) ≡ o
+    by-hour x = ap (λ (m : ℕ). not (within 1 t m)) hours-counted ∙ x
+
+    pub net-no-account : not (within 1 a (n .accounts)) ≡ true → netReading (bookIn s) a t ≡ NetReading.Unread (OutOfRange 1)
+    unfolding netReading
+    net-no-account x = ap (λ (o : Option Refusal). netReadingOf o net) (lowest-here _ _ _ (by-account x))
+
+    pub net-no-hour : not (within 1 a (n .accounts)) ≡ false → not (within 1 t (n .hours)) ≡ true → netReading (bookIn s) a t ≡ NetReading.Unread (OutOfRange 5)
+    unfolding netReading
+    net-no-hour x y = ap (λ (o : Option Refusal). netReadingOf o net) (lowest-past _ _ _ (by-account x) ∙ lowest-here _ _ [] (by-hour y))
+
+    module _ (x : not (within 1 a (n .accounts)) ≡ false) (y : not (within 1 t (n .hours)) ≡ false) where
+      account-inside : (1 ≤ a) × (a ≤ accountCount u)
+      account-inside = within-true 1 a (accountCount u) .0 (not-false _ (by-account x))
+
+      hour-inside : (1 ≤ t) × (t ≤ u .hours)
+      hour-inside = within-true 1 t (u .hours) .0 (not-false _ (by-hour y))
+
+      -- the net is within the margins
+      net-near : (sold (bookIn s .part .rows) a t ≤ bought (bookIn s .part .rows) a t + mostEnergy) × (bought (bookIn s .part .rows) a t ≤ sold (bookIn s .part .rows) a t + mostEnergy)
+      net-near =
+          let i = account-inside in
+          let j = hour-inside in
+          margins-near (accountAt u a) (accountHour (bookIn s .part .rows) a t) (operatorCount u)
+          (account-in-range u _ a (values-in s h) (i .0) (i .1))
+          (sound-in s h .part-sound .keeps-margins a t (i .0) (i .1) (j .0) (j .1))
+
+      pub net-in-table : InTable a t
+      net-in-table =
+          let k = sound-in s h .setup-sound in
+          record {
+            account-low = account-inside .0;
+            account-high = omega (arith, account-inside .1, k .accounts-high);
+            hour-low = hour-inside .0;
+            hour-high = omega (arith, hour-inside .1, k .hours-high);
+          }
+
+      pub net-stands : (v : ℕ) → v ≡ numberAt s (presentAt + netAt mostHours a t) 4
+          → netReading (bookIn s) a t ≡ NetReading.Stands (if ltb v (2 ^ 31) then Long (kwh v) else Short (kwh (2 ^ 32 - v)))
+      unfolding netReading
+      net-stands v q =
+          let i = net-in-table in
+          let at : ℕ = presentAt + netAt mostHours a t in
+          let read = net-read mostHours bookSize (bookIn s) (fits (bookIn s) (sound-in s h)) a t at (i .account-low) (i .account-high) (i .hour-low) (i .hour-high) refl in
+          let stored = q ∙ ap (λ (z : List ℕ). numberAt z at 4) (book-is-image mostHours bookSize s h .0) ∙ read in
+          ap (λ (o : Option Refusal). netReadingOf o net) (clear-lowest (netChecks (bookIn s) a t) (rw (by-account x), (rw (by-hour y), tt)))
+          ∙ ap NetReading.Stands (stored-position _ _ v stored (net-near .0) (net-near .1))
+
+  module _ (o : ℕ) where
+    by-operator : {x : Bool} → not (within 1 o (n .operators)) ≡ x → not (within 1 o (operatorCount u)) ≡ x
+    by-operator x = ap (λ (m : ℕ). not (within 1 o m)) operators-counted ∙ x
+
+    pub exposure-no-operator : not (within 1 o (n .operators)) ≡ true → exposureReading (bookIn s) o ≡ ExposureReading.Unread (OutOfRange 9)
+    unfolding exposureReading
+    exposure-no-operator x =
+        ap (λ (y : Option Refusal). exposureReadingOf y (exposure u (bookIn s .part .rows) o)) (lowest-here _ _ _ (by-operator x))
+
+    pub exposure-stands : (m : MilliCents) → not (within 1 o (n .operators)) ≡ false → m .0 ≡ exposure (setupOf s) (bookIn s .part .rows) o
+        → exposureReading (bookIn s) o ≡ ExposureReading.Stands m
+    unfolding exposureReading
+    exposure-stands m x y =
+        ap (λ (z : Option Refusal). exposureReadingOf z (exposure u (bookIn s .part .rows) o)) (clear-lowest (exposureChecks (bookIn s) o) (rw (by-operator x), tt))
+        ∙ ap (λ (z : ℕ). ExposureReading.Stands (milliCents z)) (ap (λ (z : Setup). exposure z (bookIn s .part .rows) o) (setup-in s h) ∙ sym y)

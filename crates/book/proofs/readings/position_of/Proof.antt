@@ -1,0 +1,25 @@
+-- Below half a turn the number stands for itself, and from there on for what it lacks of a whole turn.
+use Prim.Native.Nat.{ℕ}
+use mathlib.Core.Path.{ap}
+use native.Mathlib.Omega.{arith}
+use borrow.Author.Needs.{needs}
+use borrow.Author.Tests.{lt-ltb, le-ltb}
+use Rattle.units.specs.Units.{kwh}
+use Rattle.rules.specs.declared.Position.the-variants.{Short}
+use Rattle.book.proofs.readings.position_of.Statement.{statement}
+use Rattle.book.proofs.readings.position_of.Tie as tie
+
+returns : tie.Need-returns
+returns c = rw (lt-ltb (c .before .args .stored) 2147483648 (c .if1 .taken))
+
+sub-t4 : tie.Need-sub-t4
+sub-t4 c = search needs
+
+add-t5 : tie.Need-add-t5
+add-t5 c = search needs
+
+returns-2 : tie.Need-returns-2
+returns-2 c = rw (le-ltb (c .before .args .stored) 2147483648 (c .if1 .left)) (ap (λ (n : ℕ). Short (kwh n)) (omega arith))
+
+pub position-of-spec : {M : Type 1} → statement M
+position-of-spec = tie.close (tie.spec returns sub-t4 add-t5 returns-2)

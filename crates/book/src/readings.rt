@@ -1,0 +1,119 @@
+// The readings: a net position and an exposure, of bytes that are known to be a book and of any bytes.
+ghost use mathlib.Core.Path.{_≡_};
+ghost use mathlib.Core.Bool.{true, not};
+ghost use Prim.Native.Nat.{_+_, _-_, _^_};
+ghost use lib.Dec.{ltb};
+ghost use Rattle.wire.specs.Numbers.{numberAt};
+ghost use Rattle.units.specs.Units.{kwh};
+ghost use Rattle.rules.specs.declared.Position.the-variants.{Long, Short};
+ghost use Rattle.rules.specs.Basics.{if_then_else_, within};
+ghost use Rattle.rules.specs.Limits.{mostHours};
+ghost use Rattle.rules.specs.Readings.{netReading, exposureReading};
+ghost use Rattle.book.specs.Layout.{presentAt, netAt};
+ghost use Rattle.book.specs.Valid.{isBook, bookIn};
+ghost use Rattle.book.specs.Sums.{InTable, SumsOf};
+ghost use Rattle.book.specs.Doors.{netAnswer, exposureAnswer};
+use crate::exposure::exposure_of;
+use crate::layout::ACCOUNT_NETS;
+use crate::layout::NETS_IN;
+use crate::layout::PRESENT_AT;
+use crate::layout::ROWS_IN;
+use crate::layout::TABLE_SIZE;
+use crate::state::row_count;
+use crate::sums::sums_of;
+use crate::whole::is_book;
+use rules::ExposureReading;
+use rules::NetReading;
+use rules::Position;
+use rules::Refusal;
+use setup::counts::counts;
+use units::Kwh;
+use wire::numbers::get_u32;
+
+// Half of what 4 bytes count to, from which on they are below zero, and the greatest number in them.
+const HALF_TURN: u32 = 2_147_483_648;
+
+const MOST_IN_4: u32 = 4_294_967_295;
+
+// The number is not among those from 1 to `most`.
+fn outside(number: u8, most: u8) -> bool
+    ensures { λ r. ⌜ r ≡ not (within 1 number most) ⌝ }
+{
+    !((1 <= number) & (number <= most))
+}
+
+// The position that 4 bytes say in two's complement.
+fn position_of(stored: u32) -> Position
+    ensures { λ r. ⌜ r ≡ (if ltb stored (2 ^ 31) then Long (kwh stored) else Short (kwh (2 ^ 32 - stored))) ⌝ }
+{
+    if stored < HALF_TURN {
+        return Position::Long(Kwh(stored));
+    }
+    Position::Short(Kwh(MOST_IN_4 - stored + 1))
+}
+
+// The 4 bytes that hold the net of an account in an hour.
+fn stored_net(book: &[u8], account: u8, hour: u8) -> u32
+    requires { ⌜ (isBook (now book) ≡ true) × InTable account hour ⌝ }
+    ensures { λ r. ⌜ r ≡ numberAt (now (book .entry)) (presentAt + netAt mostHours account hour) 4 ⌝ }
+{
+    let cell = ACCOUNT_NETS * (account as usize - 1) + 4 * (hour as usize - 1);
+    get_u32(book, PRESENT_AT + (NETS_IN + cell))
+}
+
+// The net position of an account in an hour.
+pub fn net_in(book: &[u8], account: u8, hour: u8) -> NetReading
+    requires { ⌜ isBook (now book) ≡ true ⌝ }
+    ensures { λ r. ⌜ r ≡ netReading (bookIn (now (book .entry))) account hour ⌝ }
+{
+    let n = counts(book);
+    if outside(account, n.accounts) {
+        return NetReading::Unread(Refusal::OutOfRange { bit: 1 });
+    }
+    if outside(hour, n.hours) {
+        return NetReading::Unread(Refusal::OutOfRange { bit: 5 });
+    }
+    NetReading::Stands(position_of(stored_net(book, account, hour)))
+}
+
+// The sums of all account hours by the book's rows.
+pub fn sums_in(book: &[u8]) -> [u32; TABLE_SIZE]
+    requires { ⌜ isBook (now book) ≡ true ⌝ }
+    ensures { λ r. ⌜ SumsOf (bookIn (now (book .entry)) .part .rows) r ⌝ }
+{
+    let n = row_count(book) as usize;
+    sums_of(book, PRESENT_AT + ROWS_IN, n)
+}
+
+// The exposure of an operator.
+pub fn exposure_in(book: &[u8], operator: u8) -> ExposureReading
+    requires { ⌜ isBook (now book) ≡ true ⌝ }
+    ensures { λ r. ⌜ r ≡ exposureReading (bookIn (now (book .entry))) operator ⌝ }
+{
+    let n = counts(book);
+    if outside(operator, n.operators) {
+        return ExposureReading::Unread(Refusal::OutOfRange { bit: 9 });
+    }
+    let table = sums_in(book);
+    ExposureReading::Stands(exposure_of(book, &table, operator))
+}
+
+// The net position of an account in an hour, of any bytes: 1 where they are no book, else as `net_in`.
+pub fn net(book: &[u8], account: u8, hour: u8) -> NetReading
+    ensures { λ r. ⌜ r ≡ netAnswer (now (book .entry)) account hour ⌝ }
+{
+    if is_book(book) {
+        return net_in(book, account, hour);
+    }
+    NetReading::Unread(Refusal::NotABook)
+}
+
+// The exposure of an operator, of any bytes: 1 where they are no book, else as `exposure_in`.
+pub fn exposure(book: &[u8], operator: u8) -> ExposureReading
+    ensures { λ r. ⌜ r ≡ exposureAnswer (now (book .entry)) operator ⌝ }
+{
+    if is_book(book) {
+        return exposure_in(book, operator);
+    }
+    ExposureReading::Unread(Refusal::NotABook)
+}
