@@ -1,35 +1,88 @@
 -- What an accepted call of each kind writes: the bytes are the image of the book, so that the write laws of images apply, and the
 -- checks that it passed keep the book sound.
-use Prim.Native.Nat.{ℕ, _+_, _-_}
-use mathlib.Core.Path.{_≡_, refl, ap, _∙_}
-use mathlib.Core.List.{List}
-use mathlib.Core.Option.{none}
+use Prim.Native.Nat.{ℕ, suc, _+_, _-_, _*_, _^_}
+use mathlib.Core.Path.{_≡_, refl, sym, ap, _∙_}
+use mathlib.Core.List.{List, []}
+use mathlib.Core.Option.{none, some}
 use mathlib.Core.Bool.{true}
+use native.Mathlib.Numerals.{add-one}
 use native.Mathlib.Omega.{arith}
-use lib.ListN.{length, drop}
+use lib.ListN.{length, getD, drop}
 use Rattle.wire.specs.Numbers.{le}
 use Rattle.wire.specs.Regions.{splice, pasted}
 use Rattle.wire.specs.Parts.{zeros, sweep}
+use Rattle.rules.specs.declared.Row.{Row}
 use Rattle.rules.specs.declared.Request.{Request}
 use Rattle.rules.specs.Limits.{mostHours, bookSize}
 use Rattle.rules.specs.Verdicts.{accepted}
-use Rattle.rules.specs.Requests.{withdraw, openBatch, undo, keep, closeGate}
-use Rattle.rules.specs.Calls.{restored, given}
-use Rattle.rules.proofs.Passed.{passed-13}
-use Rattle.rules.proofs.RowTests.{passed-withdraw}
+use Rattle.rules.specs.Basics.{nth}
+use Rattle.rules.specs.Books.{Book, noRow}
+use Rattle.rules.specs.Registration.{pending, seller, buyer, proposed, confirms}
+use Rattle.rules.specs.Requests.{register, confirm, withdraw, guarantee, openBatch, undo, keep, closeGate}
+use Rattle.rules.specs.Calls.{Call, confirmedNumber, restored, given}
+use Rattle.rules.proofs.Passed.{passed-13, passed-15}
+use Rattle.rules.proofs.RowTests.{passed-confirm, passed-withdraw}
 use Rattle.rules.proofs.AccountHours.{pending-inside}
-use Rattle.book.specs.Layout.{rowWidth, partSize, phaseAt, flagAt, presentAt, savedAt, rowAt, statusIn}
+use Rattle.book.specs.Layout.{rowWidth, partSize, phaseAt, flagAt, presentAt, savedAt, guaranteesAt, rowCountAt, rowAt, netAt, statusIn}
+use Rattle.book.specs.Image.{rowBytes}
 use Rattle.book.specs.Valid.{isBook, bookIn}
-use Rattle.book.specs.Changes.{ended}
-use Rattle.book.proofs.Sizes.{statuses-small}
-use Rattle.book.proofs.BookWrites.{write-withdraw, write-open, write-undo, write-keep, write-close}
-use Rattle.book.proofs.KeepsKinds.{withdraw-keeps, open-keeps, undo-keeps, keep-keeps, close-keeps}
+use Rattle.book.specs.Changes.{raised, ended}
+use Rattle.book.proofs.Sizes.{RowFits, row-fits-of, statuses-small}
+use Rattle.book.proofs.KeepsRows.{each-nth}
+use Rattle.book.proofs.BookWrites.{write-register, write-confirm, write-withdraw, write-guarantee, write-open, write-undo, write-keep, write-close}
+use Rattle.book.proofs.KeepsKinds.{register-keeps, confirm-keeps, withdraw-keeps, guarantee-keeps, open-keeps, undo-keeps, keep-keeps, close-keeps}
 use Rattle.book.proofs.StateLaws.{book-image, book-fits, book-is-sound}
-use Rattle.registration.specs.Kinds.{decided}
+use Rattle.registration.specs.Kinds.{decided, Ready}
 use Rattle.registration.proofs.Decisions.{decided-clear}
+use Rattle.registration.proofs.Readiness.{ready-input, ready-operator}
 use Rattle.registration.proofs.Answers.{Answered, AnsweredAll, accepted-answered, answered-all}
 
+-- a call with nothing lent: only settle looks at more than the request
+noCall : Call
+noCall = record { bytes = []; prices = []; results = []; balances = [] }
+
 module _ (s t : List ℕ) (h : isBook s ≡ true) where
+  -- 1: the row, and the count
+  pub registered-answered : (q : Request) (n at : ℕ) → Ready register (bookIn s) q → decided register (bookIn s) q ≡ none
+      → n ≡ length (bookIn s .part .rows) → at ≡ presentAt + rowAt n
+      → t ≡ splice (splice s at (rowBytes (proposed q))) (presentAt + rowCountAt) (le 2 (n + 1)) → Answered register s q (accepted (n + 1)) t
+  unfolding given
+  registered-answered q n at r d count place e =
+      let clear = decided-clear register (bookIn s) q d in
+      accepted-answered register s q h t (n + 1) d (add-one n ∙ ap suc count)
+      (e
+      ∙ ap (λ (x : List ℕ). splice (splice x at (rowBytes (proposed q))) (presentAt + rowCountAt) (le 2 (n + 1))) (book-image s h)
+      ∙ write-register mostHours bookSize (bookIn s) (book-fits s h) q n at count (omega (arith, passed-15 (bookIn s) q clear)) place)
+      (register-keeps (bookIn s) q (book-is-sound s h) noCall (sym (r .of-kind)) (r .code-fits)
+      (ready-input register (bookIn s) q r noCall refl) clear)
+
+  -- 2: the row's status, the hours of its seller, those of its buyer
+  pub confirmed-answered : (q : Request) (i n at low high : ℕ) (r : Row) → decided confirm (bookIn s) q ≡ none
+      → confirms (bookIn s .part .rows) q ≡ some i → r ≡ getD (bookIn s .part .rows) i noRow → r .first + n ≡ suc (r .last)
+      → at ≡ presentAt + rowAt i + statusIn
+      → low ≡ presentAt + netAt mostHours (seller r) (r .first) → high ≡ presentAt + netAt mostHours (buyer r) (r .first)
+      → t
+      ≡ sweep (raised 4 (r .quantity .0)) 4 (sweep (raised 4 (256 ^ 4 - r .quantity .0)) 4 (splice s at (le 1 2)) low n) high n
+      → Answered confirm s q (accepted (i + 1)) t
+  unfolding given
+  confirmed-answered q i n at low high r d named row hours place sells buys e =
+      let b : Book = bookIn s in
+      let sound = book-is-sound s h in
+      let clear = decided-clear confirm b q d in
+      let w = passed-confirm b q clear in
+      let number : confirmedNumber b q ≡ suc i = rw named in
+      let here : r ≡ nth (b .part .rows) (confirmedNumber b q) noRow = rw number row in
+      let pend : pending r ≡ true = rw here (w .row .is-pending) in
+      let setup = sound .setup-sound in
+      let fit : RowFits mostHours r =
+      rw here (row-fits-of mostHours (b .setup) _ (setup .accounts-high) (setup .hours-high)
+      (each-nth noRow (confirmedNumber b q) (sound .part-sound .rows-sound) (w .low) (w .high))) in
+      accepted-answered confirm s q h t (i + 1) d (add-one i ∙ sym number)
+      (e
+      ∙ ap (λ (x : List ℕ). sweep (raised 4 (r .quantity .0)) 4 (sweep (raised 4 (256 ^ 4 - r .quantity .0)) 4 (splice x at (le 1 2)) low n) high n) (book-image s h)
+      ∙ write-confirm mostHours bookSize b (book-fits s h) q i n at low high r number here pend fit hours place sells buys)
+      (confirm-keeps b q sound clear)
+
   -- 3: the row's status
   pub withdrawn-answered : (q : Request) (at : ℕ) → decided withdraw (bookIn s) q ≡ none → at ≡ presentAt + rowAt (q .number - 1) + statusIn
       → t ≡ splice s at (le 1 3) → Answered withdraw s q (accepted 0) t
@@ -43,6 +96,23 @@ module _ (s t : List ℕ) (h : isBook s ≡ true) where
       ∙ ap (λ (x : List ℕ). splice x at (le 1 3)) (book-image s h)
       ∙ write-withdraw mostHours bookSize (bookIn s) (book-fits s h) q (q .number - 1) at (omega arith) pend place)
       (withdraw-keeps (bookIn s) q (book-is-sound s h) clear)
+
+  -- 4: the guarantee of the operator
+  pub guaranteed-answered : (q : Request) (at : ℕ) → Ready guarantee (bookIn s) q → decided guarantee (bookIn s) q ≡ none
+      → at ≡ presentAt + guaranteesAt + 8 * (q .operator - 1)
+      → t ≡ splice s at (le 8 (q .guarantee .0)) → Answered guarantee s q (accepted 0) t
+  unfolding given
+  guaranteed-answered q at r d place e =
+      let b : Book = bookIn s in
+      let sound = book-is-sound s h in
+      let clear = decided-clear guarantee b q d in
+      let all = sound .part-sound .guarantees-all in
+      let w = ready-operator b q r in
+      accepted-answered guarantee s q h t 0 d refl
+      (e
+      ∙ ap (λ (x : List ℕ). splice x at (le 8 (q .guarantee .0))) (book-image s h)
+      ∙ write-guarantee mostHours bookSize b (book-fits s h) q (q .operator - 1) at (omega arith) (omega arith) place)
+      (guarantee-keeps b q sound noCall (sym (r .of-kind)) (ready-input guarantee b q r noCall refl) clear)
 
   -- 5: the present part copied over the saved one, and the flag
   pub opened-answered : ((q : Request) → decided openBatch (bookIn s) q ≡ none)

@@ -5,16 +5,18 @@ use mathlib.Core.List.{[], _∷_}
 use mathlib.Core.Option.{none, some}
 use mathlib.Core.Bool.{Bool, true, false, _||_}
 use native.Mathlib.Omega.{arith}
-use lib.Dec.{eqb}
+use lib.ListN.{length}
+use lib.Dec.{eqb, leb}
 use borrow.Author.Tests.{eqb-true, eq-eqb, ne-eqb}
 use Rattle.rules.specs.declared.Request.{Request}
-use Rattle.rules.specs.declared.Refusal.the-variants.{WrongPhase, BatchOpen, NoBatch, NoSuchRow}
-use Rattle.rules.specs.Basics.{isSome}
+use Rattle.rules.specs.declared.Refusal.the-variants.{WrongPhase, BatchOpen, NoBatch, AlreadyPending, RowsFull, NoSuchRow, NotMirrored, MarginBroken, Uncovered}
+use Rattle.rules.specs.Basics.{any, isSome, nth}
+use Rattle.rules.specs.Limits.{mostRows}
 use Rattle.rules.specs.Verdicts.{lowest}
-use Rattle.rules.specs.Books.{Book}
+use Rattle.rules.specs.Books.{Book, noRow, operatorOf}
 use Rattle.rules.specs.Requests.{Kind, register, confirm, withdraw, guarantee, openBatch, undo, keep, closeGate, schedule, settle, kindNumber, kindOf}
-use Rattle.rules.specs.Registration.{withdraws}
-use Rattle.rules.specs.Calls.{_∈_, phaseOf, stateChecks}
+use Rattle.rules.specs.Registration.{alike, confirms, withdraws, mirrors, brokenHour, covered}
+use Rattle.rules.specs.Calls.{_∈_, confirmedNumber, next, phaseOf, stateChecks}
 use Rattle.rules.proofs.Clearing.{Clear, clear}
 use Rattle.rules.proofs.Passed.{passed-13}
 use Rattle.registration.specs.Kinds.{decided}
@@ -93,6 +95,69 @@ module _ (b : Book) (q : Request) where
     pub row-to-withdraw : withdraws (b .part .rows) q ≡ true → decided withdraw b q ≡ none
     unfolding decided stateChecks lowest
     row-to-withdraw w = rw (eq-eqb _ 1 first, w)
+
+    -- 14, 15, 18 and 19, of register, each where those before it do not apply
+    pub alike-pending : any (alike (q .account) (q .other) (q .code)) (b .part .rows) ≡ true → decided register b q ≡ some AlreadyPending
+    unfolding decided stateChecks lowest
+    alike-pending w = rw (eq-eqb _ 1 first, w)
+
+    module _ (alone : any (alike (q .account) (q .other) (q .code)) (b .part .rows) ≡ false) where
+      pub no-number-left : leb mostRows (length (b .part .rows)) ≡ true → decided register b q ≡ some RowsFull
+      unfolding decided stateChecks lowest
+      no-number-left w = rw (eq-eqb _ 1 first, alone, w)
+
+      module _ (room : leb mostRows (length (b .part .rows)) ≡ false) where
+        pub register-breaks : (h : ℕ) → brokenHour (b .setup) (next register b q .part .rows) (q .account) ≡ some h
+            → decided register b q ≡ some (MarginBroken h)
+        unfolding decided stateChecks lowest
+        register-breaks h w = rw (eq-eqb _ 1 first, alone, room, w)
+
+        module _ (whole : brokenHour (b .setup) (next register b q .part .rows) (q .account) ≡ none) where
+          pub register-uncovered : covered (b .setup) (next register b q .part) (operatorOf (b .setup) (q .account)) ≡ false
+              → decided register b q ≡ some Uncovered
+          unfolding decided stateChecks lowest
+          register-uncovered w = rw (eq-eqb _ 1 first, alone, room, whole, w)
+
+          pub register-passes : covered (b .setup) (next register b q .part) (operatorOf (b .setup) (q .account)) ≡ true
+              → decided register b q ≡ none
+          unfolding decided stateChecks lowest
+          register-passes w = rw (eq-eqb _ 1 first, alone, room, whole, w)
+
+    -- 16 to 19, of confirm
+    pub no-row-to-confirm : confirms (b .part .rows) q ≡ none → decided confirm b q ≡ some NoSuchRow
+    unfolding decided stateChecks lowest
+    no-row-to-confirm w = rw (eq-eqb _ 1 first, w)
+
+    module _ (i : ℕ) (named : confirms (b .part .rows) q ≡ some i) where
+      pub terms-differ : mirrors q (nth (b .part .rows) (confirmedNumber b q) noRow) ≡ false → decided confirm b q ≡ some NotMirrored
+      unfolding decided stateChecks lowest
+      terms-differ w = rw (eq-eqb _ 1 first, w, named)
+
+      module _ (alike-terms : mirrors q (nth (b .part .rows) (confirmedNumber b q) noRow) ≡ true) where
+        pub confirm-breaks : (h : ℕ) → brokenHour (b .setup) (next confirm b q .part .rows) (q .account) ≡ some h
+            → decided confirm b q ≡ some (MarginBroken h)
+        unfolding decided stateChecks lowest
+        confirm-breaks h w = rw (eq-eqb _ 1 first, alike-terms, named, w)
+
+        module _ (whole : brokenHour (b .setup) (next confirm b q .part .rows) (q .account) ≡ none) where
+          pub confirm-uncovered : covered (b .setup) (next confirm b q .part) (operatorOf (b .setup) (q .account)) ≡ false
+              → decided confirm b q ≡ some Uncovered
+          unfolding decided stateChecks lowest
+          confirm-uncovered w = rw (eq-eqb _ 1 first, alike-terms, named, whole, w)
+
+          pub confirm-passes : covered (b .setup) (next confirm b q .part) (operatorOf (b .setup) (q .account)) ≡ true
+              → decided confirm b q ≡ none
+          unfolding decided stateChecks lowest
+          confirm-passes w = rw (eq-eqb _ 1 first, alike-terms, named, whole, w)
+
+    -- 19, of guarantee
+    pub guarantee-uncovered : covered (b .setup) (next guarantee b q .part) (q .operator) ≡ false → decided guarantee b q ≡ some Uncovered
+    unfolding decided stateChecks lowest
+    guarantee-uncovered w = rw (eq-eqb _ 1 first, w)
+
+    pub guarantee-passes : covered (b .setup) (next guarantee b q .part) (q .operator) ≡ true → decided guarantee b q ≡ none
+    unfolding decided stateChecks lowest
+    guarantee-passes w = rw (eq-eqb _ 1 first, w)
 
 -- the phase of the two kinds that want no open batch, and of the two that want one
 pub phase-outside : (k : Kind) → k ∈ (openBatch ∷ closeGate ∷ []) ≡ true → phaseOf k ≡ 1

@@ -1,4 +1,4 @@
--- The row that a withdrawal names: its number is in range, and its status and proposer stand at its place.
+-- The row that a withdrawal names: past the last number there is none, and before it its status and proposer stand at its place.
 use Prim.Native.Nat.{ℕ, _+_, _-_, _≤_, _<_}
 use mathlib.Core.Path.{_≡_, refl, _∙_}
 use mathlib.Core.List.{List}
@@ -9,24 +9,12 @@ use lib.Dec.{eqb}
 use Rattle.wire.specs.Numbers.{numberAt}
 use Rattle.rules.specs.declared.Row.{Row}
 use Rattle.rules.specs.declared.Request.{Request}
-use Rattle.rules.specs.Basics.{bit}
-use Rattle.rules.specs.Limits.{mostRows}
-use Rattle.rules.specs.Books.{Book, countsOf}
-use Rattle.rules.specs.Requests.{withdraw, inRange}
 use Rattle.rules.specs.Registration.{withdraws}
-use Rattle.rules.proofs.Tests.{and-both, within-true}
-use Rattle.rules.proofs.Passed.{field-in-range}
+use Rattle.rules.proofs.Tests.{and-both}
 use Rattle.rules.proofs.AccountHours.{pending-inside}
 use Rattle.book.specs.Layout.{presentAt, rowAt, statusIn}
 use Rattle.book.specs.Valid.{isBook, bookIn}
 use Rattle.book.proofs.StateLaws.{numbered-value-stands}
-use Rattle.registration.specs.Kinds.{Ready}
-
--- a request that is ready names a number from 1 to 256
-pub ready-number : (b : Book) (q : Request) → Ready withdraw b q → (1 ≤ q .number) × (q .number ≤ mostRows)
-unfolding bit inRange
-ready-number b q r =
-    within-true 1 (q .number) mostRows .0 (field-in-range (countsOf (b .setup)) q 8 (r .in-range) (omega arith) (rw (r .of-kind)))
 
 -- no row has that number
 pub no-such-number : (rows : List Row) (q : Request) → length rows < q .number → withdraws rows q ≡ false

@@ -5,7 +5,7 @@ use Rattle.rules.specs.Requests.{withdraw}
 use Rattle.book.proofs.StateLaws.{book-length}
 use Rattle.registration.proofs.Answers.{fails-refused, clear-accepted, refused-answered}
 use Rattle.registration.proofs.Acceptances.{withdrawn-answered}
-use Rattle.registration.proofs.Withdrawals.{ready-number}
+use Rattle.registration.proofs.Readiness.{ready-number}
 use borrow.Author.Needs.{needs}
 use Rattle.registration.proofs.withdrawal.withdraw.Statement.{statement}
 use Rattle.registration.proofs.withdrawal.withdraw.Tie as tie
