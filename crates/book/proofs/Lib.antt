@@ -83,3 +83,5 @@ pub mod BookStands
 pub mod BookRows
 -- ReadingLaws: what the two readings answer.
 pub mod ReadingLaws
+-- Reachable: what holds of every book that calls reach from a freshly opened one.
+pub mod Reachable

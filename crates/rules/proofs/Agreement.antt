@@ -14,7 +14,8 @@ use Rattle.rules.specs.Opening.{opened}
 use Rattle.rules.specs.Requests.{Kind, register, confirm, withdraw, guarantee, openBatch, undo, keep, closeGate, schedule, settle, kindNumber}
 use Rattle.rules.specs.Registration.{moved}
 use Rattle.rules.specs.Calls.{Call, kindIn, requestIn, next, confirmedNumber, scheduled, inputChecks, stateChecks, step}
-use Rattle.rules.specs.Ledger.{Page, Ledger, blank, newLedger, tradeOf, turn, feed, fed, accepts, heard, fedAll, lastBook, traded}
+use Rattle.rules.specs.Lists.{accepts, after}
+use Rattle.rules.specs.Ledger.{Page, Ledger, blank, newLedger, tradeOf, turn, feed, fed, heard, fedAll, traded}
 use Rattle.rules.proofs.Searches.{each-nth}
 use Rattle.rules.proofs.Clearing.{Clear}
 use Rattle.rules.proofs.Passed.{Passed, Kept, passed-kind, step-cases, passed-11, passed-12, passed-13}
@@ -70,7 +71,7 @@ confirmed-trade : (b : Book) (c : Call) (q : Request) → kindNumber confirm ≡
 confirmed-trade b c q e i h r =
     let x = passed-confirm b q h in
     let p = each-nth noRow (confirmedNumber b q) (r .rows) (x .low) (x .high) in
-    same-trade q (nth (b .part .rows) (confirmedNumber b q) noRow) (x .row) (x .terms) (p .side-low) (p .side-high) (confirm-side b c q e i)
+    same-trade q _ (x .row) (x .terms) (p .side-low) (p .side-high) (confirm-side b c q e i)
 
 undone : (phase : ℕ) (xs : List Schedule) (o : Option Part) (p : Part) (g : Page) → o ≡ some p → SavedAgrees phase xs o g
     → CopyAgrees phase xs p g
@@ -129,20 +130,20 @@ next-agrees settle b c q l e i h r g =
 -- ---- a call, and a list of calls
 
 pub step-agrees : (b : Book) (c : Call) (l : Ledger) → Ranged b → Agrees b l
-    → Agrees (step b c .book) (fed (c .bytes) (accepts (step b c .outcome)) l)
+    → Agrees (step b c .book) (fed (c .bytes) (accepts b c) l)
 unfolding fed
 step-agrees b c l r g = go (step-cases b c)
   where
-    go : Kept b c ⊎ Passed b c → Agrees (step b c .book) (fed (c .bytes) (accepts (step b c .outcome)) l)
+    go : Kept b c ⊎ Passed b c → Agrees (step b c .book) (fed (c .bytes) (accepts b c) l)
     go (inl kept) = rw (kept .book, kept .outcome) g
     go (inr p) =
         rw (p .book, p .outcome) (next-agrees (kindIn c) b c (requestIn c) l (passed-kind p) (p .input) (p .state) r g)
 
-pub list-agrees : (b : Book) (l : Ledger) (cs : List Call) → Ranged b → Agrees b l → Agrees (lastBook b cs) (fedAll l (heard b cs))
-unfolding lastBook fedAll heard
+pub list-agrees : (b : Book) (l : Ledger) (cs : List Call) → Ranged b → Agrees b l → Agrees (after b cs) (fedAll l (heard b cs))
+unfolding after fedAll heard
 list-agrees b l [] r g = g
 list-agrees b l (c ∷ cs) r g = list-agrees (step b c .book) _ cs (step-ranged b c r) (step-agrees b c l r g)
 
 -- a day's ledger, fed only the set-up, the records and whether each was accepted, agrees with its book after any list of calls
-pub day-agrees : (s : List ℕ) (cs : List Call) → Agrees (lastBook (opened s) cs) (fedAll (newLedger s) (heard (opened s) cs))
+pub day-agrees : (s : List ℕ) (cs : List Call) → Agrees (after (opened s) cs) (fedAll (newLedger s) (heard (opened s) cs))
 day-agrees s cs = list-agrees (opened s) (newLedger s) cs (opened-ranged s) (opened-agrees s)

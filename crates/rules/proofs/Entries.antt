@@ -19,7 +19,8 @@ use Rattle.rules.specs.Ledger.{Entry, without}
 -- the pending ones of rows that are numbered from n on
 unfoldable pub entriesFrom : ℕ → List Row → List Entry
 entriesFrom n [] = []
-entriesFrom n (r ∷ rs) = elim (pending r) [ true ↦ record { number = n; row = r } ∷ entriesFrom (suc n) rs | false ↦ entriesFrom (suc n) rs ]
+entriesFrom n (r ∷ rs) =
+    elim (pending r) [ true ↦ record { number = n; row = r } ∷ entriesFrom (suc n) rs | false ↦ entriesFrom (suc n) rs ]
 
 abbrev pub entriesOf : List Row → List Entry
 entriesOf rows = entriesFrom 1 rows
@@ -59,7 +60,8 @@ entries-register n (x ∷ xs) r p = snoc-go n x r xs (pending x) refl (entries-r
 
 module _ (t : Row → Bool) (only : (r : Row) → pending r ≡ false → t r ≡ false) (status : ℕ) (ends : eqb status 1 ≡ false) where
   confirm-go : (n i : ℕ) (r : Row) (rs : List Row) (s : Bool) → t r ≡ s → (p : Bool) → pending r ≡ p → (o : Option ℕ) → indexOf t rs ≡ o
-      → ((j : ℕ) → indexOf t rs ≡ some j → without (λ e. t (e .row)) (entriesFrom (suc n) rs) ≡ entriesFrom (suc n) (mark (suc j) status rs))
+      → ((j : ℕ) → indexOf t rs ≡ some j
+      → without (λ e. t (e .row)) (entriesFrom (suc n) rs) ≡ entriesFrom (suc n) (mark (suc j) status rs))
       → indexOf t (r ∷ rs) ≡ some i
       → without (λ e. t (e .row)) (entriesFrom n (r ∷ rs)) ≡ entriesFrom n (mark (suc i) status (r ∷ rs))
   unfolding indexOf without entriesFrom mark

@@ -39,3 +39,13 @@ pub mod Ranged
 pub mod PageAgreement
 -- Agreement: the ledger agrees with the book after any list of calls.
 pub mod Agreement
+-- CallLists: lists of calls put together, refused calls and others cut out of them.
+pub mod CallLists
+-- Batches: an undone batch gives back the book of its open, so that a list without it says the same.
+pub mod Batches
+-- LedgerReadings: net, exposure, available and settlement are the ledger's wherever it agrees with the book.
+pub mod LedgerReadings
+-- SettledTotal: the balances total what the registered schedules are worth at the prices that they meet.
+pub mod SettledTotal
+-- LedgerDay: after any list of calls on a day, readings and an accepted settle are the ledger's.
+pub mod LedgerDay

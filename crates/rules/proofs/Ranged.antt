@@ -17,7 +17,7 @@ use Rattle.rules.specs.Opening.{opened}
 use Rattle.rules.specs.Requests.{Kind, register, confirm, withdraw, guarantee, openBatch, undo, keep, closeGate, schedule, settle, kindNumber, wantedMap, inRange, faultyBit}
 use Rattle.rules.specs.Registration.{withStatus, proposed}
 use Rattle.rules.specs.Calls.{Call, kindIn, requestIn, next, restored, scheduled, inputChecks, step}
-use Rattle.rules.specs.Ledger.{lastBook}
+use Rattle.rules.specs.Lists.{after}
 use Rattle.rules.proofs.Tests.{within-true}
 use Rattle.rules.proofs.Searches.{each-snoc}
 use Rattle.rules.proofs.RowChanges.{each-mark, each-closed}
@@ -103,7 +103,8 @@ pub record Ranged (b : Book) : Type 0 where
   pub saved : SavedParties (accountCount (b .setup)) (b .saved)
   pub schedules : Each (OnPoint (pointCount (b .setup))) (b .schedules)
 
-restored-parties : (n : ℕ) (o : Option Part) (p : Part) → SavedParties n o → Each (Parties n) (p .rows) → Each (Parties n) (restored o p .rows)
+restored-parties : (n : ℕ) (o : Option Part) (p : Part) → SavedParties n o → Each (Parties n) (p .rows)
+    → Each (Parties n) (restored o p .rows)
 restored-parties n none p s e = e
 restored-parties n (some x) p s e = s
 
@@ -135,7 +136,7 @@ step-ranged b c g = go (step-cases b c)
     go (inl kept) = rw (kept .book) g
     go (inr p) = rw (p .book) (next-ranged (kindIn c) b c (requestIn c) (passed-kind p) (p .input) g)
 
-pub last-ranged : (b : Book) (cs : List Call) → Ranged b → Ranged (lastBook b cs)
-unfolding lastBook
+pub last-ranged : (b : Book) (cs : List Call) → Ranged b → Ranged (after b cs)
+unfolding after
 last-ranged b [] g = g
 last-ranged b (c ∷ cs) g = last-ranged (step b c .book) cs (step-ranged b c g)

@@ -1,6 +1,6 @@
 -- The tests on natural numbers are the paper's signed statements: a figure is the difference of what was bought and what was
 -- sold.
-use Prim.Native.Nat.{ℕ, suc, _+_, _-_}
+use Prim.Native.Nat.{ℕ, suc, _+_, _-_, _≤_}
 use mathlib.Core.Path.{_≡_, refl, sym, ap, _∙_}
 use mathlib.Core.Logic.{_↔_}
 use mathlib.Core.List.{List}
@@ -10,7 +10,7 @@ use native.Mathlib.Omega.{arith}
 use lib.Dec.{leb, ltb}
 use lib.IntN.{pos, negsuc, negℤ}
 use lib.Signed.{_≤ℤ_}
-use borrow.Author.Tests.{ltb-true}
+use borrow.Author.Tests.{ltb-true, leb-true, le-leb}
 use Rattle.units.specs.declared.CentsPerMwh.{CentsPerMwh}
 use Rattle.units.specs.Units.{kwh}
 use Rattle.rules.specs.declared.Account.{Account}
@@ -28,22 +28,31 @@ use Rattle.rules.proofs.Differences.{difference-order, order-by, differ
 
 -- ---- margins
 
+module _ (n : Net) where
+  -- minus lower margin ≤ net
+  pub net-above : (lower : ℕ) → (leb (n .sold .0) (n .bought .0 + lower) ≡ true) ↔ (negℤ (pos lower) ≤ℤ figure n)
+  net-above lower =
+      order-by (negℤ (pos lower)) (figure n) _
+      (rw (difference-neg lower) (difference-order 0 lower (n .bought .0) (n .sold .0) ∙ rw zero-add))
+
+  -- net ≤ upper margin
+  pub net-below : (upper : ℕ) → (leb (n .bought .0) (n .sold .0 + upper) ≡ true) ↔ (figure n ≤ℤ pos upper)
+  net-below upper =
+      order-by (figure n) (pos upper) _
+      (rw (difference-pos upper) (difference-order (n .bought .0) (n .sold .0) upper 0 ∙ rw (add-zero, add-comm upper)))
+
 module _ (x : AccountHour) where
   -- minus lower margin ≤ low
   pub keeps-lower-margin : (lower : ℕ)
       → (leb (x .net .sold .0 + x .sales .0) (x .net .bought .0 + lower) ≡ true) ↔ (negℤ (pos lower) ≤ℤ low x)
   keeps-lower-margin lower =
-      order-by (negℤ (pos lower)) (low x) _
-      (rw (difference-neg lower, difference-less)
-      (difference-order 0 lower (x .net .bought .0) (x .net .sold .0 + x .sales .0) ∙ rw zero-add))
+      rw difference-less (net-above (record { bought = x .net .bought; sold = kwh (x .net .sold .0 + x .sales .0) }) lower)
 
   -- high ≤ upper margin
   pub keeps-upper-margin : (upper : ℕ)
       → (leb (x .net .bought .0 + x .purchases .0) (x .net .sold .0 + upper) ≡ true) ↔ (high x ≤ℤ pos upper)
   keeps-upper-margin upper =
-      order-by (high x) (pos upper) _
-      (rw (difference-pos upper, difference-more)
-      (difference-order (x .net .bought .0 + x .purchases .0) (x .net .sold .0) upper 0 ∙ rw (add-zero, add-comm upper)))
+      rw difference-more (net-below (record { bought = kwh (x .net .bought .0 + x .purchases .0); sold = x .net .sold }) upper)
 
 -- minus lower margin ≤ low, high ≤ upper margin
 pub keeps-margins-signed : (account : Account) (x : AccountHour)
@@ -56,6 +65,21 @@ keeps-margins-signed account x =
     (leb (x .net .sold .0 + x .sales .0) (x .net .bought .0 + account .lower .0))
     (leb (x .net .bought .0 + x .purchases .0) (x .net .sold .0 + account .upper .0)) in
     ((λ e. (l .0 (b .0 e .0), u .0 (b .0 e .1))), (λ h. b .1 (l .1 (h .0), u .1 (h .1))))
+
+-- net itself is within them: low is at most net, high at least net
+pub net-keeps-margins : (account : Account) (x : AccountHour) → keepsMargins account x ≡ true
+    → (negℤ (pos (account .lower .0)) ≤ℤ figure (x .net)) × (figure (x .net) ≤ℤ pos (account .upper .0))
+unfolding keepsMargins
+net-keeps-margins account x h =
+    let n = x .net in
+    let b = and-both
+    (leb (n .sold .0 + x .sales .0) (n .bought .0 + account .lower .0))
+    (leb (n .bought .0 + x .purchases .0) (n .sold .0 + account .upper .0)) .0 h in
+    let l : n .sold .0 + x .sales .0 ≤ n .bought .0 + account .lower .0 = leb-true _ _ (b .0) in
+    let u : n .bought .0 + x .purchases .0 ≤ n .sold .0 + account .upper .0 = leb-true _ _ (b .1) in (
+      net-above n (account .lower .0) .0 (le-leb (n .sold .0) (n .bought .0 + account .lower .0) (omega arith)),
+      net-below n (account .upper .0) .0 (le-leb (n .bought .0) (n .sold .0 + account .upper .0) (omega arith)),
+    )
 
 -- ---- what net lies below zero, the reading of a net position, the account's limit
 

@@ -10,7 +10,7 @@ use Rattle.rules.specs.Settlement.{pricesIn, placed, insert, prioritised
 use Rattle.rules.specs.Calls.{next, given, inputChecks, stateChecks, checks, refusal, settles, answer, step}
 use Rattle.rules.specs.Readings.{position, netReading, exposureReading}
 use Rattle.rules.specs.Replay.{itemsWithin, items, callOf, numbered, sumOf, answerLines, calls, day, replay, digits, decimal, signedDecimal, lineText, text}
-use Rattle.rules.specs.Ledger.{blank, newLedger, without, turn, feed, fed, heard, fedAll, lastBook, traded, ledgerNet, ledgerWaiting, ledgerHour, ledgerExposure, ledgerAvailable, ledgerSettled}
+use Rattle.rules.specs.Ledger.{blank, newLedger, without, turn, feed, fed, heard, fedAll, traded, ledgerNet, ledgerWaiting, ledgerHour, ledgerExposure, ledgerAvailable, ledgerSettled}
 
 unfoldable pub everything : Unit {0}
 unfolding number numberAt le signed flat pieces pack
@@ -26,5 +26,5 @@ unfolding number numberAt le signed flat pieces pack
     next given inputChecks stateChecks checks refusal settles answer step
     position netReading exposureReading
     itemsWithin items callOf numbered sumOf answerLines calls day replay digits decimal signedDecimal lineText text
-    blank newLedger without turn feed fed heard fedAll lastBook traded ledgerNet ledgerWaiting ledgerHour ledgerExposure ledgerAvailable ledgerSettled
+    blank newLedger without turn feed fed heard fedAll traded ledgerNet ledgerWaiting ledgerHour ledgerExposure ledgerAvailable ledgerSettled
 everything = tt

@@ -1,6 +1,6 @@
 -- Examples: what the replay of a day prints, from the stream's bytes to the text. Here stand the starred cases of document 01, which
 -- form the joint set `starred`.
--- Days: what the stars leave open, day by day. Refusals: each refusal number, and the edges of a stream.
+-- Days: what the stars leave open, day by day. Refusals: each refusal number, and the edges of a stream. Batches: a batch that undo ends.
 use mathlib.Core.Path.{refl}
 use mathlib.Core.List.{List, [], _∷_}
 use Rattle.units.specs.Units.{cents}
@@ -11,6 +11,7 @@ use Rattle.rules.specs.Cases.{Case, Prints}
 use Rattle.rules.specs.Everything.{everything}
 pub mod Days
 pub mod Refusals
+pub mod Batches
 
 abbrev pub whole-case : Case
 whole-case =

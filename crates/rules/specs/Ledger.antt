@@ -22,6 +22,7 @@ use Rattle.rules.specs.Opening.{setupOf, guaranteesOf}
 use Rattle.rules.specs.Requests.{Kind, register, confirm, withdraw, guarantee, openBatch, undo, keep, closeGate, schedule, settle, kindOf, requestOf}
 use Rattle.rules.specs.Registration.{proposed, alike, counted, covers, exposureOf}
 use Rattle.rules.specs.Settlement.{Judged, settled}
+use Rattle.rules.specs.Lists.{accepts}
 use Rattle.rules.specs.Calls.{Call, _∈_, scheduled, step}
 
 -- a trade: who sells to whom, in which hours, how much in each
@@ -138,27 +139,15 @@ fed record′ false l = l
 
 -- ---- a list of calls
 
-abbrev pub accepting : Verdict → Bool
-accepting (Accepted n) = true
-accepting (Refused r) = false
-
-abbrev pub accepts : Outcome → Bool
-accepts o = accepting (o .verdict)
-
 -- each record of the list, and whether the book accepted it
 unfoldable pub heard : Book → List Call → List (List ℕ × Bool)
 heard b [] = []
-heard b (c ∷ cs) = (c .bytes, accepts (step b c .outcome)) ∷ heard (step b c .book) cs
+heard b (c ∷ cs) = (c .bytes, accepts b c) ∷ heard (step b c .book) cs
 
 -- the ledger after records, each with whether it was accepted
 unfoldable pub fedAll : Ledger → List (List ℕ × Bool) → Ledger
 fedAll l [] = l
 fedAll l (x ∷ xs) = fedAll (fed (x .0) (x .1) l) xs
-
--- the book after the list
-unfoldable pub lastBook : Book → List Call → Book
-lastBook b [] = b
-lastBook b (c ∷ cs) = lastBook (step b c .book) cs
 
 -- ---- what the ledger says
 

@@ -18,6 +18,8 @@ pub mod Settlement
 pub mod Calls
 -- The readings of net and exposure.
 pub mod Readings
+-- Lists of calls: their answers, the book after them, and undone batches.
+pub mod Lists
 -- "Replay": items, lines, text.
 pub mod Replay
 -- "What demand 3 compares": the ledger.
