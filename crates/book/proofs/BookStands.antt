@@ -12,25 +12,24 @@ use Rattle.wire.specs.Regions.{zerosFrom}
 use Rattle.wire.specs.Parts.{chunks}
 use Rattle.wire.proofs.SlotLaws.{length-chunks}
 use Rattle.rules.specs.declared.Row.{Row}
-use Rattle.rules.specs.declared.Schedule.{Schedule}
 use Rattle.rules.specs.Basics.{if_then_else_, any, every, isSome, within}
-use Rattle.rules.specs.Limits.{mostHours, mostOperators, mostRows, mostSchedules, bookSize}
+use Rattle.rules.specs.Limits.{mostHours, mostOperators, mostSchedules, bookSize}
 use Rattle.rules.specs.Books.{Setup, Part, Book}
 use Rattle.rules.specs.Opening.{countsIn, operatorsFrom, setupLength, setupOf}
 use Rattle.rules.specs.Registration.{pending}
 use Rattle.rules.proofs.Tests.{test-same, and-both}
 use Rattle.book.specs.Layout.{setupRoom, scheduleWidth, partSize, usedSize, phaseAt, flagAt, scheduleCountAt, schedulesAt, presentAt, savedAt}
 use Rattle.book.specs.Image.{scheduleIn, savedIn, decode}
-use Rattle.book.specs.Valid.{setupOk, scheduleOk, partOk, follows, savedOk, bookTests, valid, isBookOf, isBook}
-use Rattle.book.specs.Sums.{rowsFrom, schedulesFrom}
+use Rattle.book.specs.Valid.{setupOk, scheduleOk, partOk, follows, savedOk, bookTests, valid, isBook}
+use Rattle.book.specs.Sums.{schedulesFrom}
 use Rattle.book.specs.Plain.{noneLodged, partAt, partPlain, savedPlain, bookPlainTests, bookPlain}
-use Rattle.book.specs.Stands.{setupStands, SetupKnown, rowCount, rowsOf, partStands, savedStands, schedulesStand, phaseStands}
+use Rattle.book.specs.Stands.{setupStands, rowsOf, partStands, savedStands, schedulesStand, phaseStands}
 use Rattle.book.proofs.Soundness.{all-holds, holds-all, sound-setup}
 use Rattle.book.proofs.Round.{length-book}
 use Rattle.book.proofs.Places.{bookAt, decode-places}
 use Rattle.book.proofs.Local.{is-book-local}
-use Rattle.book.proofs.PartStands.{not-holds, chunks-front, part-places, few-rows}
-use Rattle.book.proofs.StandLaws.{setup-in-front, setup-known}
+use Rattle.book.proofs.PartStands.{chunks-front, part-places, few-rows}
+use Rattle.book.proofs.StandLaws.{fails-with, setup-in-front, setup-known}
 
 -- ---- schedules
 
@@ -229,10 +228,7 @@ module _ (s : List ℕ) (b : Bytes s) where
 
   -- bytes of which a section does not stand are no book
   pub one-falls : {t : Bool} → (Stand s → t ≡ true) → t ≡ false → false ≡ isBook s
-  one-falls f e = sym (not-holds (isBook s) (λ h.
-      let z : true ≡ false = sym (f (book-stands h)) ∙ e in
-      let y : _≡_ {A = ℕ} 0 1 = cc in
-      omega arith))
+  one-falls f e = sym (fails-with (isBook s) (λ h. f (book-stands h)) e)
 
   -- where the set-up and the parts stand, the rest decides
   pub rest-decides : {schedules phase spare : Bool} → length s ≡ bookSize → setupStands s ≡ true → partStands s presentAt ≡ true → savedStands s ≡ true

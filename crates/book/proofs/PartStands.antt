@@ -8,10 +8,9 @@ use native.Mathlib.Nat.{mul-suc}
 use native.Mathlib.Omega.{arith}
 use lib.ListN.{length, getD, take, drop, length-map}
 use lib.Seq.{drop-drop}
-use lib.Dec.{eqb, leb}
-use borrow.Author.Tests.{eq-eqb, le-leb, leb-true}
+use lib.Dec.{leb}
+use borrow.Author.Tests.{eq-eqb, le-leb, leb-true, lt-leb}
 use Rattle.wire.specs.Numbers.{number, numberAt}
-use Rattle.wire.specs.Regions.{zerosFrom}
 use Rattle.wire.specs.Parts.{cut, chunks}
 use Rattle.wire.proofs.PartLaws.{take-drop-take, cut-at, inner}
 use Rattle.wire.proofs.SlotLaws.{length-chunks}
@@ -26,19 +25,15 @@ use Rattle.rules.specs.Opening.{countsIn, setupOf}
 use Rattle.rules.proofs.Tests.{test-same, and-both}
 use Rattle.rules.proofs.Searches.{every-each, each-map}
 use Rattle.rules.proofs.SetupEntries.{counts-of-setup}
-use Rattle.book.specs.Layout.{rowWidth, partWidths, partSize, rowCountAt, rowsAt, netsAt, netAt}
+use Rattle.book.specs.Layout.{rowWidth, partWidths, partSize, rowsAt, netsAt, netAt}
 use Rattle.book.specs.Image.{rowIn, partOf, partIn}
 use Rattle.book.specs.Valid.{rowOk, noTwins, marginsKept, guaranteesKept, partTests, partOk}
 use Rattle.book.specs.Sums.{rowsFrom, guaranteesFrom, InTable, SumsOf, Tabled, netStored, netsStored}
-use Rattle.book.specs.Plain.{netsHeld, partAt, partPlainTests, partPlain}
+use Rattle.book.specs.Plain.{netsHeld, partAt, partPlain}
 use Rattle.book.specs.Stands.{SetupKnown, rowCount, rowsOf, partWith, guaranteesStand, rowsStand, sumsStand, partStands}
 use Rattle.book.proofs.Soundness.{SoundRow, sound-row, sound-part, all-holds, holds-all, every-upTo, upTo-every}
 use Rattle.book.proofs.CoverLaws.{length-guarantees-from}
-
--- a test that cannot hold fails
-pub not-holds : (t : Bool) → (t ≡ true → ⊥) → t ≡ false
-not-holds true f = absurd (f refl)
-not-holds false f = refl
+use Rattle.book.proofs.StandLaws.{fails-with}
 
 -- ---- the nets by the table of sums
 
@@ -152,7 +147,7 @@ few-rows s at t =
     omega (arith, sound-part (setupOf s) p (w .0) .rows-high, length-part-rows s at (countsIn s .operators))
 
 pub too-many-rows : (s : List ℕ) (at : ℕ) → mostRows < rowCount s at → false ≡ partStands s at
-too-many-rows s at h = sym (not-holds (partStands s at) (λ t. omega (arith, few-rows s at t)))
+too-many-rows s at h = sym (fails-with (partStands s at) (λ t. le-leb _ _ (few-rows s at t)) (lt-leb (rowCount s at) mostRows h))
 
 module _ (s : List ℕ) (at n operators : ℕ) (k : SetupKnown s) (en : n ≡ rowCount s at) (eo : operators ≡ countsIn s .operators) (few : n ≤ mostRows) where
   abbrev rows : List Row

@@ -14,26 +14,28 @@ use Rattle.units.specs.declared.Cents.{Cents}
 use Rattle.units.specs.Units.{cents}
 use Rattle.rules.specs.declared.Counts.{Counts}
 use Rattle.rules.specs.declared.Refusal.{Refusal}
-use Rattle.rules.specs.declared.Checked.{Checked}
 use Rattle.rules.specs.declared.Checked.the-variants.{Clear, Fails}
 use Rattle.rules.specs.Basics.{isSome, Each, nil, cons}
-use Rattle.rules.specs.Limits.{mostPrice, thousand, bookSize}
+use Rattle.rules.specs.Limits.{thousand, bookSize}
 use Rattle.rules.specs.Verdicts.{checked}
 use Rattle.rules.specs.Books.{Setup, operatorCount}
-use Rattle.rules.specs.Opening.{countsIn, operatorsFrom, setupLength, estimatesIn, setupOf, operatorsOf, setupRefusal}
+use Rattle.rules.specs.Opening.{countsIn, operatorsFrom, setupLength, setupOf, operatorsOf, setupRefusal}
 use Rattle.rules.proofs.Tests.{and-both}
 use Rattle.rules.proofs.Searches.{none-of}
 use Rattle.rules.proofs.SetupEntries.{counts-of-setup}
 use Rattle.book.specs.Layout.{setupRoom}
 use Rattle.book.specs.Valid.{setupOk}
-use Rattle.book.specs.Sums.{SetupTabled}
 use Rattle.book.specs.Plain.{noneLodged}
 use Rattle.book.specs.Stands.{setupStands, SetupKnown}
 use Rattle.book.proofs.Soundness.{SoundSetup, sound-setup}
 use Rattle.book.proofs.SetupRanges.{SoundOperator, values-in-range}
 use Rattle.book.proofs.SetupAgain.{counts-first-bytes, setup-front}
 use Rattle.book.proofs.SetupTests.{none-lodged-done, none-lodged-step, setup-sound-in, setup-accepted-in}
-use Rattle.book.proofs.PartStands.{not-holds}
+
+-- a test fails where one that holds with it fails
+pub fails-with : (t : Bool) {u : Bool} → (t ≡ true → u ≡ true) → u ≡ false → t ≡ false
+fails-with true f e = sym (f refl) ∙ e
+fails-with false f e = refl
 
 -- ---- what is refused
 
@@ -118,13 +120,11 @@ module _ (s : List ℕ) (b : Bytes s) (l : length s ≡ bookSize) (size : ℕ) (
   pub refused-setup : not (isSome (setupRefusal (take size s))) ≡ false → false ≡ setupStands s
   unfolding setupStands
   refused-setup f =
-      sym (not-holds (setupStands s) (λ t.
+      sym (fails-with (setupStands s) (λ t.
       let w = and-both (setupOk (setupOf (take setupRoom s))) _ .0 t in
       let g = and-both (noneLodged s (operatorsFrom (countsIn s)) (countsIn s .operators)) _ .0 (w .1) in
       let n = setup-accepted-in s b (omega arith) (g .0) (w .0) in
-      let z : true ≡ false = sym (ap (λ (o : Option Refusal). not (isSome o)) (ap (λ (m : ℕ). setupRefusal (take m s)) e ∙ n)) ∙ f in
-      let y : _≡_ {A = ℕ} 0 1 = cc in
-      omega arith))
+      ap (λ (o : Option Refusal). not (isSome o)) (ap (λ (m : ℕ). setupRefusal (take m s)) e ∙ n)) f)
 
   pub accepted-short : not (isSome (setupRefusal (take size s))) ≡ true → size ≤ setupRoom
   accepted-short t =

@@ -1,5 +1,5 @@
 -- What was read of the operator's guarantee and maintenance is what is available to it.
-use mathlib.Core.Path.{_∙_, sym, ap}
+use mathlib.Core.Path.{_∙_, ap}
 use native.Mathlib.Omega.{arith}
 use borrow.Author.Needs.{needs}
 use Rattle.rules.specs.declared.Operator.{Operator}
