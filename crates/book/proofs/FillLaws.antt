@@ -40,7 +40,7 @@ lane-step (suc zero) r rows a h = omega arith
 lane-step (suc (suc zero)) r rows a h = omega arith
 lane-step (suc (suc (suc lane))) r rows a h = omega arith
 
-lane-none : (lane a h : ℕ) → laneSum lane [] a h ≡ 0
+pub lane-none : (lane a h : ℕ) → laneSum lane [] a h ≡ 0
 unfolding laneSum moved waiting total
 lane-none zero a h = refl
 lane-none (suc zero) a h = refl

@@ -85,3 +85,5 @@ pub mod BookRows
 pub mod ReadingLaws
 -- Reachable: what holds of every book that calls reach from a freshly opened one.
 pub mod Reachable
+-- TableLaws: a table of sums and one row more.
+pub mod TableLaws

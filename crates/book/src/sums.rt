@@ -99,7 +99,7 @@ fn take_pending(table: &mut [u32], r: Row)
 }
 
 // One row more. A withdrawn one counts for nobody.
-fn take_row(table: &mut [u32], r: Row)
+pub fn take_row(table: &mut [u32], r: Row)
     requires { ⌜ (length (now table) ≡ 3200) × Tabled r × Room (now table) 0 (r .quantity .0) ⌝ }
     ensures { λ _. ⌜ Taken (now (table .entry)) (now (table .exit)) r ⌝ }
 {

@@ -9,3 +9,15 @@ pub mod Answers
 pub mod Acceptances
 -- Withdrawals: the row that a withdrawal names.
 pub mod Withdrawals
+-- SearchLaws: a search that counts up, number by number.
+pub mod SearchLaws
+-- MarginLaws: what the search for a broken margin asks at each hour.
+pub mod MarginLaws
+-- CoverLaws: what stands in a book of an operator, and what covers its exposure.
+pub mod CoverLaws
+-- ReadyLaws: a request that is ready passed what the input is refused for.
+pub mod ReadyLaws
+-- LodgingLaws: what the state refuses a guarantee for, and what an accepted one writes.
+pub mod LodgingLaws
+-- ProposalLaws: what the state refuses a register for, and what an accepted one writes.
+pub mod ProposalLaws

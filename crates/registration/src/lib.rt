@@ -1,4 +1,8 @@
 // Registration on a book that is known to be one: kinds 1 to 8.
 pub mod batches;
+pub mod cover;
 pub mod gate;
+pub mod lodging;
+pub mod margins;
+pub mod proposal;
 pub mod withdrawal;

@@ -14,7 +14,7 @@ use Rattle.rules.specs.declared.Row.{Row}
 use Rattle.rules.specs.declared.Request.{Request}
 use Rattle.rules.specs.Basics.{if_then_else_, total, nth}
 use Rattle.rules.specs.Books.{noRow}
-use Rattle.rules.specs.Registration.{pending, confirmed, covers, counted, withStatus, mark, closed, proposed, moved, waiting, buyer, seller, bought, sold, netOf, pendingSales, pendingPurchases, accountHour}
+use Rattle.rules.specs.Registration.{pending, confirmed, covers, counted, withStatus, mark, closed, proposed, moved, waiting, buyer, seller, bought, sold, netOf, pendingSales, pendingPurchases, accountHour, takes}
 use Rattle.rules.proofs.Totals.{total-zero, total-cong, total-snoc, total-set, total-map}
 
 -- ---- shares of a row
@@ -201,6 +201,19 @@ hour-confirm rows n a h e o =
     let b = moved-confirm buyer a h (λ status r. refl) rows n e in
     let s = moved-confirm seller a h (λ status r. refl) rows n e in
     rw (b, s, waiting-of-others 1 a h rows n 2 e refl o, waiting-of-others 2 a h rows n 2 e refl o)
+
+-- with one row more it is the hour after that trade
+pub hour-takes : (rows : List Row) (r : Row) (a h : ℕ) → accountHour (rows ++ r ∷ []) a h ≡ takes a h (accountHour rows a h) r
+unfolding takes
+hour-takes rows r a h =
+    rw (moved-snoc buyer a h rows r, moved-snoc seller a h rows r, waiting-snoc 1 a h rows r, waiting-snoc 2 a h rows r)
+
+-- confirm, for another account than the proposer: it takes the row as one that is confirmed
+pub hour-takes-confirmed : (rows : List Row) (n a h : ℕ) → pending (nth rows n noRow) ≡ true → eqb (nth rows n noRow .proposer) a ≡ false
+    → accountHour (mark n 2 rows) a h ≡ takes a h (accountHour rows a h) (withStatus 2 (nth rows n noRow))
+unfolding takes
+hour-takes-confirmed rows n a h e o =
+    hour-confirm rows n a h e o ∙ rw (add-zero (waiting 1 rows a h), add-zero (waiting 2 rows a h))
 
 -- close gate: net stands, nothing waits
 pub hour-close : (rows : List Row) (a h : ℕ)

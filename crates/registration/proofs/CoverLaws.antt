@@ -1,0 +1,86 @@
+-- What stands in a book of an operator: its guarantee in force, its maintenance, and what is available of a guarantee.
+use Prim.Native.Nat.{ℕ, zero, suc, _+_, _-_, _*_, _^_, _≤_, _<_}
+use mathlib.Core.Path.{_≡_, refl, sym, ap, _∙_}
+use mathlib.Core.List.{List, [], _∷_, map}
+use mathlib.Core.Bool.{Bool, true}
+use native.Mathlib.Omega.{arith}
+use lib.ListN.{length, getD, replicate, length-map, length-replicate}
+use lib.Dec.{leb}
+use Rattle.wire.specs.Numbers.{numberAt}
+use Rattle.wire.proofs.SlotLaws.{map-get}
+use Rattle.units.specs.Units.{cents}
+use Rattle.units.specs.declared.Cents.{Cents}
+use Rattle.rules.specs.declared.Operator.{Operator}
+use Rattle.rules.specs.declared.Row.{Row}
+use Rattle.rules.specs.Basics.{nth, Each, nil, cons}
+use Rattle.rules.specs.Limits.{mostHours, mostGuarantee, thousand, bookSize}
+use Rattle.rules.specs.Books.{Setup, Part, Book, maintenanceAt, guaranteeAt, operatorCount, countsOf}
+use Rattle.rules.specs.Opening.{countsIn, operatorsIn, operatorsOf, setupOf}
+use Rattle.rules.specs.Registration.{exposure, available, covered}
+use Rattle.rules.specs.declared.Counts.{Counts}
+use Rattle.rules.proofs.Searches.{each-at}
+use Rattle.setup.specs.Faults.{noOperator}
+use Rattle.book.specs.Layout.{presentAt, guaranteesAt}
+use Rattle.book.specs.Valid.{isBook, bookIn}
+use Rattle.book.proofs.SetupRanges.{SoundOperator, maintenance-of}
+use Rattle.book.proofs.ImageReads.{guarantee-read}
+use Rattle.book.proofs.StateLaws.{book-fits, book-is-sound, number-in-book}
+use Rattle.book.proofs.BookRows.{counts-in, setup-in, values-in}
+
+maintenance-in-range : {os : List Operator} → Each SoundOperator os → Each (λ m. m ≤ thousand) (map (λ x. x .maintenance) os)
+maintenance-in-range nil = nil
+maintenance-in-range (cons p e) = cons (p .1) (maintenance-in-range e)
+
+-- the maintenance of an operator that was read
+operator-maintenance : (os : List Operator) (o : ℕ) → 1 ≤ o → o ≤ length os
+    → nth os o noOperator .maintenance ≡ nth (map (λ x. x .maintenance) os) o 0
+operator-maintenance os zero l h = absurd (omega arith)
+operator-maintenance os (suc i) l h = sym (map-get (λ (x : Operator). x .maintenance) os i noOperator 0 (omega arith))
+
+module _ (s : List ℕ) (h : isBook s ≡ true) (o : ℕ) (low : 1 ≤ o) (high : o ≤ operatorCount (bookIn s .setup)) where
+  pub operators-read : o ≤ countsIn s .operators
+  operators-read = omega (arith, ap (λ (m : Counts). m .operators) (counts-in s h))
+
+  pub maintenance-read : (x : Operator) → x ≡ nth (operatorsIn s) o noOperator → x .maintenance ≡ maintenanceAt (bookIn s .setup) o
+  unfolding setupOf
+  maintenance-read x e =
+      let u = setup-in s h in
+      let n : length (bookIn s .setup .maintenance) ≡ length (operatorsIn s) =
+      ap (λ (u : Setup). length (u .maintenance)) u ∙ length-map (operatorsIn s) (λ y. y .maintenance) in
+      ap (λ (y : Operator). y .maintenance) e
+      ∙ operator-maintenance (operatorsIn s) o low (omega arith)
+      ∙ ap (λ (u : Setup). maintenanceAt u o) (sym u)
+
+  all-maintenance : Each (λ m. m ≤ thousand) (bookIn s .setup .maintenance)
+  all-maintenance =
+      let ms : List ℕ = bookIn s .setup .maintenance in
+      rw (maintenance-of (replicate (length ms) (cents 0)) ms (length-replicate {A = Cents} (length ms) (cents 0)))
+      at (maintenance-in-range (values-in s h .operators-sound))
+
+  pub maintenance-high : maintenanceAt (bookIn s .setup) o ≤ thousand
+  maintenance-high = go o low high
+    where
+      go : (n : ℕ) → 1 ≤ n → n ≤ operatorCount (bookIn s .setup) → maintenanceAt (bookIn s .setup) n ≤ thousand
+      go zero l m = absurd (omega arith)
+      go (suc i) l m = each-at 0 i all-maintenance (omega arith)
+
+  -- the guarantee in force stands in its 8 bytes
+  pub guarantee-stands : (at : ℕ) → at ≡ presentAt + 8 * (o - 1)
+      → (numberAt s at 8 ≡ guaranteeAt (bookIn s .part .guarantees) o .0) × (guaranteeAt (bookIn s .part .guarantees) o .0 ≤ mostGuarantee)
+  guarantee-stands at e = go o low high e
+    where
+      go : (n : ℕ) → 1 ≤ n → n ≤ operatorCount (bookIn s .setup) → at ≡ presentAt + 8 * (n - 1)
+          → (numberAt s at 8 ≡ guaranteeAt (bookIn s .part .guarantees) n .0) × (guaranteeAt (bookIn s .part .guarantees) n .0 ≤ mostGuarantee)
+      go zero l m e = absurd (omega arith)
+      go (suc i) l m e =
+          let b : Book = bookIn s in
+          let part = book-is-sound s h .part-sound in
+          let all = part .guarantees-all in
+          let small = each-at (cents 0) i (part .guarantees-high) (omega arith) in
+          (number-in-book s h at 8 ∙ guarantee-read mostHours bookSize b (book-fits s h) i at (omega arith) (omega arith) (omega arith), small)
+
+-- what is available of a guarantee covers the exposure of these rows
+pub covered-by : (u : Setup) (p : Part) (o g : ℕ) → guaranteeAt (p .guarantees) o .0 ≡ g
+    → covered u p o ≡ leb (exposure u (p .rows) o) (g * (thousand - maintenanceAt u o))
+unfolding covered available
+covered-by u p o g e = rw e

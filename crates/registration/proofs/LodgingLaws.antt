@@ -1,0 +1,92 @@
+-- A guarantee replaced: the rows stand, so that the exposure is that of the present rows, and only the 8 bytes of the guarantee change.
+use Prim.Native.Nat.{ℕ, zero, suc, _+_, _-_, _*_, _≤_}
+use mathlib.Core.Path.{_≡_, refl, sym, ap, _∙_}
+use mathlib.Core.List.{List, []}
+use mathlib.Core.Option.{Option, none, some}
+use mathlib.Core.Bool.{Bool, true, false, not}
+use native.Mathlib.Omega.{arith}
+use lib.ListN.{length, set, getD}
+use lib.Seq.{getD-set-same}
+use lib.Dec.{eqb, leb}
+use borrow.Author.Tests.{eq-eqb, leb-true}
+use Rattle.wire.specs.Numbers.{le}
+use Rattle.wire.specs.Regions.{splice}
+use Rattle.units.specs.Units.{cents}
+use Rattle.units.specs.declared.Cents.{Cents}
+use Rattle.rules.specs.declared.Request.{Request}
+use Rattle.rules.specs.declared.Refusal.{Refusal}
+use Rattle.rules.specs.declared.Refusal.the-variants.{Uncovered}
+use Rattle.rules.specs.Basics.{bit, put, nth}
+use Rattle.rules.specs.Limits.{mostHours, mostGuarantee, thousand, bookSize}
+use Rattle.rules.specs.Verdicts.{lowest, accepted}
+use Rattle.rules.specs.Books.{Book, countsOf, maintenanceAt, guaranteeAt, operatorCount}
+use Rattle.rules.specs.Requests.{guarantee, inRange}
+use Rattle.rules.specs.Registration.{exposure, covered}
+use Rattle.rules.specs.Calls.{next, given, stateChecks}
+use Rattle.rules.proofs.Tests.{within-true}
+use Rattle.rules.proofs.Passed.{field-in-range}
+use Rattle.book.specs.Layout.{presentAt, guaranteesAt}
+use Rattle.book.specs.Valid.{isBook, bookIn}
+use Rattle.book.proofs.BookWrites.{write-guarantee}
+use Rattle.book.proofs.KeepsKinds.{guarantee-keeps}
+use Rattle.book.proofs.StateLaws.{book-image, book-fits, book-is-sound}
+use Rattle.registration.specs.Kinds.{decided, Ready}
+use Rattle.registration.proofs.Decisions.{decided-clear}
+use Rattle.registration.proofs.ReadyLaws.{bare, ready-input}
+use Rattle.registration.proofs.Answers.{Answered, accepted-answered}
+use Rattle.registration.proofs.CoverLaws.{covered-by}
+
+-- ---- a request that is ready
+
+-- it names an operator of the book and a guarantee in range
+pub ready-guarantee : (b : Book) (q : Request) → Ready guarantee b q
+    → (1 ≤ q .operator) × (q .operator ≤ operatorCount (b .setup)) × (q .guarantee .0 ≤ mostGuarantee)
+unfolding bit inRange
+ready-guarantee b q r =
+    let o =
+    within-true 1 (q .operator) (operatorCount (b .setup)) .0 (field-in-range (countsOf (b .setup)) q 9 (r .in-range) (omega arith) (rw (r .of-kind))) in
+    (o .0, o .1, leb-true _ _ (field-in-range (countsOf (b .setup)) q 10 (r .in-range) (omega arith) (rw (r .of-kind))))
+
+-- ---- what the state decides
+
+put-same : (gs : List Cents) (o : ℕ) (g : Cents) → 1 ≤ o → o ≤ length gs → guaranteeAt (put gs o g) o ≡ g
+put-same gs zero g l h = absurd (omega arith)
+put-same gs (suc i) g l h = getD-set-same gs i g (cents 0) (omega arith)
+
+module _ (b : Book) (q : Request) (first : b .phase ≡ 1) (low : 1 ≤ q .operator) (high : q .operator ≤ length (b .part .guarantees)) where
+  lodging-covered : covered (b .setup) (next guarantee b q .part) (q .operator)
+      ≡ leb (exposure (b .setup) (b .part .rows) (q .operator)) (q .guarantee .0 * (thousand - maintenanceAt (b .setup) (q .operator)))
+  unfolding next
+  lodging-covered =
+      covered-by (b .setup) (next guarantee b q .part) (q .operator) (q .guarantee .0)
+      (ap (λ (g : Cents). g .0) (put-same (b .part .guarantees) (q .operator) (q .guarantee) low high))
+
+  -- 19
+  pub too-little-lodged : (t : Bool)
+      → t ≡ leb (exposure (b .setup) (b .part .rows) (q .operator)) (q .guarantee .0 * (thousand - maintenanceAt (b .setup) (q .operator)))
+      → t ≡ false → decided guarantee b q ≡ some Uncovered
+  unfolding decided stateChecks lowest
+  too-little-lodged t e f = rw (eq-eqb _ 1 first, lodging-covered ∙ sym e ∙ f)
+
+  pub enough-lodged : (t : Bool)
+      → t ≡ leb (exposure (b .setup) (b .part .rows) (q .operator)) (q .guarantee .0 * (thousand - maintenanceAt (b .setup) (q .operator)))
+      → t ≡ true → decided guarantee b q ≡ none
+  unfolding decided stateChecks lowest
+  enough-lodged t e f = rw (eq-eqb _ 1 first, lodging-covered ∙ sym e ∙ f)
+
+-- ---- what is written
+
+pub lodged-answered : (s t : List ℕ) (h : isBook s ≡ true) (q : Request) (at : ℕ) → Ready guarantee (bookIn s) q
+    → decided guarantee (bookIn s) q ≡ none → at ≡ presentAt + 8 * (q .operator - 1)
+    → t ≡ splice s at (le 8 (q .guarantee .0)) → Answered guarantee s q (accepted 0) t
+unfolding given
+lodged-answered s t h q at r d place e =
+    let o = ready-guarantee (bookIn s) q r in
+    let all = book-is-sound s h .part-sound .guarantees-all in
+    let low = o .0 in
+    let high = o .1 in
+    accepted-answered guarantee s q h t 0 d refl
+    (e
+    ∙ ap (λ (x : List ℕ). splice x at (le 8 (q .guarantee .0))) (book-image s h)
+    ∙ write-guarantee mostHours bookSize (bookIn s) (book-fits s h) q (q .operator - 1) at (omega arith) (omega arith) (omega arith))
+    (guarantee-keeps (bookIn s) q (book-is-sound s h) bare (sym (r .of-kind)) (ready-input (bookIn s) q guarantee refl r) (decided-clear guarantee (bookIn s) q d))

@@ -1,0 +1,245 @@
+-- A row proposed: the tests of register in the order of their numbers, each on the book as it would be, and the row's 18 bytes with the
+-- count as all that is written.
+use Prim.Native.Nat.{ℕ, zero, suc, _+_, _-_, _*_, _/_, _%_, _≤_, _<_}
+use mathlib.Core.Path.{_≡_, refl, sym, ap, _∙_}
+use mathlib.Core.List.{List, [], _∷_, _++_}
+use mathlib.Core.Option.{Option, none, some}
+use mathlib.Core.Bool.{Bool, true, false, not, _||_, or-assoc}
+use native.Mathlib.Omega.{arith}
+use lib.ListN.{length, getD, take, drop}
+use lib.Dec.{eqb, leb}
+use borrow.Author.Tests.{eq-eqb, le-leb, lt-leb}
+use Rattle.wire.specs.Numbers.{le}
+use Rattle.wire.specs.Regions.{splice}
+use Rattle.wire.specs.Parts.{flat, pieces, pack, Small}
+use Rattle.units.specs.declared.Cents.{Cents}
+use Rattle.rules.specs.declared.Row.{Row}
+use Rattle.rules.specs.declared.Request.{Request}
+use Rattle.rules.specs.declared.Refusal.the-variants.{AlreadyPending, RowsFull, MarginBroken, Uncovered}
+use Rattle.rules.specs.Basics.{any, find, counting}
+use Rattle.rules.specs.Limits.{mostHours, mostRows, thousand, bookSize}
+use Rattle.rules.specs.Verdicts.{lowest, accepted}
+use Rattle.rules.specs.Books.{Setup, Part, Book, noAccount, accountAt, maintenanceAt, guaranteeAt, operatorOf, operatorCount, accountCount}
+use Rattle.rules.specs.Requests.{register}
+use Rattle.rules.specs.Registration.{alike, proposed, accountHour, takes, keepsMargins, brokenHour, exposure, covered}
+use Rattle.rules.specs.Calls.{next, given, stateChecks}
+use Rattle.rules.proofs.AccountHours.{hour-takes}
+use Rattle.rules.proofs.Searches.{each-at}
+use Rattle.rules.proofs.Passed.{passed-15}
+use Rattle.book.specs.Layout.{rowWidths, presentAt, rowAt, rowCountAt}
+use Rattle.book.specs.Image.{rowValues, rowBytes, rowIn}
+use Rattle.book.specs.Valid.{isBook, bookIn}
+use Rattle.book.specs.Sums.{rowsFrom, Tabled}
+use Rattle.book.proofs.Soundness.{SoundRow}
+use Rattle.book.proofs.Sizes.{row-small}
+use Rattle.book.proofs.SetupRanges.{SoundAccount}
+use Rattle.book.proofs.RowsFrom.{rows-done, rows-step}
+use Rattle.book.proofs.BookWrites.{write-register}
+use Rattle.book.proofs.KeepsKinds.{proposed-sound, register-keeps}
+use Rattle.book.proofs.StateLaws.{book-image, book-fits, book-is-sound}
+use Rattle.book.proofs.BookRows.{sound-in, values-in, sound-tabled}
+use Rattle.registration.specs.Kinds.{decided, Ready}
+use Rattle.registration.specs.Margins.{brokenBy, broken}
+use Rattle.registration.specs.declared.margins.Broken.the-variants.{Hour, Nowhere}
+use Rattle.registration.proofs.Decisions.{decided-clear}
+use Rattle.registration.proofs.Answers.{Answered, accepted-answered}
+use Rattle.registration.proofs.ReadyLaws.{bare, ready-input}
+use Rattle.registration.proofs.CoverLaws.{covered-by}
+
+-- ---- a search over rows
+
+any-cons : {A : Type 0} (p : A → Bool) (x : A) (xs : List A) → any p (x ∷ xs) ≡ p x || any p xs
+unfolding any
+any-cons p x xs = go (p x) refl
+  where
+    go : (t : Bool) → p x ≡ t → any p (x ∷ xs) ≡ t || any p xs
+    go true e = rw (e, any)
+    go false e = rw (e, any)
+
+or-false : (t : Bool) → (t || false) ≡ t
+or-false true = refl
+or-false false = refl
+
+-- what was found so far, or is among those left: none is left
+pub any-done : {all : Bool} (found : Bool) (p : Row → Bool) (s : List ℕ) (at n : ℕ) → n ≤ 0 → all ≡ (found || any p (rowsFrom s at n)) → found ≡ all
+unfolding any
+any-done found p s at n h e = sym (e ∙ rw (rows-done s at n h, any) (or-false found))
+
+-- and one more is looked at
+pub any-step : {all t : Bool} {x : Row} (found : Bool) (p : Row → Bool) (s : List ℕ) (at n m : ℕ) → n ≡ m + 1 → x ≡ rowIn (take 18 (drop at s))
+    → t ≡ p x → all ≡ (found || any p (rowsFrom s at n)) → all ≡ ((found || t) || any p (rowsFrom s (at + 18) m))
+any-step found p s at n m d r h e =
+    e
+    ∙ ap (λ (rows : List Row). found || any p rows) (rows-step s at n m d)
+    ∙ ap (λ (b : Bool). found || b) (any-cons p (rowIn (take 18 (drop at s))) (rowsFrom s (at + 18) m))
+    ∙ rw (h, r) (sym (or-assoc found (p (rowIn (take 18 (drop at s)))) (any p (rowsFrom s (at + 18) m))))
+
+-- ---- a request that is ready
+
+pub ready-row : (b : Book) (q : Request) → Ready register b q → SoundRow (b .setup) (proposed q)
+ready-row b q r = proposed-sound b bare q (sym (r .of-kind)) (r .code-fits) (ready-input b q register refl r)
+
+pub ready-tabled : (s : List ℕ) (q : Request) → isBook s ≡ true → Ready register (bookIn s) q → Tabled (proposed q)
+ready-tabled s q h r = sound-tabled (bookIn s .setup) (sound-in s h .setup-sound) (proposed q) (ready-row (bookIn s) q r)
+
+-- its values fit their bytes
+pub ready-fits : (s : List ℕ) (q : Request) (r : Row) → isBook s ≡ true → Ready register (bookIn s) q → r ≡ proposed q → Small rowWidths (rowValues r)
+ready-fits s q r h ready e = rw e (row-small (bookIn s .setup) (proposed q) (sound-in s h .setup-sound) (ready-row (bookIn s) q ready))
+
+-- the operator of an account is one of the book's
+pub caller-operator : (s : List ℕ) (a : ℕ) → isBook s ≡ true → 1 ≤ a → a ≤ accountCount (bookIn s .setup)
+    → (1 ≤ operatorOf (bookIn s .setup) a) × (operatorOf (bookIn s .setup) a ≤ operatorCount (bookIn s .setup))
+caller-operator s zero h low high = absurd (omega arith)
+caller-operator s (suc i) h low high = let x = each-at noAccount i (values-in s h .accounts-sound) (omega arith) in (x .operator-low, x .operator-high)
+
+-- ---- what the state decides
+
+find-hit : (p : ℕ → Bool) (x : ℕ) (xs : List ℕ) → p x ≡ true → find p (x ∷ xs) ≡ some x
+unfolding find
+find-hit p x xs e = rw (e, find)
+
+find-miss : (p : ℕ → Bool) (x : ℕ) (xs : List ℕ) → p x ≡ false → find p (x ∷ xs) ≡ find p xs
+unfolding find
+find-miss p x xs e = rw (e, find)
+
+find-cong : (p r : ℕ → Bool) → ((k : ℕ) → p k ≡ r k) → (xs : List ℕ) → find p xs ≡ find r xs
+unfolding find
+find-cong p r e [] = refl
+find-cong p r e (x ∷ xs) = go (r x) refl (find-cong p r e xs)
+  where
+    go : (t : Bool) → r x ≡ t → find p xs ≡ find r xs → find p (x ∷ xs) ≡ find r (x ∷ xs)
+    go true f ih = find-hit p x xs (e x ∙ f) ∙ sym (find-hit r x xs f)
+    go false f ih = find-miss p x xs (e x ∙ f) ∙ ih ∙ sym (find-miss r x xs f)
+
+-- the hour that the proposed row breaks is the one broken in the book as it would be
+pub broken-proposed : (u : Setup) (rows : List Row) (trade : Row) (a : ℕ) → brokenHour u (rows ++ trade ∷ []) a ≡ brokenBy u rows trade a
+unfolding brokenHour brokenBy
+broken-proposed u rows trade a =
+    find-cong
+    (λ h. not (keepsMargins (accountAt u a) (accountHour (rows ++ trade ∷ []) a h)))
+    (λ h. not (keepsMargins (accountAt u a) (takes a h (accountHour rows a h) trade)))
+    (λ h. ap (λ x. not (keepsMargins (accountAt u a) x)) (hour-takes rows trade a h))
+    (counting (u .hours) 1)
+
+module _ (b : Book) (q : Request) (first : b .phase ≡ 1) where
+  -- 14
+  pub twin-pending : any (alike (q .account) (q .other) (q .code)) (b .part .rows) ≡ true → decided register b q ≡ some AlreadyPending
+  unfolding decided stateChecks lowest
+  twin-pending e = rw (eq-eqb _ 1 first, e)
+
+  module _ (alone : any (alike (q .account) (q .other) (q .code)) (b .part .rows) ≡ false) where
+    -- 15
+    pub no-number-left : mostRows ≤ length (b .part .rows) → decided register b q ≡ some RowsFull
+    unfolding decided stateChecks lowest
+    no-number-left h = rw (eq-eqb _ 1 first, alone, le-leb mostRows (length (b .part .rows)) h)
+
+    module _ (few : length (b .part .rows) < mostRows) where
+      broken-next : brokenHour (b .setup) (next register b q .part .rows) (q .account) ≡ brokenBy (b .setup) (b .part .rows) (proposed q) (q .account)
+      unfolding next
+      broken-next = broken-proposed (b .setup) (b .part .rows) (proposed q) (q .account)
+
+      -- 18
+      pub margin-breaks : (h : ℕ) → brokenBy (b .setup) (b .part .rows) (proposed q) (q .account) ≡ some h
+          → decided register b q ≡ some (MarginBroken h)
+      unfolding decided stateChecks lowest
+      margin-breaks h e = rw (eq-eqb _ 1 first, alone, lt-leb mostRows (length (b .part .rows)) few, broken-next ∙ e)
+
+      module _ (kept : brokenBy (b .setup) (b .part .rows) (proposed q) (q .account) ≡ none) where
+        covered-next : covered (b .setup) (next register b q .part) (operatorOf (b .setup) (q .account))
+            ≡ covered (b .setup) (record { guarantees = b .part .guarantees; rows = b .part .rows ++ proposed q ∷ [] }) (operatorOf (b .setup) (q .account))
+        unfolding next
+        covered-next = refl
+
+        -- 19
+        pub row-uncovered : (t : Bool)
+            → t ≡ covered (b .setup) (record { guarantees = b .part .guarantees; rows = b .part .rows ++ proposed q ∷ [] }) (operatorOf (b .setup) (q .account))
+            → t ≡ false → decided register b q ≡ some Uncovered
+        unfolding decided stateChecks lowest
+        row-uncovered t e f =
+            rw (eq-eqb _ 1 first, alone, lt-leb mostRows (length (b .part .rows)) few, broken-next ∙ kept, covered-next ∙ sym e ∙ f)
+
+        pub row-covered : (t : Bool)
+            → t ≡ covered (b .setup) (record { guarantees = b .part .guarantees; rows = b .part .rows ++ proposed q ∷ [] }) (operatorOf (b .setup) (q .account))
+            → t ≡ true → decided register b q ≡ none
+        unfolding decided stateChecks lowest
+        row-covered t e f =
+            rw (eq-eqb _ 1 first, alone, lt-leb mostRows (length (b .part .rows)) few, broken-next ∙ kept, covered-next ∙ sym e ∙ f)
+
+-- an accepted row has a number
+pub few-rows : (b : Book) (q : Request) → decided register b q ≡ none → length (b .part .rows) < mostRows
+few-rows b q d = passed-15 b q (decided-clear register b q d)
+
+-- what the search says
+pub found-hour : (u : Setup) (rows : List Row) (trade : Row) (a h : ℕ) (q : Request) → trade ≡ proposed q → Hour h ≡ broken (brokenBy u rows trade a)
+    → brokenBy u rows (proposed q) a ≡ some h
+found-hour u rows trade a h q e f = go (brokenBy u rows (proposed q) a) (rw e at f)
+  where
+    go : (o : Option ℕ) → Hour h ≡ broken o → o ≡ some h
+    go none z = cc
+    go (some k) z = cc
+
+pub found-nowhere : (u : Setup) (rows : List Row) (trade : Row) (a : ℕ) (q : Request) → trade ≡ proposed q → Nowhere ≡ broken (brokenBy u rows trade a)
+    → brokenBy u rows (proposed q) a ≡ none
+found-nowhere u rows trade a q e f = go (brokenBy u rows (proposed q) a) (rw e at f)
+  where
+    go : (o : Option ℕ) → Nowhere ≡ broken o → o ≡ none
+    go none z = refl
+    go (some k) z = cc
+
+-- the account's operator is covered by its guarantee in force
+pub caller-covered : (u : Setup) (gs : List Cents) (rows : List Row) (a o : ℕ) (g : Cents) (t : Bool) → o ≡ operatorOf u a → g ≡ guaranteeAt gs o
+    → t ≡ leb (exposure u rows o) (g .0 * (thousand - maintenanceAt u o))
+    → t ≡ covered u (record { guarantees = gs; rows = rows }) (operatorOf u a)
+caller-covered u gs rows a o g t e f h =
+    let p : Part = record { guarantees = gs; rows = rows } in
+    h ∙ sym (covered-by u p o (g .0) (ap (λ (x : Cents). x .0) (sym f))) ∙ ap (covered u p) e
+
+-- ---- what is written
+
+byte : (v : ℕ) → v < 256 → v % 256 ≡ v
+byte v h = omega arith
+
+-- the 18 bytes of a row whose values fit them
+pub row-literal : (r : Row) → Small rowWidths (rowValues r)
+    → r .proposer
+    ∷ r .counterparty
+    ∷ r .code % 256
+    ∷ r .code / 256 % 256
+    ∷ r .code / 256 / 256 % 256
+    ∷ r .code / 256 / 256 / 256 % 256
+    ∷ r .code / 256 / 256 / 256 / 256 % 256
+    ∷ r .code / 256 / 256 / 256 / 256 / 256 % 256
+    ∷ r .code / 256 / 256 / 256 / 256 / 256 / 256 % 256
+    ∷ r .code / 256 / 256 / 256 / 256 / 256 / 256 / 256 % 256
+    ∷ r .side
+    ∷ r .first
+    ∷ r .last
+    ∷ r .quantity .0 % 256
+    ∷ r .quantity .0 / 256 % 256
+    ∷ r .quantity .0 / 256 / 256 % 256
+    ∷ r .quantity .0 / 256 / 256 / 256 % 256
+    ∷ r .status
+    ∷ []
+    ≡ rowBytes r
+unfolding rowBytes pack pieces flat le
+row-literal r s =
+    rw (
+      byte (r .proposer) (s .0),
+      byte (r .counterparty) (s .1 .0),
+      byte (r .side) (s .1 .1 .1 .0),
+      byte (r .first) (s .1 .1 .1 .1 .0),
+      byte (r .last) (s .1 .1 .1 .1 .1 .0),
+      byte (r .status) (s .1 .1 .1 .1 .1 .1 .1 .0),
+    )
+
+pub registered-answered : (s t : List ℕ) (h : isBook s ≡ true) (q : Request) (n : ℕ) → Ready register (bookIn s) q
+    → decided register (bookIn s) q ≡ none → n ≡ length (bookIn s .part .rows) → n < mostRows
+    → t ≡ splice (splice s (presentAt + rowAt n) (rowBytes (proposed q))) (presentAt + rowCountAt) (le 2 (n + 1))
+    → Answered register s q (accepted (n + 1)) t
+unfolding given
+registered-answered s t h q n r d e few w =
+    accepted-answered register s q h t (n + 1) d (omega (arith, e))
+    (w
+    ∙ ap (λ (x : List ℕ). splice (splice x (presentAt + rowAt n) (rowBytes (proposed q))) (presentAt + rowCountAt) (le 2 (n + 1))) (book-image s h)
+    ∙ write-register mostHours bookSize (bookIn s) (book-fits s h) q n (presentAt + rowAt n) e few refl)
+    (register-keeps (bookIn s) q (book-is-sound s h) bare (sym (r .of-kind)) (r .code-fits) (ready-input (bookIn s) q register refl r) (decided-clear register (bookIn s) q d))

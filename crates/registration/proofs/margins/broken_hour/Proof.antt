@@ -1,0 +1,118 @@
+-- The search over all hours is that over the hours that are left.
+use Prim.Native.Nat.{_+_, _-_, _≤_}
+use mathlib.Core.Path.{_≡_, _∙_, sym, ap}
+use mathlib.Core.Bool.{not}
+use native.Mathlib.Omega.{arith}
+use borrow.Author.Needs.{needs}
+use Rattle.rules.specs.Basics.{find, counting}
+use Rattle.rules.specs.Limits.{mostHours}
+use Rattle.rules.specs.Books.{accountAt}
+use Rattle.book.specs.Valid.{bookIn}
+use Rattle.book.proofs.BookRows.{length-in, setup-tabled}
+use Rattle.registration.specs.Margins.{brokenBy, broken}
+use Rattle.registration.proofs.SearchLaws.{find-done, find-same, find-here, find-next}
+use Rattle.registration.proofs.MarginLaws.{hours-read, account-read, accounts-read, hours-few, hour-in-table, book-room, hour-room, breaks, broken-by-hours, breaks-tested}
+use Rattle.registration.proofs.margins.broken_hour.Statement.{statement}
+use Rattle.registration.proofs.margins.broken_hour.Tie as tie
+
+abbrev Inv-loop : tie.InvT-loop
+Inv-loop book table trade number n owner hour₀ hour =
+    let b = bookIn book in
+    (n .hours ≡ b .setup .hours)
+    × (n .hours ≤ mostHours)
+    × (owner ≡ accountAt (b .setup) number)
+    × (1 ≤ hour)
+    × (hour ≤ n .hours + 1)
+    × (brokenBy (b .setup) (b .part .rows) trade number
+    ≡ find (breaks (b .setup) (b .part .rows) trade number) (counting (n .hours + 1 - hour) hour))
+
+abbrev μ-loop : tie.MeasureT-loop
+μ-loop book table trade number n owner hour₀ hour = n .hours + 1 - hour
+
+counts-requires : tie.Need-counts-requires Inv-loop μ-loop
+counts-requires c κs = omega (arith, length-in _ (c .before .before .pre .0))
+
+account-requires : tie.Need-account-requires Inv-loop μ-loop
+account-requires c κs =
+    let pre = c .before .before .before .pre in
+    (setup-tabled _ (pre .0) .whole, pre .3, accounts-read _ (pre .0) _ (pre .4) .0)
+
+loop-holds : tie.Need-loop-holds Inv-loop μ-loop
+loop-holds c =
+    let pre = c .before .before .before .before .pre in
+    let hours = hours-read _ (pre .0) _ (c .before .counts .ensures) in (
+      hours,
+      omega (arith, hours, hours-few _ (pre .0)),
+      account-read _ (pre .0) _ (c .before .before .before .before .args .number) (c .account .ensures),
+      search needs,
+      search needs,
+      broken-by-hours _ _ _ _ ∙ find-same _ _ _ _ (omega (arith, hours)),
+    )
+
+account-hour-requires : tie.Need-account-hour-requires Inv-loop μ-loop
+account-hour-requires c κs =
+    let l = c .before .before .loop in
+    let pre = c .before .before .before .before .before .before .before .pre in
+    (pre .1 .whole, hour-in-table _ (pre .0) _ _ (pre .3) (pre .4) (l .inv .3) (omega (arith, l .inv .0)))
+
+take-requires : tie.Need-take-requires Inv-loop μ-loop
+take-requires c κs =
+    let l = c .before .before .before .loop in
+    let pre = c .before .before .before .before .before .before .before .before .pre in
+    hour-room _ _ _ _ _ _ (pre .1) (book-room _ (pre .0) _ _ (pre .1) (pre .2))
+    (hour-in-table _ (pre .0) _ _ (pre .3) (pre .4) (l .inv .3) (omega (arith, l .inv .0)))
+    (c .account-hour .ensures _ (pre .1))
+
+keeps-margins-requires : tie.Need-keeps-margins-requires Inv-loop μ-loop
+keeps-margins-requires c κs = search needs
+
+add-hour : tie.Need-add-hour Inv-loop μ-loop
+add-hour c = search needs
+
+loop-less : tie.Need-loop-less Inv-loop μ-loop
+loop-less c = search needs
+
+loop-again : tie.Need-loop-again Inv-loop μ-loop
+loop-again c =
+    let k = c .before in
+    let x = k .before .before in
+    let l = x .before .before .before .loop in
+    let pre = x .before .before .before .before .before .before .before .before .pre in
+    let test = breaks-tested _ _ _ _ _ _ _ _ _ (l .inv .2) (x .account-hour .ensures _ (pre .1)) (k .before .take .ensures) (k .keeps-margins .ensures) in (
+      l .inv .0,
+      l .inv .1,
+      l .inv .2,
+      search needs,
+      search needs,
+      l .inv .5 ∙ find-next _ _ _ _ (omega arith) (test ∙ ap not (c .if2 .taken)),
+    )
+
+returns : tie.Need-returns Inv-loop μ-loop
+returns c = ap broken (sym (c .before .before .loop .inv .5 ∙ find-done _ _ _ (omega arith)))
+
+returns-2 : tie.Need-returns-2 Inv-loop μ-loop
+returns-2 c =
+    let k = c .before in
+    let x = k .before .before in
+    let l = x .before .before .before .loop in
+    let pre = x .before .before .before .before .before .before .before .before .pre in
+    let test = breaks-tested _ _ _ _ _ _ _ _ _ (l .inv .2) (x .account-hour .ensures _ (pre .1)) (k .before .take .ensures) (k .keeps-margins .ensures) in
+    ap broken (sym (l .inv .5 ∙ find-here _ _ _ (omega arith) (test ∙ ap not (c .if2 .left))))
+
+pub broken-hour-spec : {M : Type 1} → statement M
+broken-hour-spec =
+    tie.close
+    (tie.spec
+    Inv-loop
+    μ-loop
+    counts-requires
+    account-requires
+    loop-holds
+    account-hour-requires
+    take-requires
+    keeps-margins-requires
+    add-hour
+    loop-less
+    loop-again
+    returns
+    returns-2)

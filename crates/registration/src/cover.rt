@@ -1,0 +1,39 @@
+// What covers an operator's exposure.
+ghost use mathlib.Core.Path.{_≡_};
+ghost use mathlib.Core.Bool.{true};
+ghost use mathlib.Core.List.{List};
+ghost use Prim.Native.Nat.{_-_, _*_, _≤_};
+ghost use lib.ListN.{length};
+ghost use lib.Dec.{leb};
+ghost use Rattle.rules.specs.declared.Row.{Row};
+ghost use Rattle.rules.specs.Limits.{mostGuarantee, thousand};
+ghost use Rattle.rules.specs.Books.{maintenanceAt, guaranteeAt, operatorCount};
+ghost use Rattle.rules.specs.Registration.{exposure};
+ghost use Rattle.book.specs.Valid.{isBook, bookIn};
+ghost use Rattle.book.specs.Sums.{SumsOf};
+use book::exposure::exposure_of;
+use book::layout::GUARANTEE_WIDTH;
+use book::layout::PRESENT_AT;
+use setup::entries::operator;
+use units::Cents;
+use wire::numbers::get_u64;
+
+// The guarantee in force of an operator.
+pub fn lodged(book: &[u8], number: u8) -> Cents
+    requires { ⌜ (isBook (now book) ≡ true) × (1 ≤ number) × (number ≤ operatorCount (bookIn (now book) .setup)) ⌝ }
+    ensures { λ r. ⌜ (r ≡ guaranteeAt (bookIn (now (book .entry)) .part .guarantees) number) × (r .0 ≤ mostGuarantee) ⌝ }
+{
+    let at = PRESENT_AT + GUARANTEE_WIDTH * (number as usize - 1);
+    Cents(get_u64(book, at))
+}
+
+// Whether what is available of the guarantee covers the operator's exposure, by the table of sums.
+pub fn is_covered(book: &[u8], table: &[u32], guarantee: Cents, number: u8) -> bool
+    requires { ⌜ (isBook (now book) ≡ true) × (length (now table) ≡ 3200) × (guarantee .0 ≤ mostGuarantee) × (1 ≤ number) × (number ≤ operatorCount (bookIn (now book) .setup)) ⌝ }
+    ensures { λ r. ⌜ ((rows : List Row) → SumsOf rows (now (table .entry)) → r ≡ leb (exposure (bookIn (now (book .entry)) .setup) rows number) (guarantee .0 * (thousand - maintenanceAt (bookIn (now (book .entry)) .setup) number))) ⌝ }
+{
+    let owner = operator(book, number);
+    let limit = guarantee.available(owner.maintenance);
+    let owed = exposure_of(book, table, number);
+    owed.at_most(limit)
+}

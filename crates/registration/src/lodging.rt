@@ -1,0 +1,59 @@
+// Guarantee: replaces an operator's guarantee.
+ghost use mathlib.Core.Path.{_≡_};
+ghost use mathlib.Core.Bool.{true};
+ghost use Rattle.rules.specs.Verdicts.{checked};
+ghost use Rattle.rules.specs.Requests.{guarantee};
+ghost use Rattle.book.specs.Valid.{isBook, bookIn, bookBytes};
+ghost use Rattle.registration.specs.Kinds.{decided, outcomeOn, bookAfter, Ready};
+use crate::cover::is_covered;
+use book::layout::GUARANTEE_WIDTH;
+use book::layout::PRESENT_AT;
+use book::readings::sums_in;
+use book::state::REGISTRATION;
+use book::state::phase;
+use rules::Checked;
+use rules::Outcome;
+use rules::Refusal;
+use rules::Request;
+use rules::Verdict;
+use wire::numbers::put_u64;
+
+// What guarantee is refused for.
+fn guarantee_fault(book: &[u8], request: Request) -> Checked
+    requires { ⌜ isBook (now book) ≡ true ⌝ }
+    requires { ⌜ Ready guarantee (bookIn (now book)) request ⌝ }
+    ensures { λ r. ⌜ r ≡ checked (decided guarantee (bookIn (now (book .entry))) request) ⌝ }
+{
+    if phase(book) != REGISTRATION {
+        return Checked::Fails(Refusal::WrongPhase);
+    }
+    let table = sums_in(book);
+    if is_covered(book, &table, request.guarantee, request.operator) {
+        return Checked::Clear;
+    }
+    Checked::Fails(Refusal::Uncovered)
+}
+
+// Kind 4: the operator's guarantee becomes the one named.
+pub fn guarantee(book: &mut [u8], request: Request) -> Outcome
+    requires { ⌜ isBook (now book) ≡ true ⌝ }
+    requires { ⌜ Ready guarantee (bookIn (now book)) request ⌝ }
+    ensures answer { λ o. ⌜ o ≡ outcomeOn guarantee (bookIn (now (book .entry))) request ⌝ }
+    ensures bytes { λ _. ⌜ now (book .exit) ≡ bookBytes (bookAfter guarantee (bookIn (now (book .entry))) request) ⌝ }
+    ensures still { λ _. ⌜ isBook (now (book .exit)) ≡ true ⌝ }
+{
+    if let Checked::Fails(r) = guarantee_fault(book, request) {
+        return Outcome {
+            verdict: Verdict::Refused(r),
+        };
+    }
+    let cents = request.guarantee;
+    put_u64(
+        book,
+        PRESENT_AT + GUARANTEE_WIDTH * (request.operator as usize - 1),
+        cents.0,
+    );
+    Outcome {
+        verdict: Verdict::Accepted { number: 0 },
+    }
+}

@@ -1,0 +1,208 @@
+// Register: makes a pending row with the next number.
+ghost use mathlib.Core.Path.{_≡_};
+ghost use mathlib.Core.Bool.{true, false};
+ghost use mathlib.Core.List.{List};
+ghost use Prim.Native.Nat.{_+_, _*_, _≤_, _<_};
+ghost use lib.ListN.{length};
+ghost use Rattle.wire.specs.Numbers.{le};
+ghost use Rattle.wire.specs.Regions.{splice};
+ghost use Rattle.wire.specs.Parts.{Small};
+ghost use Rattle.rules.specs.declared.Row.{Row};
+ghost use Rattle.rules.specs.Basics.{any};
+ghost use Rattle.rules.specs.Limits.{mostRows, bookSize};
+ghost use Rattle.rules.specs.Books.{operatorOf, accountCount};
+ghost use Rattle.rules.specs.Verdicts.{checked};
+ghost use Rattle.rules.specs.Requests.{register};
+ghost use Rattle.rules.specs.Registration.{alike, proposed, covered};
+ghost use Rattle.book.specs.Layout.{rowWidths, presentAt, rowAt, rowCountAt};
+ghost use Rattle.book.specs.Image.{rowValues, rowBytes};
+ghost use Rattle.book.specs.Valid.{isBook, bookIn, bookBytes};
+ghost use Rattle.book.specs.Sums.{rowsFrom, SumsOf};
+ghost use Rattle.registration.specs.Kinds.{decided, outcomeOn, bookAfter, Ready};
+use crate::cover::is_covered;
+use crate::cover::lodged;
+use crate::margins::Broken;
+use crate::margins::broken_hour;
+use book::layout::MOST_ROWS;
+use book::layout::PRESENT_AT;
+use book::layout::ROW_COUNT_IN;
+use book::layout::ROW_WIDTH;
+use book::layout::ROWS_IN;
+use book::readings::sums_in;
+use book::rows::row_at;
+use book::state::PENDING;
+use book::state::REGISTRATION;
+use book::state::phase;
+use book::state::row_count;
+use book::sums::take_row;
+use rules::Checked;
+use rules::Outcome;
+use rules::Refusal;
+use rules::Request;
+use rules::Row;
+use rules::Verdict;
+use setup::entries::account;
+use wire::numbers::put_u16;
+use wire::regions::copy_in;
+
+// The row that the request proposes.
+fn proposed_row(request: Request) -> Row
+    ensures { λ r. ⌜ r ≡ proposed request ⌝ }
+{
+    let quantity = request.quantity;
+    Row {
+        proposer: request.account,
+        counterparty: request.other,
+        code: request.code,
+        side: request.side,
+        first: request.first,
+        last: request.last,
+        quantity,
+        status: PENDING,
+    }
+}
+
+// The row is pending with the request's proposer, counterparty and code.
+fn is_alike(r: Row, request: Request) -> bool
+    ensures { λ b. ⌜ b ≡ alike (request .account) (request .other) (request .code) r ⌝ }
+{
+    (r.status == PENDING)
+        & (r.proposer == request.account)
+        & (r.counterparty == request.other)
+        & (r.code == request.code)
+}
+
+// One of the `n` rows from `at` on is so.
+fn any_alike(book: &[u8], at: usize, n: usize, request: Request) -> bool
+    requires { ⌜ at + 18 * n ≤ length (now book) ⌝ }
+    ensures { λ b. ⌜ b ≡ any (alike (request .account) (request .other) (request .code)) (rowsFrom (now (book .entry)) at n) ⌝ }
+{
+    let mut found = false;
+    let mut k = at;
+    let mut left = n;
+    while 0 < left {
+        let r = row_at(book, k);
+        found = found | is_alike(r, request);
+        k = k + ROW_WIDTH;
+        left = left - 1;
+    }
+    found
+}
+
+// One of the book's rows is so.
+fn already_pending(book: &[u8], request: Request) -> bool
+    requires { ⌜ isBook (now book) ≡ true ⌝ }
+    ensures { λ b. ⌜ b ≡ any (alike (request .account) (request .other) (request .code)) (bookIn (now (book .entry)) .part .rows) ⌝ }
+{
+    let n = row_count(book) as usize;
+    any_alike(book, PRESENT_AT + ROWS_IN, n, request)
+}
+
+// Whether the exposure of the account's operator is covered by its guarantee in force, by the table of sums.
+fn caller_covered(book: &[u8], table: &[u32], number: u8) -> bool
+    requires { ⌜ (isBook (now book) ≡ true) × (length (now table) ≡ 3200) × (1 ≤ number) × (number ≤ accountCount (bookIn (now book) .setup)) ⌝ }
+    ensures { λ r. ⌜ ((rows : List Row) → SumsOf rows (now (table .entry)) → r ≡ covered (bookIn (now (book .entry)) .setup) (record { guarantees = bookIn (now (book .entry)) .part .guarantees; rows = rows }) (operatorOf (bookIn (now (book .entry)) .setup) number)) ⌝ }
+{
+    let owner = account(book, number);
+    let guarantee = lodged(book, owner.operator);
+    is_covered(book, table, guarantee, owner.operator)
+}
+
+// What register is refused for where its row is no twin and has a number: margins and exposure as they would be.
+fn weighed(book: &[u8], request: Request) -> Checked
+    requires { ⌜ (isBook (now book) ≡ true) × Ready register (bookIn (now book)) request × (bookIn (now book) .phase ≡ 1) × (any (alike (request .account) (request .other) (request .code)) (bookIn (now book) .part .rows) ≡ false) × (length (bookIn (now book) .part .rows) < mostRows) ⌝ }
+    ensures { λ r. ⌜ r ≡ checked (decided register (bookIn (now (book .entry))) request) ⌝ }
+{
+    let trade = proposed_row(request);
+    let mut table = sums_in(book);
+    if let Broken::Hour(hour) = broken_hour(book, &table, trade, request.account) {
+        return Checked::Fails(Refusal::MarginBroken { hour });
+    }
+    take_row(&mut table, trade);
+    if caller_covered(book, &table, request.account) {
+        return Checked::Clear;
+    }
+    Checked::Fails(Refusal::Uncovered)
+}
+
+// What register is refused for.
+fn register_fault(book: &[u8], request: Request) -> Checked
+    requires { ⌜ isBook (now book) ≡ true ⌝ }
+    requires { ⌜ Ready register (bookIn (now book)) request ⌝ }
+    ensures { λ r. ⌜ r ≡ checked (decided register (bookIn (now (book .entry))) request) ⌝ }
+{
+    if phase(book) != REGISTRATION {
+        return Checked::Fails(Refusal::WrongPhase);
+    }
+    if already_pending(book, request) {
+        return Checked::Fails(Refusal::AlreadyPending);
+    }
+    if MOST_ROWS <= row_count(book) as usize {
+        return Checked::Fails(Refusal::RowsFull);
+    }
+    weighed(book, request)
+}
+
+// The 18 bytes of a row.
+fn row_bytes(r: Row) -> [u8; ROW_WIDTH]
+    requires { ⌜ Small rowWidths (rowValues r) ⌝ }
+    ensures { λ b. ⌜ b ≡ rowBytes r ⌝ }
+{
+    let code = r.code;
+    let quantity = r.quantity.0;
+    [
+        r.proposer,
+        r.counterparty,
+        (code % 256) as u8,
+        (code / 256 % 256) as u8,
+        (code / 256 / 256 % 256) as u8,
+        (code / 256 / 256 / 256 % 256) as u8,
+        (code / 256 / 256 / 256 / 256 % 256) as u8,
+        (code / 256 / 256 / 256 / 256 / 256 % 256) as u8,
+        (code / 256 / 256 / 256 / 256 / 256 / 256 % 256) as u8,
+        (code / 256 / 256 / 256 / 256 / 256 / 256 / 256 % 256) as u8,
+        r.side,
+        r.first,
+        r.last,
+        (quantity % 256) as u8,
+        (quantity / 256 % 256) as u8,
+        (quantity / 256 / 256 % 256) as u8,
+        (quantity / 256 / 256 / 256 % 256) as u8,
+        r.status,
+    ]
+}
+
+// Puts a row after the `n` that stand, and counts it.
+fn append_row(book: &mut [u8], n: u16, r: Row)
+    requires { ⌜ (length (now book) ≡ bookSize) × (n < mostRows) × Small rowWidths (rowValues r) ⌝ }
+    ensures { λ _. ⌜ now (book .exit) ≡ splice (splice (now (book .entry)) (presentAt + rowAt n) (rowBytes r)) (presentAt + rowCountAt) (le 2 (n + 1)) ⌝ }
+{
+    let bytes = row_bytes(r);
+    copy_in(
+        book,
+        PRESENT_AT + (ROWS_IN + ROW_WIDTH * (n as usize)),
+        &bytes,
+    );
+    put_u16(book, PRESENT_AT + ROW_COUNT_IN, n + 1);
+}
+
+// Kind 1: the row that the request proposes is pending under the next number.
+pub fn register(book: &mut [u8], request: Request) -> Outcome
+    requires { ⌜ isBook (now book) ≡ true ⌝ }
+    requires { ⌜ Ready register (bookIn (now book)) request ⌝ }
+    ensures answer { λ o. ⌜ o ≡ outcomeOn register (bookIn (now (book .entry))) request ⌝ }
+    ensures bytes { λ _. ⌜ now (book .exit) ≡ bookBytes (bookAfter register (bookIn (now (book .entry))) request) ⌝ }
+    ensures still { λ _. ⌜ isBook (now (book .exit)) ≡ true ⌝ }
+{
+    if let Checked::Fails(r) = register_fault(book, request) {
+        return Outcome {
+            verdict: Verdict::Refused(r),
+        };
+    }
+    let n = row_count(book);
+    let row = proposed_row(request);
+    append_row(book, n, row);
+    Outcome {
+        verdict: Verdict::Accepted { number: n + 1 },
+    }
+}
