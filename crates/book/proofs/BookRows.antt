@@ -1,23 +1,22 @@
 -- The set-up and the rows of bytes that are a book stand at their places, and what they say is in range: all that the sums, the margins and
 -- the exposure ask of such bytes.
-use Prim.Native.Nat.{ℕ, zero, suc, _+_, _*_, _≤_}
-use mathlib.Core.Path.{_≡_, refl, sym, ap, _∙_}
+use Prim.Native.Nat.{ℕ, _+_, _*_, _≤_}
+use mathlib.Core.Path.{_≡_, sym, ap, _∙_}
 use mathlib.Core.List.{List, []}
 use mathlib.Core.Bool.{true}
-use native.Mathlib.Nat.{mul-suc}
 use native.Mathlib.Omega.{arith}
 use lib.ListN.{length, getD, take, drop, replicate}
-use lib.Seq.{take-take, drop-drop}
 use Rattle.wire.specs.Numbers.{number, numberAt}
-use Rattle.wire.specs.Parts.{cut, chunks}
-use Rattle.wire.proofs.PartLaws.{take-drop-take, cut-at, inner}
+use Rattle.wire.specs.Parts.{cut}
+use Rattle.wire.proofs.PartLaws.{cut-at, inner}
+use Rattle.wire.proofs.SlotLaws.{chunks-front}
 use Rattle.units.specs.Units.{cents}
 use Rattle.rules.specs.declared.Counts.{Counts}
 use Rattle.rules.specs.declared.Row.{Row}
 use Rattle.rules.specs.Basics.{Each}
 use Rattle.rules.specs.Limits.{mostPrice, mostRows, mostHours, bookSize}
 use Rattle.rules.specs.Books.{Setup, Book, countsOf, operatorCount}
-use Rattle.rules.specs.Opening.{countsIn, setupLength, estimatesIn, setupOf, operatorsOf}
+use Rattle.rules.specs.Opening.{countsIn, estimatesIn, setupOf, operatorsOf}
 use Rattle.rules.proofs.Searches.{each-map}
 use Rattle.rules.proofs.SetupEntries.{counts-of-setup}
 use Rattle.book.specs.Layout.{setupRoom, rowWidth, partWidths, partSize, presentAt, rowCountAt, rowsAt}
@@ -25,23 +24,16 @@ use Rattle.book.specs.Image.{partOf, partIn}
 use Rattle.book.specs.Valid.{isBook, bookIn}
 use Rattle.book.specs.Plain.{partAt}
 use Rattle.book.specs.Sums.{rowsFrom, SumsOf, Tabled, SetupTabled}
-use Rattle.book.proofs.Soundness.{SoundSetup, SoundRow, SoundBook, sound}
+use Rattle.book.proofs.Soundness.{SoundSetup, SoundRow}
+use Rattle.book.proofs.SoundBooks.{SoundBook, sound}
 use Rattle.book.proofs.Sizes.{fits}
 use Rattle.book.proofs.SetupRanges.{InRange, values-in-range}
-use Rattle.book.proofs.SetupAgain.{counts-first-bytes, setup-front}
+use Rattle.book.proofs.SetupAgain.{counts-first-bytes, setup-short, setup-in-front}
 use Rattle.book.proofs.Round.{book-is-image, length-book}
 use Rattle.book.proofs.ImageReads.{row-count-read}
 use Rattle.book.proofs.Places.{decode-places}
 
 -- ---- a part
-
--- cells inside the first bytes are cells of the whole
-chunks-first : (w n at m : ℕ) (s : List ℕ) → at + w * n ≤ m → chunks w n (drop at (take m s)) ≡ chunks w n (drop at s)
-unfolding chunks
-chunks-first w zero at m s h = refl
-chunks-first w (suc n) at m s h =
-    let e : w * suc n ≡ w + w * n = omega (arith, mul-suc w n) in
-    rw (take-drop-take w at m s (omega arith), drop-drop w at (take m s), drop-drop w at s, chunks-first w n (at + w) m s (omega arith))
 
 -- the rows of a part stand side by side from its place for rows on
 pub part-rows : (top operators : ℕ) (s : List ℕ) (at n : ℕ) → n ≡ numberAt s (at + rowCountAt) 2 → n ≤ mostRows
@@ -53,7 +45,7 @@ part-rows top operators s at n e l =
     let count : number (getD (cut ws x) 1 []) ≡ n = ap number (cut-at ws x 1 ∙ inner 2 rowCountAt (partSize top) at s (omega arith)) ∙ sym e in
     let place : getD (cut ws x) 2 [] ≡ take (rowWidth * mostRows) (drop (at + rowsAt) s) =
     cut-at ws x 2 ∙ inner (rowWidth * mostRows) rowsAt (partSize top) at s (omega arith) in
-    rw (count, place, chunks-first rowWidth n 0 (rowWidth * mostRows) (drop (at + rowsAt) s) (omega arith))
+    rw (count, place, chunks-front rowWidth n (rowWidth * mostRows) (drop (at + rowsAt) s) (omega arith))
 
 -- the table of sums has room for a sound row
 pub sound-tabled : (u : Setup) → SoundSetup u → (r : Row) → SoundRow u r → Tabled r
@@ -85,25 +77,21 @@ module _ (s : List ℕ) (h : isBook s ≡ true) where
       ∙ counts-of-setup (take setupRoom s)
       ∙ counts-first-bytes setupRoom s (omega arith)
 
-  setup-short : setupLength (countsIn s) ≤ setupRoom
-  setup-short =
-      let k = sound-in .setup-sound in
-      omega (arith, ap setupLength counts-in, k .hours-high, k .operators-high, k .accounts-high, k .points-high)
+  first-in : bookIn s .setup ≡ setupOf (take setupRoom s)
+  first-in = ap (λ (b : Book). b .setup) (decode-places mostHours bookSize s)
+
+  sound-first : SoundSetup (setupOf (take setupRoom s))
+  sound-first = rw first-in at (sound-in .setup-sound)
 
   -- the set-up is what the whole bytes say
   pub setup-in : bookIn s .setup ≡ setupOf s
-  setup-in =
-      let first : List ℕ = take setupRoom s in
-      let front : take (setupLength (countsIn first)) first ≡ take (setupLength (countsIn s)) s =
-      ap (λ (n : Counts). take (setupLength n) first) (counts-first-bytes setupRoom s (omega arith))
-      ∙ take-take (setupLength (countsIn s)) setupRoom s setup-short in
-      ap (λ (b : Book). b .setup) (decode-places mostHours bookSize s) ∙ sym (setup-front first) ∙ ap setupOf front ∙ setup-front s
+  setup-in = first-in ∙ setup-in-front s sound-first
 
   pub setup-tabled : SetupTabled s
   setup-tabled =
       let k = sound-in .setup-sound in
       record {
-        whole = omega (arith, length-in, setup-short);
+        whole = omega (arith, length-in, setup-short s sound-first);
         accounts-high = omega (arith, ap (λ (n : Counts). n .accounts) counts-in, k .accounts-high);
         hours-high = omega (arith, ap (λ (n : Counts). n .hours) counts-in, k .hours-high);
       }

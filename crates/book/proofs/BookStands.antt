@@ -10,7 +10,7 @@ use borrow.Author.Tests.{eq-eqb, ne-eqb, lt-leb, le-leb, leb-true}
 use Rattle.wire.specs.Numbers.{numberAt, Bytes}
 use Rattle.wire.specs.Regions.{zerosFrom}
 use Rattle.wire.specs.Parts.{chunks}
-use Rattle.wire.proofs.SlotLaws.{length-chunks}
+use Rattle.wire.proofs.SlotLaws.{length-chunks, chunks-front}
 use Rattle.rules.specs.declared.Row.{Row}
 use Rattle.rules.specs.Basics.{if_then_else_, any, every, isSome, within}
 use Rattle.rules.specs.Limits.{mostHours, mostOperators, mostSchedules, bookSize}
@@ -28,8 +28,9 @@ use Rattle.book.proofs.Soundness.{all-holds, holds-all, sound-setup}
 use Rattle.book.proofs.Round.{length-book}
 use Rattle.book.proofs.Places.{bookAt, decode-places}
 use Rattle.book.proofs.Local.{is-book-local}
-use Rattle.book.proofs.PartStands.{chunks-front, part-places, few-rows}
-use Rattle.book.proofs.StandLaws.{fails-with, setup-in-front, setup-known}
+use Rattle.book.proofs.PartStands.{part-places, few-rows}
+use Rattle.book.proofs.SetupAgain.{setup-in-front}
+use Rattle.book.proofs.StandLaws.{fails-with, setup-known}
 
 -- ---- schedules
 

@@ -25,13 +25,14 @@ use Rattle.rules.specs.Books.{Part, Book, noRow}
 use Rattle.rules.specs.Requests.{register, confirm, withdraw, guarantee, openBatch, undo, keep, closeGate, schedule, settle}
 use Rattle.rules.specs.Registration.{pending, seller, buyer, closed, proposed}
 use Rattle.rules.specs.Calls.{withRows, withBatch, withPhase, confirmedNumber, restored, scheduled, next}
+use Rattle.rules.proofs.RowChanges.{length-closed}
 use Rattle.rules.proofs.AccountHours.{pending-inside}
 use Rattle.book.specs.Layout.{rowWidth, scheduleWidth, partSize, usedSize, bookWidths, phaseAt, flagAt, scheduleCountAt, schedulesAt, presentAt, savedAt, guaranteesAt, rowCountAt, rowAt, netAt, statusIn}
 use Rattle.book.specs.Image.{rowBytes, scheduleBytes, partBytes, savedBytes, sectionsWith, sections, image}
 use Rattle.book.specs.Changes.{raised, ended}
 use Rattle.book.proofs.Sizes.{RowFits, Fits, length-row, length-schedule, length-part, length-saved, wide-with, wide-book, length-image}
 use Rattle.book.proofs.Nets.{length-raised, nets-end, party-fits}
-use Rattle.book.proofs.Writes.{length-ended, length-closed, part-register, part-withdraw, part-confirm, part-guarantee, part-close}
+use Rattle.book.proofs.Writes.{length-ended, part-register, part-withdraw, part-confirm, part-guarantee, part-close}
 
 -- the phase replaced
 write-phase : (top size : ℕ) (b : Book) → Fits b → (phase : ℕ) → splice (image top size b) phaseAt (le 1 phase) ≡ image top size (withPhase b phase)

@@ -2,28 +2,15 @@
 use Prim.Native.Nat.{ℕ, zero, suc, _+_, _^_, _≤_, _<_}
 use mathlib.Core.Path.{_≡_, refl, ap, _∙_}
 use mathlib.Core.List.{List, [], _∷_}
-use native.Mathlib.Numerals.{add-one}
 use native.Mathlib.Omega.{arith}
-use lib.ListN.{length, getD, take, drop, replicate, length-replicate}
-use lib.Seq.{drop-drop}
-use Rattle.wire.specs.Parts.{chunks}
+use lib.ListN.{length, getD, replicate, length-replicate}
 use Rattle.rules.specs.declared.Row.{Row}
 use Rattle.rules.specs.Basics.{total, Each, cons}
 use Rattle.rules.specs.Limits.{mostEnergy}
 use Rattle.rules.specs.Registration.{moved, waiting}
-use Rattle.book.specs.Image.{rowIn}
-use Rattle.book.specs.Sums.{rowsFrom, cellOf, InTable, SumsOf, Tabled, noSums, Room, Taken, laneSum}
+use Rattle.book.specs.Sums.{cellOf, InTable, SumsOf, Tabled, noSums, Room, Taken, laneSum}
 
--- ---- the rows one after the other
-
-pub rows-done : (s : List ℕ) (at n : ℕ) → n ≤ 0 → rowsFrom s at n ≡ []
-unfolding rowsFrom chunks
-rows-done s at zero h = refl
-rows-done s at (suc n) h = absurd (omega arith)
-
-pub rows-step : (s : List ℕ) (at n m : ℕ) → n ≡ m + 1 → rowsFrom s at n ≡ rowIn (take 18 (drop at s)) ∷ rowsFrom s (at + 18) m
-unfolding rowsFrom chunks
-rows-step s at n m e = rw (e, add-one, drop-drop 18 at s)
+-- ---- the first and the others
 
 pub each-first {ℓ κ} : {A : Type ℓ} {P : A → Type κ} {x : A} {xs : List A} → Each P (x ∷ xs) → P x
 each-first (cons p e) = p

@@ -15,7 +15,7 @@ use Rattle.rules.proofs.Clearing.{Clear}
 use Rattle.rules.proofs.Passed.{Passed, Kept, passed-kind, step-cases}
 use Rattle.rules.proofs.Fields.{field-in-fits}
 use Rattle.book.specs.Valid.{follows, valid}
-use Rattle.book.proofs.Soundness.{SavedSound, SoundBook, sound, book-sound}
+use Rattle.book.proofs.SoundBooks.{SavedSound, SoundBook, sound, book-sound}
 use Rattle.book.proofs.KeepsKinds.{register-keeps, confirm-keeps, withdraw-keeps, guarantee-keeps, open-keeps, undo-keeps, keep-keeps, close-keeps, schedule-keeps, settle-keeps}
 
 -- an accepted call of any kind keeps a book sound

@@ -17,12 +17,14 @@ use Rattle.rules.specs.Requests.{Kind, register, confirm, withdraw, guarantee, 
 use Rattle.rules.specs.Registration.{proposed}
 use Rattle.rules.specs.Calls.{Call, withBatch, confirmedNumber, restored, scheduled, next, inputChecks, stateChecks}
 use Rattle.rules.proofs.Tests.{within-true}
+use Rattle.rules.proofs.Searches.{each-snoc}
 use Rattle.rules.proofs.Clearing.{Clear}
 use Rattle.rules.proofs.Passed.{field-in-range, two-accounts, passed-6, passed-7, passed-11, passed-12, passed-14, passed-15, passed-18, passed-19, passed-20}
 use Rattle.rules.proofs.RowTests.{passed-confirm, passed-withdraw}
 use Rattle.book.specs.Valid.{follows}
-use Rattle.book.proofs.Soundness.{SoundRow, SoundSchedule, SoundPart, SavedSound, SoundBook}
-use Rattle.book.proofs.KeepsRows.{each-snoc, closed-none-pending, follows-refl, follows-snoc, follows-mark}
+use Rattle.book.proofs.Soundness.{SoundRow, SoundSchedule}
+use Rattle.book.proofs.SoundBooks.{SoundPart, SavedSound, SoundBook}
+use Rattle.book.proofs.KeepsRows.{closed-none-pending, follows-refl, follows-snoc, follows-mark}
 use Rattle.book.proofs.KeepsParts.{part-registered, part-confirmed, part-withdrawn, part-closed, part-guaranteed}
 
 -- ---- what an accepted request's fields hold

@@ -1,6 +1,6 @@
 -- What an accepted call makes of a sound part is sound: each account is eased, or is the caller's, which was checked anew; so is each
 -- operator.
-use Prim.Native.Nat.{ℕ, zero, suc, _+_, _≤_, _<_}
+use Prim.Native.Nat.{ℕ, zero, suc, _≤_, _<_}
 use mathlib.Core.Path.{_≡_, refl, sym, ap, _∙_}
 use mathlib.Core.List.{List, [], _∷_, _++_}
 use mathlib.Core.Option.{none}
@@ -17,10 +17,12 @@ use Rattle.rules.specs.Basics.{any, nth, put, upTo, Each}
 use Rattle.rules.specs.Limits.{mostGuarantee, mostRows}
 use Rattle.rules.specs.Books.{Setup, Part, noRow, accountAt, operatorOf}
 use Rattle.rules.specs.Registration.{pending, alike, mark, closed, proposed, accountHour, keepsMargins, brokenHour, available, covered}
-use Rattle.rules.proofs.Searches.{find-none, counted-has}
+use Rattle.rules.proofs.Searches.{find-none, counted-has, each-snoc, each-nth}
+use Rattle.rules.proofs.RowChanges.{each-mark, each-closed, length-mark, length-closed}
 use Rattle.rules.proofs.AccountHours.{pending-inside}
-use Rattle.book.proofs.Soundness.{SoundRow, SoundPart}
-use Rattle.book.proofs.KeepsRows.{each-snoc, each-set, each-nth, each-mark, each-closed, length-mark, length-closed, row-marked, twins-snoc, twins-mark, twins-closed}
+use Rattle.book.proofs.Soundness.{SoundRow}
+use Rattle.book.proofs.SoundBooks.{SoundPart}
+use Rattle.book.proofs.KeepsRows.{each-set, row-marked, twins-snoc, twins-mark, twins-closed}
 use Rattle.book.proofs.Easing.{Eased, eased-margins, eased-covered, register-eases-others, confirm-eases-others, withdraw-eases, close-eases}
 
 -- no hour breaks a margin of the account

@@ -3,10 +3,10 @@
 use Prim.Native.Nat.{ℕ, zero, suc, _≤_}
 use mathlib.Core.Path.{_≡_, refl, sym, _∙_}
 use mathlib.Core.Logic.{_↔_}
-use mathlib.Core.List.{List, [], _∷_, _++_, map}
+use mathlib.Core.List.{List, [], _∷_, _++_}
 use mathlib.Core.Bool.{Bool, true, false, not, _&&_, _||_, or-true}
 use native.Mathlib.Omega.{arith}
-use lib.ListN.{length, getD, set, length-set, length-map}
+use lib.ListN.{getD, set}
 use lib.Dec.{eqb}
 use borrow.Author.Tests.{eqb-true, eq-eqb, not-true}
 use Rattle.rules.specs.declared.Row.{Row}
@@ -14,8 +14,8 @@ use Rattle.rules.specs.Basics.{if_then_else_, any, nth, Each, nil, cons}
 use Rattle.rules.specs.Books.{Setup, noRow}
 use Rattle.rules.specs.Registration.{pending, alike, withStatus, mark, closed}
 use Rattle.rules.proofs.Tests.{and-both}
-use Rattle.rules.proofs.Searches.{any-none, none-any}
-use Rattle.rules.proofs.RowTests.{alike-true}
+use Rattle.rules.proofs.Searches.{any-none, none-any, each-snoc}
+use Rattle.rules.proofs.RowTests.{alike-by, alike-true}
 use Rattle.book.specs.Valid.{noTwins, sameTerms, follows}
 use Rattle.book.proofs.Soundness.{SoundRow}
 
@@ -23,55 +23,13 @@ use Rattle.book.proofs.Soundness.{SoundRow}
 never : {t : Bool} → t ≡ true → t ≡ false → ⊥
 never p q = let z : true ≡ false = sym p ∙ q in let y : _≡_ {A = ℕ} 0 1 = cc in omega arith
 
--- ---- what each element has, of a list with one more or one other
-
-module _ {A : Type 0} {P : A → Type 0} where
-  pub each-snoc : {xs : List A} {x : A} → Each P xs → P x → Each P (xs ++ x ∷ [])
-  each-snoc nil p = cons p nil
-  each-snoc (cons q e) p = cons q (each-snoc e p)
-
-  pub each-set : {xs : List A} {x : A} → Each P xs → (i : ℕ) → P x → Each P (set xs i x)
-  each-set nil i p = nil
-  each-set (cons q e) zero p = cons p e
-  each-set (cons q e) (suc i) p = cons q (each-set e i p)
-
-  -- by number, from 1
-  pub each-nth : {xs : List A} (d : A) (n : ℕ) → Each P xs → 1 ≤ n → n ≤ length xs → P (nth xs n d)
-  each-nth d zero e l h = absurd (omega arith)
-  each-nth d (suc i) nil l h = absurd (omega arith)
-  each-nth d (suc zero) (cons q e) l h = q
-  each-nth d (suc (suc i)) (cons q e) l h = each-nth d (suc i) e (omega arith) (omega arith)
-
-  pub each-mapped : {xs : List A} (f : A → A) → ((x : A) → P x → P (f x)) → Each P xs → Each P (map f xs)
-  each-mapped f h nil = nil
-  each-mapped f h (cons {x = x} q e) = cons (h x q) (each-mapped f h e)
+-- what each element has, of a list with one other
+pub each-set : {A : Type 0} {P : A → Type 0} {xs : List A} {x : A} → Each P xs → (i : ℕ) → P x → Each P (set xs i x)
+each-set nil i p = nil
+each-set (cons q e) zero p = cons p e
+each-set (cons q e) (suc i) p = cons q (each-set e i p)
 
 -- ---- rows marked and closed
-
-pub length-mark : (n status : ℕ) (rows : List Row) → length (mark n status rows) ≡ length rows
-unfolding mark
-length-mark zero status rows = refl
-length-mark (suc i) status rows = length-set rows i _
-
-pub length-closed : (rows : List Row) → length (closed rows) ≡ length rows
-unfolding closed
-length-closed rows = length-map rows _
-
-pub each-mark : {P : Row → Type 0} {rows : List Row} (n status : ℕ) → ((r : Row) → P r → P (withStatus status r)) → Each P rows
-    → Each P (mark n status rows)
-unfolding mark
-each-mark zero status f e = e
-each-mark (suc i) status f nil = nil
-each-mark (suc zero) status f (cons {x = r} q e) = cons (f r q) e
-each-mark (suc (suc i)) status f (cons q e) = cons q (each-mark (suc i) status f e)
-
-close-go : (P : Row → Type 0) (r : Row) (t : Bool) → P (withStatus 3 r) → P r → P (if t then withStatus 3 r else r)
-close-go P r true p q = p
-close-go P r false p q = q
-
-pub each-closed : {P : Row → Type 0} {rows : List Row} → ((r : Row) → P r → P (withStatus 3 r)) → Each P rows → Each P (closed rows)
-unfolding closed
-each-closed {P} f e = each-mapped _ (λ r q. close-go P r (pending r) (f r q) q) e
 
 -- a row in range is in range with another status
 pub row-marked : (u : Setup) (status : ℕ) → 1 ≤ status → status ≤ 3 → (r : Row) → SoundRow u r → SoundRow u (withStatus status r)
@@ -125,10 +83,6 @@ twins-cons r rs =
     let b = and-both (not (pending r && any (alike (r .proposer) (r .counterparty) (r .code)) rs)) (noTwins rs) in
     ((λ h. (a .0 (b .0 h .0), b .0 h .1)), (λ w. b .1 (a .1 (w .0), w .1)))
 
-alike-by : (p c k : ℕ) (r : Row) → pending r ≡ true → r .proposer ≡ p → r .counterparty ≡ c → r .code ≡ k → alike p c k r ≡ true
-unfolding alike
-alike-by p c k r e x y z = rw (e, eq-eqb _ _ x, eq-eqb _ _ y, eq-eqb _ _ z)
-
 -- a row that is not pending is like no other
 alike-ended : (p c k : ℕ) (r : Row) → pending r ≡ false → alike p c k r ≡ false
 unfolding alike
@@ -142,7 +96,7 @@ turned x r e n = go (alike (x .proposer) (x .counterparty) (x .code) r) refl
     go : (t : Bool) → alike (x .proposer) (x .counterparty) (x .code) r ≡ t → t ≡ false
     go true w =
         let a = alike-true _ _ _ r w in
-        absurd (never (alike-by _ _ _ x e (sym (a .proposer)) (sym (a .counterparty)) (sym (a .code))) n)
+        absurd (never (alike-by _ _ _ x (record { is-pending = e; proposer = sym (a .proposer); counterparty = sym (a .counterparty); code = sym (a .code) })) n)
     go false w = refl
 
 twins-go : {rows : List Row} (r : Row) → noTwins rows ≡ true → Apart r rows → noTwins (rows ++ r ∷ []) ≡ true

@@ -1,6 +1,8 @@
 -- Laws of the bytes of a book.
--- Soundness: what a valid book's tests say, each by its name.
+-- Soundness: what the tests of a set-up, a row and a schedule say, each by its name.
 pub mod Soundness
+-- SoundBooks: what the tests of a part and of a valid book say, each by its name.
+pub mod SoundBooks
 -- KeepsRows: what one row more, a row marked, and the close of the gate do to the tests on rows.
 pub mod KeepsRows
 -- Easing: what eases an account hour, and that a confirm eases the other party.

@@ -26,7 +26,8 @@ use Rattle.book.specs.Layout.{setupRoom, scheduleWidth, partSize, usedSi
 use Rattle.book.specs.Image.{scheduleBytes, partBytes, flag, savedBytes, sectionsWith, sections, image, scheduleIn, partIn, savedIn, decode}
 use Rattle.book.specs.Valid.{valid, isBookOf}
 use Rattle.book.specs.Plain.{partPlain, savedPlain, bookPlainTests, bookPlain}
-use Rattle.book.proofs.Soundness.{SoundBook, SavedSound, all-holds, holds-all, sound}
+use Rattle.book.proofs.Soundness.{all-holds, holds-all}
+use Rattle.book.proofs.SoundBooks.{SoundBook, SavedSound, sound}
 use Rattle.book.proofs.Sizes.{fits, length-schedule, wide-book}
 use Rattle.book.proofs.Round.{schedule-again, same-refl, book-is-image, length-book}
 use Rattle.book.proofs.Places.{bookAt, counts-at, decode-places}

@@ -1,5 +1,5 @@
 -- The book that an accepted set-up opens is valid: with no rows there is nothing to break a margin or to be covered.
-use Prim.Native.Nat.{ℕ, _+_, _-_, _*_, _≤_}
+use Prim.Native.Nat.{ℕ, _+_, _*_, _≤_}
 use mathlib.Core.Path.{_≡_, refl, sym, _∙_}
 use mathlib.Core.List.{List, [], map}
 use mathlib.Core.Option.{none}
@@ -19,10 +19,11 @@ use Rattle.rules.proofs.Totals.{total-zero, total-cong}
 use Rattle.book.specs.Layout.{usedSize}
 use Rattle.book.specs.Image.{image}
 use Rattle.book.specs.Valid.{noTwins, valid, isBookOf}
-use Rattle.book.proofs.Soundness.{SoundPart, sound-setup, book-sound}
+use Rattle.book.proofs.Soundness.{sound-setup}
+use Rattle.book.proofs.SoundBooks.{SoundPart, book-sound}
 use Rattle.book.proofs.SetupRanges.{SoundOperator}
 use Rattle.book.proofs.Round.{image-is-book}
-use Rattle.book.proofs.SetupAgain.{accepted-values, accepted-sound}
+use Rattle.book.proofs.SetupAgain.{accepted-in-range, accepted-sound}
 
 guarantees-in-range : {os : List Operator} → Each SoundOperator os → Each (λ g. g .0 ≤ mostGuarantee) (map (λ x. x .guarantee) os)
 guarantees-in-range nil = nil
@@ -45,7 +46,7 @@ module _ (s : List ℕ) (h : setupRefusal s ≡ none) where
   opened-part =
       record {
         guarantees-all = length-map (operatorsIn s) _ ∙ sym (length-map (operatorsIn s) _);
-        guarantees-high = guarantees-in-range (accepted-values s h .operators-sound);
+        guarantees-high = guarantees-in-range (accepted-in-range s h .operators-sound);
         rows-high = omega arith;
         rows-sound = nil;
         no-twins = refl;

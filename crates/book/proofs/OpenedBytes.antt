@@ -5,7 +5,6 @@ use mathlib.Core.Path.{_≡_, refl, sym, ap, _∙_}
 use mathlib.Core.List.{List, [], _∷_, _++_, map, append-assoc}
 use mathlib.Core.Option.{none}
 use native.Mathlib.Nat.{mul-zero, add-zero}
-use native.Mathlib.Numerals.{add-one}
 use native.Mathlib.Omega.{arith}
 use lib.ListN.{length, set, take, drop, replicate, length-map, length-append, length-drop, take-append-drop}
 use lib.Seq.{take-all, drop-drop, length-take-le}
@@ -16,7 +15,7 @@ use Rattle.wire.proofs.NumberLaws.{length-le, le-number-wide, bytes-take, bytes
 use Rattle.wire.proofs.RegionLaws.{splice-take-drop, length-splice, splice-left, splice-right}
 use Rattle.wire.proofs.ZeroLaws.{length-zeros, zeros-none, zeros-add, le-zero, splice-zeros, length-padded}
 use Rattle.wire.proofs.PartLaws.{write-part, write-whole, wide-zeros, wide-set, flat-zeros}
-use Rattle.wire.proofs.PackLaws.{write-number, length-pack}
+use Rattle.wire.proofs.PackLaws.{write-number}
 use Rattle.wire.proofs.SlotLaws.{uniform-map, length-uniform, slots-split, slots-none}
 use Rattle.units.specs.declared.Cents.{Cents}
 use Rattle.units.specs.Units.{cents}
@@ -28,35 +27,17 @@ use Rattle.rules.specs.Books.{Setup, operatorCount, accountCount, pointCount, c
 use Rattle.rules.specs.Opening.{countsIn, operatorsFrom, setupLength, operatorIn, operatorsIn, setupOf, guaranteesOf, operatorBytes, accountBytes, pointBytes, operatorsOf, setupBytes, setupRefusal, opened}
 use Rattle.rules.specs.Registration.{moved}
 use Rattle.rules.proofs.SetupEntries.{operator-at, counts-of-setup}
+use Rattle.rules.proofs.SetupShape.{accepted-shape}
 use Rattle.book.specs.Layout.{setupRoom, rowWidth, scheduleWidth, accountWidth, partWidths, partSize, usedSize, bookWidths, phaseAt, presentAt}
 use Rattle.book.specs.Image.{rowBytes, scheduleBytes, accountNets, netsBytes, partSections, partBytes, savedBytes, storedSetup, sectionsWith, sections, image}
 use Rattle.book.specs.Fresh.{unlodged, lodged}
-use Rattle.book.proofs.Soundness.{sound-setup, sound}
-use Rattle.book.proofs.Sizes.{Fits, fits, length-row, length-schedule, length-guarantee, length-joined, length-operators, length-stored}
+use Rattle.book.proofs.Soundness.{sound-setup}
+use Rattle.book.proofs.SoundBooks.{sound}
+use Rattle.book.proofs.Sizes.{Fits, fits, length-row, length-schedule, length-guarantee, length-joined, length-operator-bytes, length-operators, length-stored}
 use Rattle.book.proofs.Opened.{opened-valid}
-use Rattle.book.proofs.SetupAgain.{bytes-again, length-guarantees, accepted-length, accepted-sound}
+use Rattle.book.proofs.SetupAgain.{bytes-again, length-guarantees, accepted-sound}
 
 -- ---- the two loops over operators
-
--- their steps
-pub unlodged-done : (s : List ℕ) (at n : ℕ) → n ≤ 0 → unlodged s at n ≡ s
-unfolding unlodged
-unlodged-done s at zero h = refl
-unlodged-done s at (suc n) h = absurd (omega arith)
-
-pub unlodged-step : (s : List ℕ) (at n m : ℕ) → n ≡ m + 1 → unlodged s at n ≡ unlodged (splice s at (zeros 8)) (at + 10) m
-unfolding unlodged
-unlodged-step s at n m e = rw (e, add-one)
-
-pub lodged-done : (d : List ℕ) (at : ℕ) (s : List ℕ) (from n : ℕ) → n ≤ 0 → lodged d at s from n ≡ d
-unfolding lodged
-lodged-done d at s from zero h = refl
-lodged-done d at s from (suc n) h = absurd (omega arith)
-
-pub lodged-step : (d : List ℕ) (at : ℕ) (s : List ℕ) (from n m : ℕ) → n ≡ m + 1
-    → lodged d at s from n ≡ lodged (splice d at (take 8 (drop from s))) (at + 8) s (from + 10) m
-unfolding lodged
-lodged-step d at s from n m e = rw (e, add-one)
 
 -- bytes replaced, and then those that follow them
 splice-next : (d : List ℕ) (at next : ℕ) (x y : List ℕ) → next ≡ at + length x → at + length x ≤ length d → splice (splice d at x) next y ≡ splice d at (x ++ y)
@@ -117,9 +98,6 @@ operators-emptied (g ∷ gs) (m ∷ ms) h = rw (operators-emptied gs ms (omega a
 operator-emptied : (x : Operator) → splice (operatorBytes x) 0 (zeros 8) ≡ operatorBytes (emptied x)
 operator-emptied x = rw (← (le-zero 8)) (write-number (8 ∷ 2 ∷ []) (x .guarantee .0 ∷ x .maintenance ∷ []) 0 0 0 refl (omega arith) refl)
 
-length-operator : (x : Operator) → length (operatorBytes x) ≡ 10
-length-operator x = length-pack (8 ∷ 2 ∷ []) (x .guarantee .0 ∷ x .maintenance ∷ []) refl
-
 emptied-entries : (os : List Operator) (a rest : List ℕ) (at : ℕ) → at ≡ length a
     → unlodged (a ++ (joined operatorBytes os ++ rest)) at (length os) ≡ a ++ (joined operatorBytes (map emptied os) ++ rest)
 unfolding unlodged joined
@@ -130,10 +108,10 @@ emptied-entries (x ∷ os) a rest at e =
     let one : splice (a ++ ((operatorBytes x ++ joined operatorBytes os) ++ rest)) at (zeros 8) ≡ (a ++ y) ++ t =
     ap (λ (l : List ℕ). splice (a ++ l) at (zeros 8)) (append-assoc (operatorBytes x) (joined operatorBytes os) rest)
     ∙ splice-right a (operatorBytes x ++ t) at 0 (zeros 8) (omega arith)
-    ∙ ap (λ (l : List ℕ). a ++ l) (splice-left (operatorBytes x) t 0 (zeros 8) (omega (arith, length-operator x, length-zeros 8)))
+    ∙ ap (λ (l : List ℕ). a ++ l) (splice-left (operatorBytes x) t 0 (zeros 8) (omega (arith, length-operator-bytes x, length-zeros 8)))
     ∙ rw (operator-emptied x) (sym (append-assoc a y t)) in
     ap (λ (l : List ℕ). unlodged l (at + 10) (length os)) one
-    ∙ emptied-entries os (a ++ y) rest (at + 10) (omega (arith, length-append a y, length-operator (emptied x)))
+    ∙ emptied-entries os (a ++ y) rest (at + 10) (omega (arith, length-append a y, length-operator-bytes (emptied x)))
     ∙ simp append-assoc
 
 -- the guarantees in the bytes of a set-up made zero one by one leave the stored set-up
@@ -162,7 +140,7 @@ unlodged-setup u gs rest g e =
 module _ (s : List ℕ) (b : Bytes s) (h : setupRefusal s ≡ none) where
   whole : setupBytes (setupOf s) (guaranteesOf s) ≡ s
   whole =
-      let l = accepted-length s h in
+      let l = accepted-shape s h .exact in
       bytes-again s b (omega arith) ∙ take-all (setupLength (countsIn s)) s (omega arith)
 
   fit : Fits (opened s)
@@ -171,7 +149,7 @@ module _ (s : List ℕ) (b : Bytes s) (h : setupRefusal s ≡ none) where
   pub length-stored-opened : length (storedSetup (setupOf s)) ≡ length s
   length-stored-opened =
       length-stored (setupOf s) (sound-setup (setupOf s) (accepted-sound s h) .estimates-all)
-      ∙ ap setupLength (counts-of-setup s) ∙ sym (accepted-length s h)
+      ∙ ap setupLength (counts-of-setup s) ∙ sym (accepted-shape s h .exact)
 
   -- the set-up at the front of zeros, its guarantees made zero
   pub unlodged-opened : (size : ℕ) → length s ≤ size
@@ -255,7 +233,7 @@ opening-writes top size s b h g =
     let ls = length-stored-opened s b h in
     let lg : length (guaranteesOf s) ≤ mostOperators = f .part-fits .guarantees-fit in
     let lo = length-guarantees s in
-    let l = accepted-length s h in
+    let l = accepted-shape s h .exact in
     let d : List ℕ = splice (splice (zeros size) 0 t) phaseAt (le 1 1) in
     let l0 = length-zeros size in
     let l1 = length-splice (zeros size) 0 t (omega arith) in

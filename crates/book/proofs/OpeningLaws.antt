@@ -3,7 +3,7 @@
 use Prim.Native.Nat.{ℕ, zero, suc, _+_, _*_, _≤_, _<_}
 use mathlib.Core.Path.{_≡_, refl, sym, ap, _∙_}
 use mathlib.Core.List.{List}
-use mathlib.Core.Option.{Option, none, some}
+use mathlib.Core.Option.{none, some}
 use mathlib.Core.Bool.{true}
 use native.Mathlib.Numerals.{add-one}
 use native.Mathlib.Omega.{arith}
@@ -17,18 +17,18 @@ use Rattle.wire.proofs.ZeroLaws.{zeros-add, le-zero}
 use Rattle.rules.specs.declared.Counts.{Counts}
 use Rattle.rules.specs.declared.Refusal.{Refusal}
 use Rattle.rules.specs.declared.Refusal.the-variants.{NotABook}
-use Rattle.rules.specs.declared.Checked.the-variants.{Clear, Fails}
 use Rattle.rules.specs.Limits.{bookSize, mostOperators}
-use Rattle.rules.specs.Verdicts.{lowest, checked, accepted, refused}
-use Rattle.rules.specs.Opening.{countsIn, operatorsFrom, setupLength, setupRefusal, openRefusal, openOutcome, opened}
+use Rattle.rules.specs.Verdicts.{lowest, accepted, refused}
+use Rattle.rules.specs.Opening.{countsIn, operatorsFrom, setupRefusal, openRefusal, openOutcome, opened}
 use Rattle.rules.proofs.Clearing.{clear, clear-lowest}
+use Rattle.rules.proofs.SetupShape.{accepted-shape}
 use Rattle.book.specs.Layout.{setupRoom, phaseAt, presentAt}
 use Rattle.book.specs.Valid.{isBook, bookBytes}
 use Rattle.book.specs.Fresh.{unlodged, lodged}
 use Rattle.book.specs.Doors.{openBytes}
-use Rattle.book.proofs.Soundness.{sound}
+use Rattle.book.proofs.SoundBooks.{sound}
 use Rattle.book.proofs.Sizes.{Fits, fits}
-use Rattle.book.proofs.SetupAgain.{length-guarantees, accepted-length}
+use Rattle.book.proofs.SetupAgain.{length-guarantees}
 use Rattle.book.proofs.Opened.{opened-valid, opened-is-book}
 use Rattle.book.proofs.OpenedBytes.{length-stored-opened, opening-writes}
 
@@ -80,7 +80,7 @@ module _ (s : List ℕ) (b : Bytes s) (h : setupRefusal s ≡ none) where
   unfolding opened
   openable e =
       let f : Fits (opened s) = fits (opened s) (sound (opened s) (opened-valid s h)) in
-      let l = accepted-length s h in
+      let l = accepted-shape s h .exact in
       let ls = length-stored-opened s b h in
       let lg = length-guarantees s in
       let fs = f .setup-fits in
@@ -125,12 +125,3 @@ module _ (s book : List ℕ) where
   pub open-leaves-a-book : openRefusal s book ≡ none → isBook (openBytes s book) ≡ true
   unfolding openBytes openRefusal setupRefusal
   open-leaves-a-book h = rw h (opened-is-book s (clear-lowest _ (clear _ h .1)) _ bookSize (omega arith))
-
--- what a row of checks comes to, taken back
-pub checked-clear : (o : Option Refusal) → checked o ≡ Clear → o ≡ none
-checked-clear none h = refl
-checked-clear (some r) h = cc
-
-pub checked-fails : (o : Option Refusal) (r : Refusal) → checked o ≡ Fails r → o ≡ some r
-checked-fails none r h = cc
-checked-fails (some q) r h = cc

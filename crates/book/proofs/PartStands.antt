@@ -1,19 +1,17 @@
 -- A part stands exactly where the tests that code makes hold: its guarantees and rows are read at their places in the whole bytes, and
 -- what follows of the rows is read off the table of their sums.
-use Prim.Native.Nat.{ℕ, zero, suc, _+_, _-_, _*_, _≤_, _<_}
-use mathlib.Core.Path.{_≡_, refl, sym, ap, _∙_}
+use Prim.Native.Nat.{ℕ, _+_, _-_, _*_, _≤_, _<_}
+use mathlib.Core.Path.{_≡_, sym, ap, _∙_}
 use mathlib.Core.List.{List, [], _∷_, map}
 use mathlib.Core.Bool.{Bool, true, false, _&&_}
-use native.Mathlib.Nat.{mul-suc}
 use native.Mathlib.Omega.{arith}
 use lib.ListN.{length, getD, take, drop, length-map}
-use lib.Seq.{drop-drop}
 use lib.Dec.{leb}
 use borrow.Author.Tests.{eq-eqb, le-leb, leb-true, lt-leb}
 use Rattle.wire.specs.Numbers.{number, numberAt}
 use Rattle.wire.specs.Parts.{cut, chunks}
-use Rattle.wire.proofs.PartLaws.{take-drop-take, cut-at, inner}
-use Rattle.wire.proofs.SlotLaws.{length-chunks}
+use Rattle.wire.proofs.PartLaws.{cut-at, inner}
+use Rattle.wire.proofs.SlotLaws.{length-chunks, chunks-front}
 use Rattle.units.specs.declared.Cents.{Cents}
 use Rattle.units.specs.Units.{cents}
 use Rattle.rules.specs.declared.Counts.{Counts}
@@ -31,7 +29,8 @@ use Rattle.book.specs.Valid.{rowOk, noTwins, marginsKept, guaranteesKept
 use Rattle.book.specs.Sums.{rowsFrom, guaranteesFrom, InTable, SumsOf, Tabled, netStored, netsStored}
 use Rattle.book.specs.Plain.{netsHeld, partAt, partPlain}
 use Rattle.book.specs.Stands.{SetupKnown, rowCount, rowsOf, partWith, guaranteesStand, rowsStand, sumsStand, partStands}
-use Rattle.book.proofs.Soundness.{SoundRow, sound-row, sound-part, all-holds, holds-all, every-upTo, upTo-every}
+use Rattle.book.proofs.Soundness.{SoundRow, sound-row, all-holds, holds-all, every-upTo, upTo-every}
+use Rattle.book.proofs.SoundBooks.{sound-part}
 use Rattle.book.proofs.CoverLaws.{length-guarantees-from}
 use Rattle.book.proofs.StandLaws.{fails-with}
 
@@ -59,17 +58,6 @@ unfolding sumsStand
 sums-stand s at rows table sums n m g = rw (n, m, g, nets-by-sums s at rows table sums)
 
 -- ---- a part at its places
-
--- cells read in a stretch that holds them all
-chunks-within : (w n at m : ℕ) (s : List ℕ) → at + w * n ≤ m → chunks w n (drop at (take m s)) ≡ chunks w n (drop at s)
-unfolding chunks
-chunks-within w zero at m s h = refl
-chunks-within w (suc n) at m s h =
-    let e : w * suc n ≡ w + w * n = omega (arith, mul-suc w n) in
-    rw (take-drop-take w at m s (omega arith), drop-drop w at (take m s), drop-drop w at s, chunks-within w n (at + w) m s (omega arith))
-
-pub chunks-front : (w n m : ℕ) (s : List ℕ) → w * n ≤ m → chunks w n (take m s) ≡ chunks w n s
-chunks-front w n m s h = chunks-within w n 0 m s (omega arith)
 
 same-part : {g g′ : List Cents} {r r′ : List Row} → g ≡ g′ → r ≡ r′ → _≡_ {A = Part} (record { guarantees = g; rows = r }) (record { guarantees = g′; rows = r′ })
 same-part g r = rw (g, r)

@@ -20,7 +20,8 @@ use Rattle.rules.proofs.Searches.{each-map}
 use Rattle.rules.proofs.Balanced.{Parties, parties, totalℤ, nets-cancel}
 use Rattle.rules.proofs.SignedReading.{keeps-margins-signed, net-keeps-margins}
 use Rattle.book.specs.Valid.{valid}
-use Rattle.book.proofs.Soundness.{SoundRow, sound}
+use Rattle.book.proofs.Soundness.{SoundRow}
+use Rattle.book.proofs.SoundBooks.{sound}
 use Rattle.book.proofs.Keeps.{keeps-valid, no-call-changes-setup}
 use Rattle.book.proofs.Opened.{opened-valid}
 

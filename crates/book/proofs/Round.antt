@@ -1,6 +1,6 @@
 -- A valid book is read back from its image, as each value fits its bytes, and so bytes are a book exactly when they are the image of a
 -- valid one.
-use Prim.Native.Nat.{ℕ, _-_, _≤_}
+use Prim.Native.Nat.{ℕ, _≤_}
 use mathlib.Core.Path.{_≡_, refl, sym, ap, _∙_}
 use mathlib.Core.List.{List, [], _∷_, map}
 use mathlib.Core.Option.{Option, none, some}
@@ -27,7 +27,8 @@ use Rattle.rules.proofs.Searches.{each-map}
 use Rattle.book.specs.Layout.{rowWidths, rowWidth, scheduleWidths, scheduleWidth, partWidths, usedSize, bookWidths}
 use Rattle.book.specs.Image.{rowValues, rowBytes, scheduleValues, scheduleBytes, partSections, partBytes, flag, savedBytes, sectionsWith, sections, image, rowIn, scheduleIn, partOf, partIn, savedIn, bookOf, decode}
 use Rattle.book.specs.Valid.{valid, same, isBookOf}
-use Rattle.book.proofs.Soundness.{SoundSetup, SoundRow, SoundSchedule, SoundPart, SavedSound, sound}
+use Rattle.book.proofs.Soundness.{SoundSetup, SoundRow, SoundSchedule}
+use Rattle.book.proofs.SoundBooks.{SoundPart, SavedSound, sound}
 use Rattle.book.proofs.Sizes.{row-small, schedule-small, part-fits-of, fits, length-row, length-schedule, length-guarantee, wide-part, wide-book, length-image}
 use Rattle.book.proofs.StoredSetup.{setup-back}
 

@@ -1,18 +1,17 @@
 -- Set-up bytes are said again by what was read from them, and opening accepts them exactly where the set-up that they say is sound.
-use Prim.Native.Nat.{ℕ, zero, suc, _+_, _*_, _≤_, _<_}
+use Prim.Native.Nat.{ℕ, _+_, _*_, _≤_, _<_}
 use mathlib.Core.Path.{_≡_, refl, sym, ap, _∙_}
 use mathlib.Core.List.{List, [], _∷_, _++_, map}
 use mathlib.Core.Option.{none}
 use mathlib.Core.Bool.{true, false, not, _||_}
-use native.Mathlib.Nat.{mul-suc}
 use native.Mathlib.Omega.{arith}
 use lib.ListN.{length, getD, take, drop, replicate, length-map, length-drop}
-use lib.Seq.{take-add, drop-drop, getD-take, length-take-le}
+use lib.Seq.{take-take, take-add, getD-take, length-take-le}
 use lib.Dec.{eqb, ltb}
-use borrow.Author.Tests.{eqb-true, eq-eqb, le-ltb, not-false, not-true}
+use borrow.Author.Tests.{eq-eqb, le-ltb, not-true}
 use Rattle.wire.specs.Numbers.{le, Bytes}
 use Rattle.wire.proofs.NumberLaws.{bytes-drop}
-use Rattle.wire.proofs.PartLaws.{take-drop-take}
+use Rattle.wire.proofs.SlotLaws.{chunks-within}
 use Rattle.units.specs.declared.Cents.{Cents}
 use Rattle.units.specs.Units.{cents}
 use Rattle.rules.specs.declared.Counts.{Counts}
@@ -20,11 +19,13 @@ use Rattle.rules.specs.Basics.{entries, joined}
 use Rattle.rules.specs.Books.{operatorCount, accountCount, pointCount}
 use Rattle.rules.specs.Opening.{priceIn, operatorIn, accountIn, pointIn, countsIn, operatorsFrom, accountsFrom, pointsFrom, setupLength, estimatesIn, operatorsIn, accountsIn, pointsIn, setupOf, guaranteesOf, operatorBytes, accountBytes, pointBytes, operatorsOf, setupBytes, badCounts, misshapen, faultyOffset, setupChecks, setupRefusal}
 use Rattle.rules.proofs.Tests.{or-neither}
-use Rattle.rules.proofs.Clearing.{clear, clear-lowest, spared, spared↑}
-use Rattle.rules.proofs.SetupEntries.{length-entries, joined-entries, counts-of-setup}
+use Rattle.rules.proofs.Clearing.{clear, clear-lowest, spared}
+use Rattle.rules.proofs.SetupShape.{accepted-values}
+use Rattle.rules.proofs.SetupEntries.{entries-cells, length-entries, joined-entries, counts-of-setup}
+use Rattle.book.specs.Layout.{setupRoom}
 use Rattle.book.specs.Image.{storedSetup}
 use Rattle.book.specs.Valid.{setupTests, setupOk}
-use Rattle.book.proofs.Soundness.{sound-setup, holds-all, all-holds}
+use Rattle.book.proofs.Soundness.{SoundSetup, sound-setup, holds-all, all-holds}
 use Rattle.book.proofs.SetupRanges.{InRange, values-in-range, in-range-values, operators-again, sound-without}
 use Rattle.book.proofs.StoredSetup.{price-again, operator-again, account-again, point-again}
 
@@ -88,26 +89,19 @@ module _ (s : List ℕ) (h : setupRefusal s ≡ none) where
   unfolding setupRefusal
   shape = spared (misshapen s) _ (clear (setupChecks s) h .0)
 
-  parts : ((ltb (length s) 5 ≡ false) × (badCounts (countsIn s) ≡ false)) × (not (eqb (length s) (setupLength (countsIn s))) ≡ false)
+  accepted-counts : badCounts (countsIn s) ≡ false
   unfolding misshapen
-  parts =
+  accepted-counts =
       let w = or-neither (ltb (length s) 5 || badCounts (countsIn s)) (not (eqb (length s) (setupLength (countsIn s)))) .0 shape in
-      (or-neither (ltb (length s) 5) (badCounts (countsIn s)) .0 (w .0), w .1)
+      or-neither (ltb (length s) 5) (badCounts (countsIn s)) .0 (w .0) .1
 
-  pub accepted-counts : badCounts (countsIn s) ≡ false
-  accepted-counts = parts .0 .1
-
-  pub accepted-length : length s ≡ setupLength (countsIn s)
-  accepted-length = eqb-true _ _ (not-false _ (parts .1))
-
-  pub accepted-values : InRange (setupOf s) (operatorsIn s)
-  unfolding setupRefusal
-  accepted-values = values-in-range (setupOf s) (operatorsIn s) (spared↑ _ _ (clear (setupChecks s) h .1 .0))
+  pub accepted-in-range : InRange (setupOf s) (operatorsIn s)
+  accepted-in-range = values-in-range (setupOf s) (operatorsIn s) (accepted-values s h)
 
   without : InRange (setupOf s) (operatorsOf (replicate (operatorCount (setupOf s)) (cents 0)) (setupOf s .maintenance))
   unfolding setupOf
   without =
-      let v = accepted-values in
+      let v = accepted-in-range in
       record {
         estimates-sound = v .estimates-sound;
         operators-sound = sound-without (operatorsIn s) (v .operators-sound);
@@ -140,11 +134,7 @@ sound-accepted s l z h =
 
 module _ {A : Type 0} (w : ℕ) (say : List ℕ → A) where
   pub entries-first : (n at m : ℕ) (s : List ℕ) → at + w * n ≤ m → entries w say n (drop at (take m s)) ≡ entries w say n (drop at s)
-  unfolding entries
-  entries-first zero at m s h = refl
-  entries-first (suc n) at m s h =
-      let e : w * suc n ≡ w + w * n = omega (arith, mul-suc w n) in
-      rw (take-drop-take w at m s (omega arith), drop-drop w at (take m s), drop-drop w at s, entries-first n (at + w) m s (omega arith))
+  entries-first n at m s h = rw (entries-cells w say n (drop at (take m s)), entries-cells w say n (drop at s), chunks-within w n at m s h)
 
 pub counts-first-bytes : (m : ℕ) (s : List ℕ) → 5 ≤ m → countsIn (take m s) ≡ countsIn s
 counts-first-bytes m s h =
@@ -200,3 +190,21 @@ module _ (r : List ℕ) where
       (length-take-le (setupLength (countsIn r)) r l ∙ ap setupLength (sym counts-front))
       (ap (map (λ x. x .guarantee)) operators-front ∙ z ∙ ap (λ (c : Counts). replicate (c .operators) (cents 0)) (sym counts-front))
       (ap setupOk setup-front ∙ h)
+
+-- ---- a sound set-up at the front of a book
+
+module _ (s : List ℕ) (k : SoundSetup (setupOf (take setupRoom s))) where
+  counted : countsIn (take setupRoom s) ≡ countsIn s
+  counted = counts-first-bytes setupRoom s (omega arith)
+
+  pub setup-short : setupLength (countsIn s) ≤ setupRoom
+  setup-short =
+      omega (arith, ap setupLength (counts-of-setup (take setupRoom s) ∙ counted), k .hours-high, k .operators-high, k .accounts-high, k .points-high)
+
+  -- what is read from all bytes is what is read from the set-up's room
+  pub setup-in-front : setupOf (take setupRoom s) ≡ setupOf s
+  setup-in-front =
+      let first : List ℕ = take setupRoom s in
+      sym (setup-front first)
+      ∙ ap setupOf (ap (λ (c : Counts). take (setupLength c) first) counted ∙ take-take (setupLength (countsIn s)) setupRoom s setup-short)
+      ∙ setup-front s

@@ -7,7 +7,6 @@ use mathlib.Core.List.{List, _∷_, map}
 use mathlib.Core.Option.{none}
 use mathlib.Core.Bool.{true, _&&_}
 use native.Mathlib.Nat.{zero-add}
-use native.Mathlib.Numerals.{add-one}
 use native.Mathlib.Omega.{arith}
 use lib.ListN.{length, getD, take, drop, replicate, length-drop, take-append-drop}
 use lib.Seq.{take-take, length-take-le, take-all, drop-drop, drop-at}
@@ -32,20 +31,10 @@ use Rattle.book.specs.Plain.{noneLodged}
 use Rattle.book.proofs.Soundness.{SoundSetup, sound-setup}
 use Rattle.book.proofs.Sizes.{length-stored}
 use Rattle.book.proofs.StoredSetup.{guarantees-back}
-use Rattle.book.proofs.SetupAgain.{NoGuarantees, setup-again, entries-first, counts-first-bytes, accepted-sound, front-sound, front-accepted}
+use Rattle.book.proofs.SetupAgain.{NoGuarantees, setup-again, entries-first, counts-first-bytes, setup-short, accepted-sound, front-sound, front-accepted}
 use Rattle.book.proofs.Places.{counts-at}
 
 -- ---- no guarantee in the set-up
-
--- the test, step by step
-pub none-lodged-done : (s : List ℕ) (at n : ℕ) → n ≤ 0 → noneLodged s at n ≡ true
-unfolding noneLodged
-none-lodged-done s at zero h = refl
-none-lodged-done s at (suc n) h = absurd (omega arith)
-
-pub none-lodged-step : (s : List ℕ) (at n m : ℕ) → n ≡ m + 1 → noneLodged s at n ≡ (zerosFrom s at 8 && noneLodged s (at + 10) m)
-unfolding noneLodged
-none-lodged-step s at n m e = rw (e, add-one)
 
 -- the guarantee of an operator is none where its bytes are zero
 lodged-none : (s : List ℕ) (at : ℕ) → Bytes s → at + 10 ≤ length s → (zerosFrom s at 8 ≡ true) ↔ (operatorIn (take 10 (drop at s)) .guarantee ≡ cents 0)
@@ -95,7 +84,7 @@ module _ (s : List ℕ) (b : Bytes s) (l : setupRoom ≤ length s) (k : SoundSet
   stored-length = length-stored u (k .estimates-all) ∙ ap setupLength (counts-of-setup first ∙ counts)
 
   inside : setupLength n ≤ setupRoom
-  inside = omega (arith, ap setupLength (counts-of-setup first ∙ counts), k .hours-high, k .operators-high, k .accounts-high, k .points-high)
+  inside = setup-short s k
 
   guarantees-at : guaranteesOf first ≡ map (λ x. x .guarantee) (entries 10 operatorIn (n .operators) (drop (operatorsFrom n) s))
   unfolding guaranteesOf operatorsIn

@@ -15,6 +15,9 @@ use Rattle.wire.proofs.PackLaws.{length-pack}
 use Rattle.wire.proofs.SlotLaws.{uniform-map, length-uniform, length-slots}
 use Rattle.units.specs.declared.Cents.{Cents}
 use Rattle.units.specs.Units.{cents}
+use Rattle.rules.specs.declared.Operator.{Operator}
+use Rattle.rules.specs.declared.Account.{Account}
+use Rattle.rules.specs.declared.Point.{Point}
 use Rattle.rules.specs.declared.Row.{Row}
 use Rattle.rules.specs.declared.Schedule.{Schedule}
 use Rattle.rules.specs.Basics.{joined, upTo, Each}
@@ -25,7 +28,8 @@ use Rattle.rules.specs.Registration.{netOf, figure}
 use Rattle.rules.proofs.Searches.{counting-length, each-map}
 use Rattle.book.specs.Layout.{setupRoom, rowWidths, rowWidth, scheduleWidths, scheduleWidth, accountWidth, partWidths, partSize, usedSize, bookWidths}
 use Rattle.book.specs.Image.{rowValues, rowBytes, scheduleValues, scheduleBytes, accountNets, netsBytes, partSections, partBytes, savedBytes, storedSetup, sectionsWith, sections, image}
-use Rattle.book.proofs.Soundness.{SoundSetup, SoundRow, SoundSchedule, SoundPart, SavedSound, SoundBook}
+use Rattle.book.proofs.Soundness.{SoundSetup, SoundRow, SoundSchedule}
+use Rattle.book.proofs.SoundBooks.{SoundPart, SavedSound, SoundBook}
 
 -- ---- what fits its room
 
@@ -148,6 +152,15 @@ length-joined w bytes [] h = omega arith
 length-joined w bytes (x ∷ xs) h =
     length-append (bytes x) (joined bytes xs) ∙ omega (arith, h x, length-joined w bytes xs h)
 
+pub length-operator-bytes : (x : Operator) → length (operatorBytes x) ≡ 10
+length-operator-bytes x = length-pack (8 ∷ 2 ∷ []) _ refl
+
+pub length-account-bytes : (x : Account) → length (accountBytes x) ≡ 10
+length-account-bytes x = length-pack (1 ∷ 1 ∷ 4 ∷ 4 ∷ []) _ refl
+
+pub length-point-bytes : (x : Point) → length (pointBytes x) ≡ 11
+length-point-bytes x = length-pack (1 ∷ 1 ∷ 1 ∷ 4 ∷ 4 ∷ []) _ refl
+
 -- as many operators as guarantees and maintenances
 pub length-operators : (gs : List Cents) (ms : List ℕ) → length gs ≡ length ms → length (operatorsOf gs ms) ≡ length ms
 unfolding operatorsOf
@@ -163,9 +176,9 @@ unfolding setupBytes
 length-setup u gs g e =
     let o = length-operators gs (u .maintenance) g in
     let le4 = length-joined 4 (λ p. le 4 (p .0)) (u .estimates) (λ p. length-le 4 (p .0)) in
-    let lo = length-joined 10 operatorBytes (operatorsOf gs (u .maintenance)) (λ x. length-pack (8 ∷ 2 ∷ []) (x .guarantee .0 ∷ x .maintenance ∷ []) refl) in
-    let la = length-joined 10 accountBytes (u .accounts) (λ x. length-pack (1 ∷ 1 ∷ 4 ∷ 4 ∷ []) (x .operator ∷ x .kind ∷ x .lower .0 ∷ x .upper .0 ∷ []) refl) in
-    let lp = length-joined 11 pointBytes (u .points) (λ x. length-pack (1 ∷ 1 ∷ 1 ∷ 4 ∷ 4 ∷ []) (x .account ∷ x .kind ∷ x .zone ∷ x .injection .0 ∷ x .withdrawal .0 ∷ []) refl) in
+    let lo = length-joined 10 operatorBytes (operatorsOf gs (u .maintenance)) length-operator-bytes in
+    let la = length-joined 10 accountBytes (u .accounts) length-account-bytes in
+    let lp = length-joined 11 pointBytes (u .points) length-point-bytes in
     rw (length-append, length-append, length-append) (omega arith)
 
 pub length-stored : (u : Setup) → length (u .estimates) ≡ u .hours → length (storedSetup u) ≡ setupLength (countsOf u)

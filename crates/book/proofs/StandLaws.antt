@@ -1,12 +1,12 @@
 -- The set-up's section as code tests it: opening accepts its bytes and no guarantee stands in them exactly where it stands.
-use Prim.Native.Nat.{ℕ, _+_, _-_, _≤_}
+use Prim.Native.Nat.{ℕ, zero, suc, _+_, _-_, _≤_}
 use mathlib.Core.Path.{_≡_, refl, sym, ap, _∙_}
 use mathlib.Core.List.{List, [], _∷_}
-use mathlib.Core.Option.{Option, none, some}
+use mathlib.Core.Option.{Option, none}
 use mathlib.Core.Bool.{Bool, true, false, not, _&&_, and-assoc, and-true}
+use native.Mathlib.Numerals.{add-one}
 use native.Mathlib.Omega.{arith}
 use lib.ListN.{length, take, replicate, length-replicate}
-use lib.Seq.{take-take}
 use borrow.Author.Tests.{not-true}
 use Rattle.wire.specs.Numbers.{Bytes}
 use Rattle.wire.specs.Regions.{zerosFrom}
@@ -14,10 +14,8 @@ use Rattle.units.specs.declared.Cents.{Cents}
 use Rattle.units.specs.Units.{cents}
 use Rattle.rules.specs.declared.Counts.{Counts}
 use Rattle.rules.specs.declared.Refusal.{Refusal}
-use Rattle.rules.specs.declared.Checked.the-variants.{Clear, Fails}
 use Rattle.rules.specs.Basics.{isSome, Each, nil, cons}
 use Rattle.rules.specs.Limits.{thousand, bookSize}
-use Rattle.rules.specs.Verdicts.{checked}
 use Rattle.rules.specs.Books.{Setup, operatorCount}
 use Rattle.rules.specs.Opening.{countsIn, operatorsFrom, setupLength, setupOf, operatorsOf, setupRefusal}
 use Rattle.rules.proofs.Tests.{and-both}
@@ -29,50 +27,27 @@ use Rattle.book.specs.Plain.{noneLodged}
 use Rattle.book.specs.Stands.{setupStands, SetupKnown}
 use Rattle.book.proofs.Soundness.{SoundSetup, sound-setup}
 use Rattle.book.proofs.SetupRanges.{SoundOperator, values-in-range}
-use Rattle.book.proofs.SetupAgain.{counts-first-bytes, setup-front}
-use Rattle.book.proofs.SetupTests.{none-lodged-done, none-lodged-step, setup-sound-in, setup-accepted-in}
+use Rattle.book.proofs.SetupAgain.{setup-short, setup-in-front}
+use Rattle.book.proofs.SetupTests.{setup-sound-in, setup-accepted-in}
 
 -- a test fails where one that holds with it fails
 pub fails-with : (t : Bool) {u : Bool} → (t ≡ true → u ≡ true) → u ≡ false → t ≡ false
 fails-with true f e = sym (f refl) ∙ e
 fails-with false f e = refl
 
--- ---- what is refused
-
-pub clear-accepts : (o : Option Refusal) → checked o ≡ Clear → true ≡ not (isSome o)
-clear-accepts none h = refl
-clear-accepts (some r) h = cc
-
-pub fails-refuses : (o : Option Refusal) (r : Refusal) → checked o ≡ Fails r → false ≡ not (isSome o)
-fails-refuses none r h = cc
-fails-refuses (some q) r h = refl
-
 -- ---- the loop over the operators
 
-pub lodged-done : (ok : Bool) (s : List ℕ) (at n : ℕ) → n ≤ 0 → (ok && noneLodged s at n) ≡ ok
-lodged-done ok s at n h = rw (none-lodged-done s at n h) (and-true ok)
+pub none-lodged-done : (ok : Bool) (s : List ℕ) (at n : ℕ) → n ≤ 0 → (ok && noneLodged s at n) ≡ ok
+unfolding noneLodged
+none-lodged-done ok s at zero h = and-true ok
+none-lodged-done ok s at (suc n) h = absurd (omega arith)
 
-pub lodged-step : {t : Bool} (ok : Bool) (s : List ℕ) (at n m : ℕ) → n ≡ m + 1 → t ≡ zerosFrom s at 8
+pub none-lodged-step : {t : Bool} (ok : Bool) (s : List ℕ) (at n m : ℕ) → n ≡ m + 1 → t ≡ zerosFrom s at 8
     → (ok && noneLodged s at n) ≡ ((ok && t) && noneLodged s (at + 10) m)
-lodged-step ok s at n m e h = rw (none-lodged-step s at n m e, h) (sym (and-assoc ok _ _))
+unfolding noneLodged
+none-lodged-step ok s at n m e h = rw (e, add-one m, h) (sym (and-assoc ok _ _))
 
--- ---- a sound set-up at the front of a book
-
-module _ (s : List ℕ) (k : SoundSetup (setupOf (take setupRoom s))) where
-  counted : countsIn (take setupRoom s) ≡ countsIn s
-  counted = counts-first-bytes setupRoom s (omega arith)
-
-  pub setup-short : setupLength (countsIn s) ≤ setupRoom
-  setup-short =
-      omega (arith, ap setupLength (counts-of-setup (take setupRoom s) ∙ counted), k .hours-high, k .operators-high, k .accounts-high, k .points-high)
-
-  -- what is read from all bytes is what is read from the set-up's room
-  pub setup-in-front : setupOf (take setupRoom s) ≡ setupOf s
-  setup-in-front =
-      let first : List ℕ = take setupRoom s in
-      sym (setup-front first)
-      ∙ ap setupOf (ap (λ (c : Counts). take (setupLength c) first) counted ∙ take-take (setupLength (countsIn s)) setupRoom s setup-short)
-      ∙ setup-front s
+-- ---- a set-up that stands is known
 
 maintenance-each : (gs : List Cents) (ms : List ℕ) → length gs ≡ length ms → Each SoundOperator (operatorsOf gs ms) → Each (λ m. m ≤ thousand) ms
 unfolding operatorsOf
@@ -103,7 +78,6 @@ sound-known s l k =
       maintenance-high = maintenance-each (replicate (operatorCount u) (cents 0)) (u .maintenance) (length-replicate (operatorCount u) (cents 0)) (v .operators-sound);
     }
 
--- a set-up that stands is known
 pub setup-known : (s : List ℕ) → length s ≡ bookSize → setupStands s ≡ true → SetupKnown s
 unfolding setupStands
 setup-known s l t =

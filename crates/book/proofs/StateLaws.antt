@@ -18,7 +18,7 @@ use Rattle.rules.proofs.Searches.{some-of, each-at}
 use Rattle.book.specs.Layout.{rowWidths, rowWidth, phaseAt, flagAt, presentAt, savedAt, rowCountAt, rowAt}
 use Rattle.book.specs.Image.{rowValues, rowBytes, rowIn, flag}
 use Rattle.book.specs.Valid.{valid, follows, isBook, bookIn, bookBytes}
-use Rattle.book.proofs.Soundness.{SoundBook, sound}
+use Rattle.book.proofs.SoundBooks.{SoundBook, sound}
 use Rattle.book.proofs.Sizes.{Fits, fits, row-small}
 use Rattle.book.proofs.KeepsRows.{follows-cons}
 use Rattle.book.proofs.Keeps.{batch-follows}

@@ -10,7 +10,7 @@ use lib.Dec.{eqb}
 use Rattle.wire.specs.Numbers.{le, Bytes}
 use Rattle.wire.specs.Parts.{flat, startOf, Wide, Small, padded}
 use Rattle.wire.proofs.NumberLaws.{length-le, number-le, le-number-wide}
-use Rattle.wire.proofs.PackLaws.{length-pack, number-in-pack, pack-numbers}
+use Rattle.wire.proofs.PackLaws.{number-in-pack, pack-numbers}
 use Rattle.units.specs.declared.Cents.{Cents}
 use Rattle.units.specs.declared.CentsPerMwh.{CentsPerMwh}
 use Rattle.units.specs.Units.{cents}
@@ -27,7 +27,7 @@ use Rattle.rules.proofs.SetupEntries.{entries-joined}
 use Rattle.book.specs.Layout.{setupRoom}
 use Rattle.book.specs.Image.{storedSetup}
 use Rattle.book.proofs.Soundness.{SoundSetup}
-use Rattle.book.proofs.Sizes.{length-joined, length-operators}
+use Rattle.book.proofs.Sizes.{length-joined, length-operator-bytes, length-account-bytes, length-point-bytes, length-operators}
 use Rattle.book.proofs.SetupRanges.{SoundOperator, SoundAccount, SoundPoint, InRange, values-in-range, maintenance-of, guarantees-of}
 
 -- ---- an entry
@@ -83,15 +83,6 @@ pub point-again : (c : List ℕ) → Bytes c → length c ≡ 11 → pointBytes 
 unfolding pointIn
 point-again c b l = pack-numbers (1 ∷ 1 ∷ 1 ∷ 4 ∷ 4 ∷ []) b l
 
-length-operator : (x : Operator) → length (operatorBytes x) ≡ 10
-length-operator x = length-pack (8 ∷ 2 ∷ []) _ refl
-
-length-account : (x : Account) → length (accountBytes x) ≡ 10
-length-account x = length-pack (1 ∷ 1 ∷ 4 ∷ 4 ∷ []) _ refl
-
-length-point : (x : Point) → length (pointBytes x) ≡ 11
-length-point x = length-pack (1 ∷ 1 ∷ 1 ∷ 4 ∷ 4 ∷ []) _ refl
-
 -- ---- the bytes of a set-up
 
 -- what stands from part k on
@@ -131,10 +122,10 @@ module _ (u : Setup) (gs : List Cents) (rest : List ℕ) (estimates : length (u 
     (
       length-joined 4 (λ p. le 4 (p .0)) (u .estimates) (λ p. length-le 4 (p .0)) ∙ omega arith,
       (
-        length-joined 10 operatorBytes (operatorsOf gs (u .maintenance)) length-operator ∙ omega (arith, length-operators gs (u .maintenance) all),
+        length-joined 10 operatorBytes (operatorsOf gs (u .maintenance)) length-operator-bytes ∙ omega (arith, length-operators gs (u .maintenance) all),
         (
-          length-joined 10 accountBytes (u .accounts) length-account,
-          (length-joined 11 pointBytes (u .points) length-point, (refl, tt)),
+          length-joined 10 accountBytes (u .accounts) length-account-bytes,
+          (length-joined 11 pointBytes (u .points) length-point-bytes, (refl, tt)),
         ),
       ),
     ),
@@ -166,21 +157,21 @@ module _ (u : Setup) (gs : List Cents) (rest : List ℕ) (sound : SoundSetup u) 
   operators-back =
       ap (λ (n : Counts). entries 10 operatorIn (n .operators) (drop (operatorsFrom n) bytes)) counts-back
       ∙ rw (from 2 (operatorsFrom (countsOf u)) (omega arith), ← (length-operators gs (u .maintenance) all))
-      (entries-joined 10 operatorBytes operatorIn (operatorsOf gs (u .maintenance)) _ (each-map operator-back (range .operators-sound)) length-operator)
+      (entries-joined 10 operatorBytes operatorIn (operatorsOf gs (u .maintenance)) _ (each-map operator-back (range .operators-sound)) length-operator-bytes)
 
   accounts-back : accountsIn bytes ≡ u .accounts
   unfolding accountsIn setupParts setupWidths flat
   accounts-back =
       ap (λ (n : Counts). entries 10 accountIn (n .accounts) (drop (accountsFrom n) bytes)) counts-back
       ∙ rw (from 3 (accountsFrom (countsOf u)) (omega arith))
-      (entries-joined 10 accountBytes accountIn (u .accounts) _ (each-map (account-back (operatorCount u) (sound .operators-high)) (range .accounts-sound)) length-account)
+      (entries-joined 10 accountBytes accountIn (u .accounts) _ (each-map (account-back (operatorCount u) (sound .operators-high)) (range .accounts-sound)) length-account-bytes)
 
   points-back : pointsIn bytes ≡ u .points
   unfolding pointsIn setupParts setupWidths flat
   points-back =
       ap (λ (n : Counts). entries 11 pointIn (n .points) (drop (pointsFrom n) bytes)) counts-back
       ∙ rw (from 4 (pointsFrom (countsOf u)) (omega arith))
-      (entries-joined 11 pointBytes pointIn (u .points) _ (each-map (point-back (u .accounts) (u .zones) (sound .accounts-high) (sound .zones-high)) (range .points-sound)) length-point)
+      (entries-joined 11 pointBytes pointIn (u .points) _ (each-map (point-back (u .accounts) (u .zones) (sound .accounts-high) (sound .zones-high)) (range .points-sound)) length-point-bytes)
 
   pub bytes-say-setup : setupOf (setupBytes u gs ++ rest) ≡ u
   unfolding setupOf bytes

@@ -1,23 +1,22 @@
 -- Twins by keys: two rows at different places have the same key where both are pending and alike, so keys all apart are rows with no twins.
-use Prim.Native.Nat.{ℕ, zero, suc, _+_, _-_, _*_, _≤_, _<_}
-use mathlib.Core.Path.{_≡_, refl, sym, ap, _∙_}
-use mathlib.Core.Bool.{Bool, true, false, not, _&&_, _||_, or-assoc, and-false}
-use mathlib.Core.List.{List, [], _∷_}
+use Prim.Native.Nat.{ℕ, zero, suc, _+_, _*_, _≤_, _<_}
+use mathlib.Core.Path.{_≡_, refl, sym, _∙_}
+use mathlib.Core.Bool.{Bool, true, false, _&&_, _||_, or-assoc, and-false}
+use mathlib.Core.List.{List, _∷_}
 use native.Mathlib.Numerals.{add-one}
-use native.Mathlib.Nat.{mul-zero, add-zero}
 use native.Mathlib.Omega.{arith}
 use lib.ListN.{length, getD, set, take, drop}
 use lib.Seq.{getD-set-same, getD-set-other}
 use lib.Dec.{eqb}
 use borrow.Author.Count.{below-more}
 use borrow.Author.Tests.{eqb-true, eq-eqb, ne-eqb}
-use Rattle.wire.specs.Numbers.{numberAt, Bytes}
+use Rattle.wire.specs.Numbers.{Bytes}
 use Rattle.wire.proofs.NumberLaws.{number-at-small}
 use Rattle.rules.specs.declared.Row.{Row}
 use Rattle.rules.specs.Basics.{any}
 use Rattle.rules.specs.Registration.{pending, alike}
 use Rattle.rules.proofs.Tests.{test-same, and-both}
-use Rattle.rules.proofs.RowTests.{Alike, alike-true}
+use Rattle.rules.proofs.RowTests.{alike-by, alike-true}
 use Rattle.book.specs.Image.{rowIn}
 use Rattle.book.specs.Valid.{noTwins}
 use Rattle.book.specs.Sums.{rowsFrom}
@@ -93,11 +92,6 @@ pub record Parties (r : Row) : Type 0 where
 pub parties : {s : List ℕ} → Bytes s → (at : ℕ) → Parties (rowIn (take 18 (drop at s)))
 parties {s} h at =
     rw (row-at s at) (record { proposer-byte = number-at-small h at 1; counterparty-byte = number-at-small h (at + 1) 1 })
-
-alike-by : (p c k : ℕ) (r : Row) → Alike p c k r → alike p c k r ≡ true
-unfolding alike
-alike-by p c k r h =
-    and-both _ _ .1 (and-both _ _ .1 (and-both _ _ .1 (h .is-pending, eq-eqb _ _ (h .proposer)), eq-eqb _ _ (h .counterparty)), eq-eqb _ _ (h .code))
 
 module _ (x r : Row) (k i : ℕ) (apart : k ≡ i → ⊥) (px : Parties x) (pr : Parties r) where
   pair-alike : (t u : Bool) → pending x ≡ t → pending r ≡ u → pairOf k x ≡ pairOf i r

@@ -1,6 +1,6 @@
 -- What is written in a part: a row, a status or a guarantee replaced in its own section, and loops inside the rows or the nets; the
 -- other sections stand.
-use Prim.Native.Nat.{ℕ, zero, suc, _+_, _-_, _*_, _^_, _≤_, _<_}
+use Prim.Native.Nat.{ℕ, suc, _+_, _-_, _*_, _^_, _≤_, _<_}
 use mathlib.Core.Path.{_≡_, refl, sym, ap, _∙_}
 use mathlib.Core.List.{List, [], _∷_, _++_, map}
 use mathlib.Core.Bool.{Bool, true, false}
@@ -24,6 +24,7 @@ use Rattle.rules.specs.Basics.{if_then_else_, nth, put, Each, nil, cons}
 use Rattle.rules.specs.Limits.{mostOperators, mostAccounts, mostRows}
 use Rattle.rules.specs.Books.{Part, noRow}
 use Rattle.rules.specs.Registration.{pending, seller, buyer, withStatus, mark, closed, proposed}
+use Rattle.rules.proofs.RowChanges.{length-mark}
 use Rattle.rules.proofs.AccountHours.{pending-inside, moved-register, moved-withdraw, moved-close}
 use Rattle.book.specs.Layout.{rowWidths, rowWidth, accountWidth, partWidths, rowCountAt, rowAt, netAt, statusIn}
 use Rattle.book.specs.Image.{rowValues, rowBytes, netsBytes, partSections, partBytes}
@@ -56,17 +57,6 @@ row-ended r h = rw (status-read r h) (go (pending r))
     go : (t : Bool) → (if t then splice (rowBytes r) statusIn (le 1 3) else rowBytes r) ≡ rowBytes (if t then withStatus 3 r else r)
     go true = row-status r 3
     go false = refl
-
--- ---- rows marked and closed
-
-pub length-mark : (rows : List Row) (number status : ℕ) → length (mark number status rows) ≡ length rows
-unfolding mark
-length-mark rows zero status = refl
-length-mark rows (suc i) status = length-set rows i _
-
-pub length-closed : (rows : List Row) → length (closed rows) ≡ length rows
-unfolding closed
-length-closed rows = length-map rows _
 
 -- ---- a part with other rows
 
@@ -160,7 +150,7 @@ module _ (top : ℕ) (p : Part) (f : PartFits p) where
       let ls : length ns ≡ mostAccounts * accountWidth top = length-nets top (p .rows) in
       let ns′ : List ℕ = sweep down 4 ns jl n in
       let ls′ : length ns′ ≡ mostAccounts * accountWidth top = length-sweep down 4 (length-raised 4 _) n ns jl (omega arith) ∙ ls in
-      let lr : length rows′ ≤ mostRows = omega (arith, length-mark (p .rows) number 2, f .rows-fit) in
+      let lr : length rows′ ≤ mostRows = omega (arith, length-mark number 2 (p .rows), f .rows-fit) in
       let marked : splice (partBytes top p) at (le 1 2) ≡ flat (partOver p rows′ ns) = part-mark i 2 at (omega arith) a ∙ rw (← e) in
       let one : sweep down 4 (flat (partOver p rows′ ns)) low n ≡ flat (partOver p rows′ ns′) =
       sweep-part down 4 (length-raised 4 _) ws (partOver p rows′ ns) (wide-over rows′ ns lr ls) 3 jl n low (omega arith) hl (omega arith) in

@@ -28,7 +28,7 @@ use Rattle.book.specs.Image.{rowBytes}
 use Rattle.book.specs.Valid.{isBook, bookIn}
 use Rattle.book.specs.Changes.{raised, ended}
 use Rattle.book.proofs.Sizes.{RowFits, row-fits-of, statuses-small}
-use Rattle.book.proofs.KeepsRows.{each-nth}
+use Rattle.rules.proofs.Searches.{each-nth}
 use Rattle.book.proofs.BookWrites.{write-register, write-confirm, write-withdraw, write-guarantee, write-open, write-undo, write-keep, write-close}
 use Rattle.book.proofs.KeepsKinds.{register-keeps, confirm-keeps, withdraw-keeps, guarantee-keeps, open-keeps, undo-keeps, keep-keeps, close-keeps}
 use Rattle.book.proofs.StateLaws.{book-image, book-fits, book-is-sound}

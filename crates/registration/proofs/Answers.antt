@@ -1,33 +1,23 @@
 -- What a call answers on bytes that are a book: a refusal leaves them as they are, the image of the same book, and an acceptance makes
 -- them the image of the next one, which is sound.
 use Prim.Native.Nat.{ℕ}
-use mathlib.Core.Path.{_≡_, refl}
+use mathlib.Core.Path.{_≡_}
 use mathlib.Core.List.{List, []}
-use mathlib.Core.Option.{Option, none, some}
+use mathlib.Core.Option.{none, some}
 use mathlib.Core.Bool.{true}
 use native.Mathlib.Omega.{arith}
 use Rattle.rules.specs.declared.Request.{Request}
 use Rattle.rules.specs.declared.Outcome.{Outcome}
 use Rattle.rules.specs.declared.Refusal.{Refusal}
-use Rattle.rules.specs.declared.Checked.the-variants.{Clear, Fails}
 use Rattle.rules.specs.Limits.{mostHours, bookSize}
-use Rattle.rules.specs.Verdicts.{accepted, refused, checked}
+use Rattle.rules.specs.Verdicts.{accepted, refused}
 use Rattle.rules.specs.Requests.{Kind, requestOf}
 use Rattle.rules.specs.Calls.{next, given}
 use Rattle.book.specs.Valid.{isBook, bookIn, bookBytes}
-use Rattle.book.proofs.Soundness.{SoundBook, book-sound}
+use Rattle.book.proofs.SoundBooks.{SoundBook, book-sound}
 use Rattle.book.proofs.Round.{image-is-book}
 use Rattle.book.proofs.StateLaws.{book-image}
 use Rattle.registration.specs.Kinds.{decided, outcomeOn, bookAfter}
-
--- what was checked is what was decided
-pub fails-refused : (o : Option Refusal) (r : Refusal) → Fails r ≡ checked o → o ≡ some r
-fails-refused none r e = cc
-fails-refused (some x) r e = cc
-
-pub clear-accepted : (o : Option Refusal) → Clear ≡ checked o → o ≡ none
-clear-accepted none e = refl
-clear-accepted (some x) e = cc
 
 -- a call of that kind on a book's bytes s answers o and leaves the bytes t, a book again
 abbrev pub Answered : Kind → List ℕ → Request → Outcome → List ℕ → Type 0

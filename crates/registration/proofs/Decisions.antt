@@ -1,23 +1,24 @@
 -- What the state refuses a call for, test by test: the checks of other kinds vanish, and the first that is left and holds decides.
 use Prim.Native.Nat.{ℕ}
-use mathlib.Core.Path.{_≡_, refl, sym, ap, _∙_}
+use mathlib.Core.Path.{_≡_, refl}
 use mathlib.Core.List.{[], _∷_}
 use mathlib.Core.Option.{none, some}
 use mathlib.Core.Bool.{Bool, true, false, _||_}
 use native.Mathlib.Omega.{arith}
 use lib.ListN.{length}
 use lib.Dec.{eqb, leb}
-use borrow.Author.Tests.{eqb-true, eq-eqb, ne-eqb}
+use borrow.Author.Tests.{eq-eqb, ne-eqb}
 use Rattle.rules.specs.declared.Request.{Request}
 use Rattle.rules.specs.declared.Refusal.the-variants.{WrongPhase, BatchOpen, NoBatch, AlreadyPending, RowsFull, NoSuchRow, NotMirrored, MarginBroken, Uncovered}
 use Rattle.rules.specs.Basics.{any, isSome, nth}
 use Rattle.rules.specs.Limits.{mostRows}
 use Rattle.rules.specs.Verdicts.{lowest}
 use Rattle.rules.specs.Books.{Book, noRow, operatorOf}
-use Rattle.rules.specs.Requests.{Kind, register, confirm, withdraw, guarantee, openBatch, undo, keep, closeGate, schedule, settle, kindNumber, kindOf}
+use Rattle.rules.specs.Requests.{Kind, register, confirm, withdraw, guarantee, openBatch, undo, keep, closeGate, kindNumber}
 use Rattle.rules.specs.Registration.{alike, confirms, withdraws, mirrors, brokenHour, covered}
 use Rattle.rules.specs.Calls.{_∈_, confirmedNumber, next, phaseOf, stateChecks}
 use Rattle.rules.proofs.Clearing.{Clear, clear}
+use Rattle.rules.proofs.KindTables.{same-kind}
 use Rattle.rules.proofs.Passed.{passed-13}
 use Rattle.registration.specs.Kinds.{decided}
 
@@ -28,28 +29,11 @@ decided-clear k b q e = clear (stateChecks b k q) e
 
 -- ---- a kind of a list is one of it
 
-kind-again : (k : Kind) → kindOf (kindNumber k) ≡ k
-kind-again register = refl
-kind-again confirm = refl
-kind-again withdraw = refl
-kind-again guarantee = refl
-kind-again openBatch = refl
-kind-again undo = refl
-kind-again keep = refl
-kind-again closeGate = refl
-kind-again schedule = refl
-kind-again settle = refl
-
-same-kind : (i k : Kind) → eqb (kindNumber k) (kindNumber i) ≡ true → i ≡ k
-same-kind i k e =
-    let n : kindNumber i ≡ kindNumber k = sym (eqb-true _ _ e) in
-    sym (kind-again i) ∙ ap kindOf n ∙ kind-again k
-
 module _ (P : Kind → Type 0) (i j k : Kind) where
   of-two-go : (s t : Bool) → eqb (kindNumber k) (kindNumber i) ≡ s → eqb (kindNumber k) (kindNumber j) ≡ t → s || (t || false) ≡ true
       → P i → P j → P k
-  of-two-go true t e f m x y = rw (← same-kind i k e) x
-  of-two-go false true e f m x y = rw (← same-kind j k f) y
+  of-two-go true t e f m x y = rw (same-kind k i e) x
+  of-two-go false true e f m x y = rw (same-kind k j f) y
   of-two-go false false e f m x y = let z : _≡_ {A = ℕ} 0 1 = cc in absurd (omega arith)
 
   -- what holds of both holds of the one that it is

@@ -6,7 +6,7 @@ use mathlib.Core.List.{List, [], _∷_, _++_}
 use mathlib.Core.Bool.{Bool, true, false, _&&_}
 use native.Mathlib.Nat.{add-zero}
 use native.Mathlib.Omega.{arith}
-use lib.ListN.{length, getD, length-set}
+use lib.ListN.{length, getD}
 use lib.Dec.{eqb}
 use borrow.Author.Tests.{eqb-true}
 use Rattle.units.specs.Units.{kwh}
@@ -42,12 +42,6 @@ pending-inside rows zero e = let z : _≡_ {A = ℕ} 0 1 = cc in absurd (omega a
 pending-inside [] (suc i) e = let z : _≡_ {A = ℕ} 0 1 = cc in absurd (omega arith)
 pending-inside (r ∷ rs) (suc zero) e = omega arith
 pending-inside (r ∷ rs) (suc (suc i)) e = let ih = pending-inside rs (suc i) e in omega arith
-
--- none comes or goes
-pub length-mark : (n status : ℕ) (rows : List Row) → length (mark n status rows) ≡ length rows
-unfolding mark
-length-mark zero status rows = refl
-length-mark (suc i) status rows = length-set rows i _
 
 -- the share of the row as it was goes, its share with the new status comes
 pub total-mark : (f : Row → ℕ) (n status : ℕ) (rows : List Row) → 1 ≤ n → n ≤ length rows

@@ -9,34 +9,23 @@ use mathlib.Core.Bool.{Bool, true, false, _||_}
 use native.Mathlib.Nat.{zero-add, add-zero, add-comm, add-assoc}
 use native.Mathlib.Omega.{arith}
 use lib.ListN.{length, length-append}
-use borrow.Author.Tests.{eqb-true, not-true}
+use borrow.Author.Tests.{not-true}
 use Rattle.rules.specs.declared.Row.{Row}
 use Rattle.rules.specs.declared.Request.{Request}
 use Rattle.rules.specs.Basics.{if_then_else_}
 use Rattle.rules.specs.Verdicts.{accepted}
 use Rattle.rules.specs.Books.{Part, Book}
-use Rattle.rules.specs.Requests.{Kind, register, confirm, withdraw, guarantee, openBatch, undo, keep, closeGate, schedule, settle, kindNumber, kindOf}
+use Rattle.rules.specs.Requests.{Kind, register, confirm, withdraw, guarantee, openBatch, undo, keep, closeGate, schedule, settle}
 use Rattle.rules.specs.Calls.{Call, requestIn, kindIn, withRows, restored, confirmedNumber, next, given, _∈_, stateChecks, step}
 use Rattle.rules.specs.Lists.{after, acceptsAs, rowsRegistered, endsNoBatch, UndoneBatch, CutOut}
 use Rattle.rules.proofs.Tests.{and-both, and-spared}
 use Rattle.rules.proofs.Clearing.{Clear}
 use Rattle.rules.proofs.Passed.{Passed, Kept, step-cases, passed-11, passed-12}
-use Rattle.rules.proofs.AccountHours.{length-mark}
+use Rattle.rules.proofs.KindTables.{same-kind}
+use Rattle.rules.proofs.RowChanges.{length-mark}
 use Rattle.rules.proofs.CallLists.{after-append, cut-out, kept-refused, passed-accepted, accepts-passed}
 
 -- ---- kinds
-
-kind-again : (k : Kind) → kindOf (kindNumber k) ≡ k
-kind-again register = refl
-kind-again confirm = refl
-kind-again withdraw = refl
-kind-again guarantee = refl
-kind-again openBatch = refl
-kind-again undo = refl
-kind-again keep = refl
-kind-again closeGate = refl
-kind-again schedule = refl
-kind-again settle = refl
 
 or-false : (t : Bool) → t || false ≡ true → t ≡ true
 or-false true h = refl
@@ -44,7 +33,7 @@ or-false false h = h
 
 -- a kind that is among one kind is that one
 pub the-kind : (k j : Kind) → k ∈ (j ∷ []) ≡ true → k ≡ j
-the-kind k j h = sym (kind-again k) ∙ ap kindOf (eqb-true (kindNumber k) (kindNumber j) (or-false _ h)) ∙ kind-again j
+the-kind k j h = same-kind k j (or-false _ h)
 
 passed-as : (b : Book) (c : Call) (k : Kind) → acceptsAs (k ∷ []) b c ≡ true → Passed b c × (kindIn c ≡ k)
 passed-as b c k h = let w = and-both _ _ .0 h in (accepts-passed b c (w .0), the-kind (kindIn c) k (w .1))

@@ -10,7 +10,7 @@ use Rattle.rules.specs.declared.Refusal.{Refusal}
 use Rattle.rules.specs.declared.Refusal.the-variants.{NotABook}
 use Rattle.rules.specs.declared.Outcome.{Outcome}
 use Rattle.rules.specs.declared.Verdict.the-variants.{Accepted, Refused}
-use Rattle.rules.specs.Verdicts.{Check, _⇒_, _⇒↑_, applies, lowest, accepted, refused, outcomeOf}
+use Rattle.rules.specs.Verdicts.{Check, _⇒_, _⇒↑_, applies, lowest, checked, accepted, refused, outcomeOf}
 use Rattle.rules.specs.Calls.{when}
 
 -- no outcome is both refused and accepted
@@ -24,6 +24,13 @@ never-both r n h =
 pub accepted-none : (o : Option Refusal) (n : ℕ) → outcomeOf o n ≡ accepted n → o ≡ none
 accepted-none none n h = refl
 accepted-none (some r) n h = absurd (never-both r n h)
+
+-- what a row of checks comes to tells what it refuses
+pub checked-same : (o p : Option Refusal) → checked o ≡ checked p → o ≡ p
+checked-same none none h = refl
+checked-same none (some q) h = cc
+checked-same (some r) none h = cc
+checked-same (some r) (some q) h = cc
 
 -- no check of the list applies
 abbrev pub Clear : List Check → Type 0

@@ -1,14 +1,30 @@
 -- The tables by kind agree: one test, computed at each of the ten kinds.
 use Prim.Native.Nat.{ℕ, _^_, _<_}
-use mathlib.Core.Path.{_≡_, refl}
+use mathlib.Core.Path.{_≡_, refl, sym, ap, _∙_}
 use mathlib.Core.Bool.{Bool, true, _&&_}
 use native.Mathlib.Omega.{arith}
 use lib.Dec.{eqb, ltb}
 use borrow.Author.Tests.{eqb-true, ltb-true}
 use Rattle.rules.specs.Basics.{total, every, counting, upTo, bit}
-use Rattle.rules.specs.Requests.{isKind, wantedMap, wantedLength, fieldCount, room, offset}
+use Rattle.rules.specs.Requests.{Kind, register, confirm, withdraw, guarantee, openBatch, undo, keep, closeGate, schedule, settle, kindNumber, kindOf, isKind, wantedMap, wantedLength, fieldCount, room, offset}
 use Rattle.rules.proofs.Tests.{and-both, within-true}
 use Rattle.rules.proofs.Searches.{every-each, counted-has}
+
+kind-again : (k : Kind) → kindOf (kindNumber k) ≡ k
+kind-again register = refl
+kind-again confirm = refl
+kind-again withdraw = refl
+kind-again guarantee = refl
+kind-again openBatch = refl
+kind-again undo = refl
+kind-again keep = refl
+kind-again closeGate = refl
+kind-again schedule = refl
+kind-again settle = refl
+
+-- no two kinds have one number
+pub same-kind : (k j : Kind) → eqb (kindNumber k) (kindNumber j) ≡ true → k ≡ j
+same-kind k j e = sym (kind-again k) ∙ ap kindOf (eqb-true (kindNumber k) (kindNumber j) e) ∙ kind-again j
 
 -- what ties the map and the length that a kind wants
 pub record Agree (kind : ℕ) : Type 0 where

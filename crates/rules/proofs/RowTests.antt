@@ -4,7 +4,7 @@ use mathlib.Core.Path.{_≡_}
 use mathlib.Core.Bool.{true}
 use native.Mathlib.Omega.{arith}
 use lib.ListN.{length}
-use borrow.Author.Tests.{eqb-true, eqb-false, not-true}
+use borrow.Author.Tests.{eqb-true, eqb-false, eq-eqb, not-true}
 use Rattle.rules.specs.declared.Row.{Row}
 use Rattle.rules.specs.declared.Request.{Request}
 use Rattle.rules.specs.Basics.{nth}
@@ -23,6 +23,11 @@ pub record Alike (p c k : ℕ) (r : Row) : Type 0 where
   pub proposer : r .proposer ≡ p
   pub counterparty : r .counterparty ≡ c
   pub code : r .code ≡ k
+
+pub alike-by : (p c k : ℕ) (r : Row) → Alike p c k r → alike p c k r ≡ true
+unfolding alike
+alike-by p c k r h =
+    and-both _ _ .1 (and-both _ _ .1 (and-both _ _ .1 (h .is-pending, eq-eqb _ _ (h .proposer)), eq-eqb _ _ (h .counterparty)), eq-eqb _ _ (h .code))
 
 pub alike-true : (p c k : ℕ) (r : Row) → alike p c k r ≡ true → Alike p c k r
 unfolding alike

@@ -2,7 +2,7 @@
 use Prim.Native.Nat.{ℕ, zero, suc, _+_, _-_, _*_, _≤_, _<_}
 use mathlib.Core.Path.{_≡_, refl, sym, ap, _∙_}
 use mathlib.Core.List.{List, [], _∷_, _++_, map, map-map, map-append, append-assoc}
-use native.Mathlib.Nat.{mul-zero, mul-le-mul-left, mul-sub}
+use native.Mathlib.Nat.{mul-zero, mul-suc, mul-le-mul-left, mul-sub}
 use native.Mathlib.Omega.{arith}
 use lib.ListN.{length, getD, set, take, drop, replicate, length-append, length-replicate, length-map, length-drop, length-set, List·getD-append, take-append-drop}
 use lib.Seq.{take-at, drop-at, take-all, take-add, length-take-le, drop-drop, set-append-left, getD-at, set-at, ext-getD}
@@ -12,7 +12,7 @@ use Rattle.wire.specs.Parts.{zeros, flat, cells, slots, chunks}
 use Rattle.wire.proofs.NumberLaws.{bytes-take, bytes-drop}
 use Rattle.wire.proofs.RegionLaws.{splice-all}
 use Rattle.wire.proofs.ZeroLaws.{length-zeros, zeros-none, zeros-add}
-use Rattle.wire.proofs.PartLaws.{before, splice-flat, read-flat, flat-append}
+use Rattle.wire.proofs.PartLaws.{before, splice-flat, read-flat, flat-append, take-drop-take}
 
 -- ---- cells of one width
 
@@ -92,6 +92,17 @@ chunk-at w (suc n) s zero h = let e : w * 0 ≡ 0 = omega arith in rw e
 chunk-at w (suc n) s (suc i) h =
     let e : w + w * i ≡ w * suc i = omega arith in
     chunk-at w n (drop w s) i (omega arith) ∙ ap (take w) (drop-drop (w * i) w s ∙ ap (λ (k : ℕ). drop k s) e)
+
+-- cells inside the first bytes are cells of the whole
+pub chunks-within : (w n at m : ℕ) (s : List ℕ) → at + w * n ≤ m → chunks w n (drop at (take m s)) ≡ chunks w n (drop at s)
+unfolding chunks
+chunks-within w zero at m s h = refl
+chunks-within w (suc n) at m s h =
+    let e : w * suc n ≡ w + w * n = omega (arith, mul-suc w n) in
+    rw (take-drop-take w at m s (omega arith), drop-drop w at (take m s), drop-drop w at s, chunks-within w n (at + w) m s (omega arith))
+
+pub chunks-front : (w n m : ℕ) (s : List ℕ) → w * n ≤ m → chunks w n (take m s) ≡ chunks w n s
+chunks-front w n m s h = chunks-within w n 0 m s (omega arith)
 
 -- the cells side by side are the bytes again
 pub flat-chunks : (w n : ℕ) (s : List ℕ) → flat (chunks w n s) ≡ take (w * n) s

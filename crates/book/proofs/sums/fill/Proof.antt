@@ -7,7 +7,8 @@ use borrow.Author.Needs.{needs}
 use Rattle.rules.specs.Basics.{Each}
 use Rattle.rules.specs.Limits.{mostEnergy}
 use Rattle.book.specs.Sums.{rowsFrom, Tabled}
-use Rattle.book.proofs.FillLaws.{rows-done, rows-step, each-first, each-rest, Filling, length-none, filling-none, filling-room, filling-next, filling-done}
+use Rattle.book.proofs.RowsFrom.{rows-done, rows-step}
+use Rattle.book.proofs.FillLaws.{each-first, each-rest, Filling, length-none, filling-none, filling-room, filling-next, filling-done}
 use Rattle.book.proofs.sums.fill.Statement.{statement}
 use Rattle.book.proofs.sums.fill.Tie as tie
 

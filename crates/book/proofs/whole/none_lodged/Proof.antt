@@ -6,7 +6,7 @@ use native.Mathlib.Omega.{arith}
 use lib.ListN.{length}
 use borrow.Author.Needs.{needs}
 use Rattle.book.specs.Plain.{noneLodged}
-use Rattle.book.proofs.StandLaws.{lodged-done, lodged-step}
+use Rattle.book.proofs.StandLaws.{none-lodged-done, none-lodged-step}
 use Rattle.book.proofs.whole.none_lodged.Statement.{statement}
 use Rattle.book.proofs.whole.none_lodged.Tie as tie
 
@@ -34,10 +34,10 @@ loop-less c = search needs
 loop-again : tie.Need-loop-again Inv-loop μ-loop
 loop-again c =
     let l = c .before .before .loop in
-    (search needs, l .inv .1 ∙ lodged-step (l .ok) _ (l .k) (l .left) (l .left - 1) (omega arith) (c .all-zero .ensures))
+    (search needs, l .inv .1 ∙ none-lodged-step (l .ok) _ (l .k) (l .left) (l .left - 1) (omega arith) (c .all-zero .ensures))
 
 returns : tie.Need-returns Inv-loop μ-loop
-returns c = let l = c .before .loop in sym (l .inv .1 ∙ lodged-done (l .ok) _ (l .k) (l .left) (omega arith))
+returns c = let l = c .before .loop in sym (l .inv .1 ∙ none-lodged-done (l .ok) _ (l .k) (l .left) (omega arith))
 
 pub none-lodged-spec : {M : Type 1} → statement M
 none-lodged-spec =

@@ -1,13 +1,14 @@
 -- What was checked is what the state decides, and what is written is the book with nothing saved.
 use mathlib.Core.Path.{_≡_, refl, sym, _∙_}
-use mathlib.Core.Option.{none}
+use mathlib.Core.Option.{none, some}
 use denote.Ref.{now}
 use Rattle.rules.specs.declared.Request.{Request}
 use Rattle.rules.specs.Requests.{keep}
+use Rattle.rules.proofs.Clearing.{checked-same}
 use Rattle.book.specs.Valid.{bookIn}
 use Rattle.book.proofs.StateLaws.{book-length}
 use Rattle.registration.specs.Kinds.{decided}
-use Rattle.registration.proofs.Answers.{fails-refused, clear-accepted, refused-all}
+use Rattle.registration.proofs.Answers.{refused-all}
 use Rattle.registration.proofs.Acceptances.{kept-answered}
 use borrow.Author.Needs.{needs}
 use Rattle.registration.proofs.batches.keep.Statement.{statement}
@@ -15,7 +16,7 @@ use Rattle.registration.proofs.batches.keep.Tie as tie
 
 -- past the checks nothing is decided
 free : (c : tie.After-enum-told) (q : Request) → decided keep (bookIn (now (c .before .before .before .before .before .args .book))) q ≡ none
-free c q = clear-accepted _ (sym (c .enum-told .given .1) ∙ c .before .before .inside-batch .ensures keep q refl)
+free c q = checked-same _ none (sym (c .before .before .inside-batch .ensures keep q refl) ∙ c .enum-told .given .1)
 
 inside-batch-requires : tie.Need-inside-batch-requires
 inside-batch-requires c κs = search needs
@@ -27,7 +28,7 @@ same-length : tie.Need-same-length
 same-length c = search needs
 
 returns : tie.Need-returns
-returns c = refused-all keep _ _ (c .before .before .before .before .before .before .pre) (λ q. fails-refused _ _ (sym (c .before .r .given .1) ∙ c .before .before .before .inside-batch .ensures keep q refl))
+returns c = refused-all keep _ _ (c .before .before .before .before .before .before .pre) (λ q. checked-same _ (some _) (sym (c .before .before .before .inside-batch .ensures keep q refl) ∙ c .before .r .given .1))
 
 enum-told : tie.Need-enum-told
 enum-told c = search needs

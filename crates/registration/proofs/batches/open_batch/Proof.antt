@@ -2,7 +2,7 @@
 use Prim.Native.Nat.{ℕ}
 use mathlib.Core.Path.{_≡_, refl, sym, ap, _∙_}
 use mathlib.Core.List.{List}
-use mathlib.Core.Option.{none}
+use mathlib.Core.Option.{none, some}
 use mathlib.Core.Logic.{inl}
 use native.Mathlib.Omega.{arith}
 use denote.Ref.{now}
@@ -10,11 +10,12 @@ use Rattle.wire.specs.Numbers.{le}
 use Rattle.wire.specs.Regions.{splice}
 use Rattle.rules.specs.declared.Request.{Request}
 use Rattle.rules.specs.Requests.{openBatch}
+use Rattle.rules.proofs.Clearing.{checked-same}
 use Rattle.book.specs.Layout.{flagAt}
 use Rattle.book.specs.Valid.{bookIn}
 use Rattle.book.proofs.StateLaws.{book-length}
 use Rattle.registration.specs.Kinds.{decided}
-use Rattle.registration.proofs.Answers.{fails-refused, clear-accepted, refused-all}
+use Rattle.registration.proofs.Answers.{refused-all}
 use Rattle.registration.proofs.Acceptances.{opened-answered}
 use borrow.Author.Needs.{needs}
 use Rattle.registration.proofs.batches.open_batch.Statement.{statement}
@@ -22,7 +23,7 @@ use Rattle.registration.proofs.batches.open_batch.Tie as tie
 
 -- past the checks nothing is decided
 free : (c : tie.After-enum-told) (q : Request) → decided openBatch (bookIn (now (c .before .before .before .before .before .args .book))) q ≡ none
-free c q = clear-accepted _ (sym (c .enum-told .given .1) ∙ c .before .before .outside-batch .ensures openBatch q refl)
+free c q = checked-same _ none (sym (c .before .before .outside-batch .ensures openBatch q refl) ∙ c .enum-told .given .1)
 
 outside-batch-requires : tie.Need-outside-batch-requires
 outside-batch-requires c κs = search needs
@@ -34,7 +35,7 @@ same-length : tie.Need-same-length
 same-length c = search needs
 
 returns : tie.Need-returns
-returns c = refused-all openBatch _ _ (c .before .before .before .before .before .before .pre) (λ q. fails-refused _ _ (sym (c .before .r .given .1) ∙ c .before .before .before .outside-batch .ensures openBatch q refl))
+returns c = refused-all openBatch _ _ (c .before .before .before .before .before .before .pre) (λ q. checked-same _ (some _) (sym (c .before .before .before .outside-batch .ensures openBatch q refl) ∙ c .before .r .given .1))
 
 enum-told : tie.Need-enum-told
 enum-told c = search needs

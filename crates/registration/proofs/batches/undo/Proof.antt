@@ -2,7 +2,7 @@
 use Prim.Native.Nat.{ℕ}
 use mathlib.Core.Path.{_≡_, refl, sym, ap, _∙_}
 use mathlib.Core.List.{List, []}
-use mathlib.Core.Option.{none}
+use mathlib.Core.Option.{none, some}
 use mathlib.Core.Logic.{inr}
 use native.Mathlib.Omega.{arith}
 use denote.Ref.{now}
@@ -12,12 +12,13 @@ use Rattle.wire.specs.Parts.{zeros}
 use Rattle.rules.specs.declared.Request.{Request}
 use Rattle.rules.specs.Limits.{mostHours}
 use Rattle.rules.specs.Requests.{undo, requestOf}
+use Rattle.rules.proofs.Clearing.{checked-same}
 use Rattle.book.specs.Layout.{flagAt, savedAt, partSize}
 use Rattle.book.specs.Valid.{bookIn}
 use Rattle.book.proofs.StateLaws.{book-length}
 use Rattle.registration.specs.Kinds.{decided}
 use Rattle.registration.proofs.Decisions.{undo-finds-batch}
-use Rattle.registration.proofs.Answers.{fails-refused, clear-accepted, refused-all}
+use Rattle.registration.proofs.Answers.{refused-all}
 use Rattle.registration.proofs.Acceptances.{undone-answered}
 use borrow.Author.Needs.{needs}
 use Rattle.registration.proofs.batches.undo.Statement.{statement}
@@ -25,7 +26,7 @@ use Rattle.registration.proofs.batches.undo.Tie as tie
 
 -- past the checks nothing is decided
 free : (c : tie.After-enum-told) (q : Request) → decided undo (bookIn (now (c .before .before .before .before .before .args .book))) q ≡ none
-free c q = clear-accepted _ (sym (c .enum-told .given .1) ∙ c .before .before .inside-batch .ensures undo q refl)
+free c q = checked-same _ none (sym (c .before .before .inside-batch .ensures undo q refl) ∙ c .enum-told .given .1)
 
 inside-batch-requires : tie.Need-inside-batch-requires
 inside-batch-requires c κs = search needs
@@ -37,7 +38,7 @@ same-length : tie.Need-same-length
 same-length c = search needs
 
 returns : tie.Need-returns
-returns c = refused-all undo _ _ (c .before .before .before .before .before .before .pre) (λ q. fails-refused _ _ (sym (c .before .r .given .1) ∙ c .before .before .before .inside-batch .ensures undo q refl))
+returns c = refused-all undo _ _ (c .before .before .before .before .before .before .pre) (λ q. checked-same _ (some _) (sym (c .before .before .before .inside-batch .ensures undo q refl) ∙ c .before .r .given .1))
 
 enum-told : tie.Need-enum-told
 enum-told c = search needs

@@ -2,18 +2,19 @@
 use Prim.Native.Nat.{ℕ}
 use mathlib.Core.Path.{_≡_, refl, sym, ap, _∙_}
 use mathlib.Core.List.{List}
-use mathlib.Core.Option.{none}
+use mathlib.Core.Option.{none, some}
 use native.Mathlib.Omega.{arith}
 use denote.Ref.{now}
 use Rattle.wire.specs.Numbers.{le}
 use Rattle.wire.specs.Regions.{splice}
 use Rattle.rules.specs.declared.Request.{Request}
 use Rattle.rules.specs.Requests.{closeGate}
+use Rattle.rules.proofs.Clearing.{checked-same}
 use Rattle.book.specs.Layout.{phaseAt}
 use Rattle.book.specs.Valid.{bookIn}
 use Rattle.book.proofs.StateLaws.{book-length}
 use Rattle.registration.specs.Kinds.{decided}
-use Rattle.registration.proofs.Answers.{fails-refused, clear-accepted, refused-all}
+use Rattle.registration.proofs.Answers.{refused-all}
 use Rattle.registration.proofs.Acceptances.{closed-answered}
 use borrow.Author.Needs.{needs}
 use Rattle.registration.proofs.gate.close_gate.Statement.{statement}
@@ -21,7 +22,7 @@ use Rattle.registration.proofs.gate.close_gate.Tie as tie
 
 -- past the checks nothing is decided
 free : (c : tie.After-enum-told) (q : Request) → decided closeGate (bookIn (now (c .before .before .before .before .before .args .book))) q ≡ none
-free c q = clear-accepted _ (sym (c .enum-told .given .1) ∙ c .before .before .outside-batch .ensures closeGate q refl)
+free c q = checked-same _ none (sym (c .before .before .outside-batch .ensures closeGate q refl) ∙ c .enum-told .given .1)
 
 outside-batch-requires : tie.Need-outside-batch-requires
 outside-batch-requires c κs = search needs
@@ -33,7 +34,7 @@ same-length : tie.Need-same-length
 same-length c = search needs
 
 returns : tie.Need-returns
-returns c = refused-all closeGate _ _ (c .before .before .before .before .before .before .pre) (λ q. fails-refused _ _ (sym (c .before .r .given .1) ∙ c .before .before .before .outside-batch .ensures closeGate q refl))
+returns c = refused-all closeGate _ _ (c .before .before .before .before .before .before .pre) (λ q. checked-same _ (some _) (sym (c .before .before .before .outside-batch .ensures closeGate q refl) ∙ c .before .r .given .1))
 
 enum-told : tie.Need-enum-told
 enum-told c = search needs

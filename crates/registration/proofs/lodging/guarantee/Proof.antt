@@ -1,9 +1,11 @@
 -- What was checked is what the state decides, and what is written is the book with the guarantee replaced.
 use mathlib.Core.Path.{refl, sym, _∙_}
+use mathlib.Core.Option.{none, some}
 use native.Mathlib.Omega.{arith}
 use Rattle.rules.specs.Requests.{guarantee}
 use Rattle.book.proofs.StateLaws.{book-length}
-use Rattle.registration.proofs.Answers.{fails-refused, clear-accepted, refused-answered}
+use Rattle.rules.proofs.Clearing.{checked-same}
+use Rattle.registration.proofs.Answers.{refused-answered}
 use Rattle.registration.proofs.LodgingLaws.{ready-guarantee, lodged-answered}
 use borrow.Author.Needs.{needs}
 use Rattle.registration.proofs.lodging.guarantee.Statement.{statement}
@@ -20,7 +22,7 @@ same-length c = search needs
 
 returns : tie.Need-returns
 returns c =
-    refused-answered guarantee _ _ (c .before .before .before .before .before .before .pre .0) _ (fails-refused _ _ (sym (c .before .r .given .1) ∙ c .before .before .before .guarantee-fault .ensures))
+    refused-answered guarantee _ _ (c .before .before .before .before .before .before .pre .0) _ (checked-same _ (some _) (sym (c .before .before .before .guarantee-fault .ensures) ∙ c .before .r .given .1))
 
 enum-told : tie.Need-enum-told
 enum-told c = search needs
@@ -53,7 +55,7 @@ returns-2 c =
     let told = c .before .before .before .before .before .before in
     let fault = told .before .before in
     let pre = fault .before .before .before .pre in
-    lodged-answered _ _ (pre .0) _ _ (pre .1) (clear-accepted _ (sym (told .enum-told .given .1) ∙ fault .guarantee-fault .ensures)) refl
+    lodged-answered _ _ (pre .0) _ _ (pre .1) (checked-same _ none (sym (fault .guarantee-fault .ensures) ∙ told .enum-told .given .1)) refl
     (c .before .before .put-u64 .ensures)
 
 pub guarantee-spec : {M : Type 1} → statement M

@@ -1,9 +1,11 @@
 -- What was checked is what the state decides, and what is written is the book with the row proposed.
 use mathlib.Core.Path.{sym, _∙_}
+use mathlib.Core.Option.{none, some}
 use native.Mathlib.Omega.{arith}
 use Rattle.rules.specs.Requests.{register}
 use Rattle.book.proofs.StateLaws.{book-length}
-use Rattle.registration.proofs.Answers.{fails-refused, clear-accepted, refused-answered}
+use Rattle.rules.proofs.Clearing.{checked-same}
+use Rattle.registration.proofs.Answers.{refused-answered}
 use Rattle.registration.proofs.ProposalLaws.{ready-fits, few-rows, registered-answered}
 use borrow.Author.Needs.{needs}
 use Rattle.registration.proofs.proposal.register.Statement.{statement}
@@ -20,7 +22,7 @@ same-length c = search needs
 
 returns : tie.Need-returns
 returns c =
-    refused-answered register _ _ (c .before .before .before .before .before .before .pre .0) _ (fails-refused _ _ (sym (c .before .r .given .1) ∙ c .before .before .before .register-fault .ensures))
+    refused-answered register _ _ (c .before .before .before .before .before .before .pre .0) _ (checked-same _ (some _) (sym (c .before .before .before .register-fault .ensures) ∙ c .before .r .given .1))
 
 enum-told : tie.Need-enum-told
 enum-told c = search needs
@@ -36,7 +38,7 @@ append-row-requires c κs =
     let told = c .before .before .before .before in
     let fault = told .before .before in
     let pre = fault .before .before .before .pre in
-    let few = few-rows _ _ (clear-accepted _ (sym (told .enum-told .given .1) ∙ fault .register-fault .ensures)) in
+    let few = few-rows _ _ (checked-same _ none (sym (fault .register-fault .ensures) ∙ told .enum-told .given .1)) in
     (book-length _ (pre .0), omega (arith, few, c .before .before .row-count .ensures .0), ready-fits _ _ _ (pre .0) (pre .1) (c .before .proposed-row .ensures))
 
 add-t15 : tie.Need-add-t15
@@ -51,7 +53,7 @@ returns-2 c =
     let told = row .before .before .before in
     let fault = told .before .before in
     let pre = fault .before .before .before .pre in
-    let free = clear-accepted _ (sym (told .enum-told .given .1) ∙ fault .register-fault .ensures) in
+    let free = checked-same _ none (sym (fault .register-fault .ensures) ∙ told .enum-told .given .1) in
     let count = row .before .row-count .ensures .0 in
     registered-answered _ _ (pre .0) _ _ (pre .1) free count (omega (arith, few-rows _ _ free, count))
     (rw (row .proposed-row .ensures) at (c .before .before .append-row .ensures))

@@ -1,9 +1,11 @@
 -- What was checked is what the state decides, and what is written is the book with the row withdrawn.
 use mathlib.Core.Path.{sym, _∙_}
+use mathlib.Core.Option.{none, some}
 use native.Mathlib.Omega.{arith}
 use Rattle.rules.specs.Requests.{withdraw}
+use Rattle.rules.proofs.Clearing.{checked-same}
 use Rattle.book.proofs.StateLaws.{book-length}
-use Rattle.registration.proofs.Answers.{fails-refused, clear-accepted, refused-answered}
+use Rattle.registration.proofs.Answers.{refused-answered}
 use Rattle.registration.proofs.Acceptances.{withdrawn-answered}
 use Rattle.registration.proofs.Readiness.{ready-number}
 use borrow.Author.Needs.{needs}
@@ -20,7 +22,7 @@ same-length : tie.Need-same-length
 same-length c = search needs
 
 returns : tie.Need-returns
-returns c = refused-answered withdraw _ _ (c .before .before .before .before .before .before .pre .0) _ (fails-refused _ _ (sym (c .before .r .given .1) ∙ c .before .before .before .withdrawal-fault .ensures))
+returns c = refused-answered withdraw _ _ (c .before .before .before .before .before .before .pre .0) _ (checked-same _ (some _) (sym (c .before .before .before .withdrawal-fault .ensures) ∙ c .before .r .given .1))
 
 enum-told : tie.Need-enum-told
 enum-told c = search needs
@@ -43,7 +45,7 @@ same-length-2 c = search needs
 returns-2 : tie.Need-returns-2
 returns-2 c =
     let start = c .before .before .before .before .before .before .before .before .before .before in
-    withdrawn-answered _ _ (start .pre .0) _ _ (clear-accepted _ (sym (c .before .before .before .before .before .enum-told .given .1) ∙ c .before .before .before .before .before .before .before .withdrawal-fault .ensures)) (omega arith) (c .before .before .put-u8 .ensures)
+    withdrawn-answered _ _ (start .pre .0) _ _ (checked-same _ none (sym (c .before .before .before .before .before .before .before .withdrawal-fault .ensures) ∙ c .before .before .before .before .before .enum-told .given .1)) (omega arith) (c .before .before .put-u8 .ensures)
 
 pub withdraw-spec : {M : Type 1} → statement M
 withdraw-spec =
