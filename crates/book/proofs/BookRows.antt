@@ -25,12 +25,9 @@ use Rattle.book.specs.Valid.{isBook, bookIn}
 use Rattle.book.specs.Plain.{partAt}
 use Rattle.book.specs.Sums.{rowsFrom, SumsOf, Tabled, SetupTabled}
 use Rattle.book.proofs.Soundness.{SoundSetup, SoundRow}
-use Rattle.book.proofs.SoundBooks.{SoundBook, sound}
-use Rattle.book.proofs.Sizes.{fits}
 use Rattle.book.proofs.SetupRanges.{InRange, values-in-range}
 use Rattle.book.proofs.SetupAgain.{counts-first-bytes, setup-short, setup-in-front}
-use Rattle.book.proofs.Round.{book-is-image, length-book}
-use Rattle.book.proofs.ImageReads.{row-count-read}
+use Rattle.book.proofs.StateLaws.{book-length, book-is-sound, row-count-stands}
 use Rattle.book.proofs.Places.{decode-places}
 
 -- ---- a part
@@ -64,12 +61,6 @@ sound-tabled u k r s =
 -- ---- bytes that are a book
 
 module _ (s : List ℕ) (h : isBook s ≡ true) where
-  pub sound-in : SoundBook (bookIn s)
-  sound-in = sound (bookIn s) (book-is-image mostHours bookSize s h .1)
-
-  pub length-in : length s ≡ bookSize
-  length-in = length-book mostHours bookSize s h
-
   -- the counts are the first bytes
   pub counts-in : countsOf (bookIn s .setup) ≡ countsIn s
   counts-in =
@@ -81,7 +72,7 @@ module _ (s : List ℕ) (h : isBook s ≡ true) where
   first-in = ap (λ (b : Book). b .setup) (decode-places mostHours bookSize s)
 
   sound-first : SoundSetup (setupOf (take setupRoom s))
-  sound-first = rw first-in at (sound-in .setup-sound)
+  sound-first = rw first-in at (book-is-sound s h .setup-sound)
 
   -- the set-up is what the whole bytes say
   pub setup-in : bookIn s .setup ≡ setupOf s
@@ -89,42 +80,36 @@ module _ (s : List ℕ) (h : isBook s ≡ true) where
 
   pub setup-tabled : SetupTabled s
   setup-tabled =
-      let k = sound-in .setup-sound in
+      let k = book-is-sound s h .setup-sound in
       record {
-        whole = omega (arith, length-in, setup-short s sound-first);
+        whole = omega (arith, book-length s h, setup-short s sound-first);
         accounts-high = omega (arith, ap (λ (n : Counts). n .accounts) counts-in, k .accounts-high);
         hours-high = omega (arith, ap (λ (n : Counts). n .hours) counts-in, k .hours-high);
       }
 
   pub values-in : InRange (bookIn s .setup) (operatorsOf (replicate (operatorCount (bookIn s .setup)) (cents 0)) (bookIn s .setup .maintenance))
-  values-in = values-in-range (bookIn s .setup) _ (sound-in .setup-sound .in-range)
+  values-in = values-in-range (bookIn s .setup) _ (book-is-sound s h .setup-sound .in-range)
 
   pub estimates-in : Each (λ p. p .0 ≤ mostPrice) (estimatesIn s)
   unfolding setupOf
   estimates-in = rw (ap (λ (u : Setup). u .estimates) setup-in) at (values-in .estimates-sound)
 
-  -- how many rows there are
-  pub row-count-in : numberAt s (presentAt + rowCountAt) 2 ≡ length (bookIn s .part .rows)
-  row-count-in =
-      ap (λ (x : List ℕ). numberAt x (presentAt + rowCountAt) 2) (book-is-image mostHours bookSize s h .0)
-      ∙ row-count-read mostHours bookSize (bookIn s) (fits (bookIn s) sound-in)
-
   pub rows-tabled : Each Tabled (bookIn s .part .rows)
-  rows-tabled = each-map (sound-tabled (bookIn s .setup) (sound-in .setup-sound)) (sound-in .part-sound .rows-sound)
+  rows-tabled = each-map (sound-tabled (bookIn s .setup) (book-is-sound s h .setup-sound)) (book-is-sound s h .part-sound .rows-sound)
 
   module _ (n : ℕ) (e : n ≡ length (bookIn s .part .rows)) where
     few : n ≤ mostRows
-    few = omega (arith, sound-in .part-sound .rows-high)
+    few = omega (arith, book-is-sound s h .part-sound .rows-high)
 
     -- the rows stand side by side
     pub rows-in : bookIn s .part .rows ≡ rowsFrom s (presentAt + rowsAt) n
     rows-in =
         ap (λ (b : Book). b .part .rows) (decode-places mostHours bookSize s)
-        ∙ part-rows mostHours (countsIn s .operators) s presentAt n (e ∙ sym row-count-in) few
+        ∙ part-rows mostHours (countsIn s .operators) s presentAt n (e ∙ sym (row-count-stands s h)) few
 
     -- what the sums ask of them
     pub rows-summable : (presentAt + rowsAt + rowWidth * n ≤ length s) × (n ≤ mostRows) × Each Tabled (rowsFrom s (presentAt + rowsAt) n)
-    rows-summable = (omega (arith, length-in, few), few, rw rows-in at rows-tabled)
+    rows-summable = (omega (arith, book-length s h, few), few, rw rows-in at rows-tabled)
 
     -- and the table that is made of them is that of the book's rows
     pub table-of-a-book : (table : List ℕ) → SumsOf (rowsFrom s (presentAt + rowsAt) n) table → SumsOf (bookIn s .part .rows) table

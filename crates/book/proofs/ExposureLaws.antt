@@ -1,11 +1,11 @@
 -- Exposure hour by hour and account by account, as the bytes of the set-up have estimates and accounts; what bounds it.
-use Prim.Native.Nat.{ℕ, zero, suc, _+_, _*_, _^_, _≤_, _<_}
+use Prim.Native.Nat.{ℕ, _+_, _*_, _^_, _≤_, _<_}
 use mathlib.Core.Path.{_≡_, refl, _∙_}
 use mathlib.Core.List.{List}
 use mathlib.Core.Bool.{true, false}
 use native.Mathlib.Nat.{mul-comm, mul-add, mul-le-mul-left}
 use native.Mathlib.Omega.{arith}
-use lib.ListN.{length, drop}
+use lib.ListN.{drop}
 use lib.Dec.{eqb}
 use borrow.Author.Tests.{eq-eqb, ne-eqb}
 use Rattle.units.specs.Units.{centsPerMwh}
@@ -16,10 +16,10 @@ use Rattle.rules.specs.declared.AccountHour.{AccountHour}
 use Rattle.rules.specs.Basics.{total, nth, counting, Each}
 use Rattle.rules.specs.Books.{noAccount}
 use Rattle.rules.specs.Limits.{mostPrice}
-use Rattle.rules.specs.Opening.{countsIn, setupOf, estimatesIn, accountsIn, accountIn, priceIn, accountsFrom}
+use Rattle.rules.specs.Opening.{countsIn, setupOf, estimatesIn, accountsIn, accountIn, accountsFrom}
 use Rattle.rules.specs.Registration.{accountHour, exposed, ofOperator, exposureOf, exposure}
-use Rattle.rules.proofs.Searches.{each-at}
-use Rattle.rules.proofs.SetupEntries.{length-entries}
+use Rattle.rules.proofs.Searches.{each-nth}
+use Rattle.rules.proofs.SetupEntries.{length-entries, length-estimates}
 use Rattle.book.specs.Sums.{accountExposure, exposureShare}
 
 -- ---- an hour
@@ -32,15 +32,10 @@ price-bounded energy price h l = omega (arith, mul-le-mul-left {m = price} {n = 
 pub price-joined : (price x y : ℕ) → x * price + y * price ≡ price * (x + y)
 price-joined price x y = omega (arith, mul-add price x y, mul-comm price x, mul-comm price y)
 
-estimate-count : (s : List ℕ) → length (estimatesIn s) ≡ countsIn s .hours
-unfolding estimatesIn
-estimate-count s = length-entries 4 priceIn (countsIn s .hours) (drop 5 s)
-
 -- an estimate that the set-up has is in range where each is
 pub estimate-small : (s : List ℕ) (h : ℕ) → Each (λ p. p .0 ≤ mostPrice) (estimatesIn s) → 1 ≤ h → h ≤ countsIn s .hours
     → nth (estimatesIn s) h (centsPerMwh 0) .0 ≤ mostPrice
-estimate-small s zero e l u = absurd (omega arith)
-estimate-small s (suc i) e l u = each-at (centsPerMwh 0) i e (rw (estimate-count s) (omega arith))
+estimate-small s h e l u = each-nth (centsPerMwh 0) h e l (rw (length-estimates s) u)
 
 -- the exposure of an account hour at the estimate
 unfoldable pub hourExposure : List ℕ → List Row → ℕ → ℕ → ℕ

@@ -15,7 +15,7 @@ use Rattle.rules.specs.Books.{Setup, noRow}
 use Rattle.rules.specs.Registration.{pending, alike, withStatus, mark, closed}
 use Rattle.rules.proofs.Tests.{and-both}
 use Rattle.rules.proofs.Searches.{any-none, none-any, each-snoc}
-use Rattle.rules.proofs.RowTests.{alike-by, alike-true}
+use Rattle.rules.proofs.RowTests.{alike-by, alike-ended, alike-true}
 use Rattle.book.specs.Valid.{noTwins, sameTerms, follows}
 use Rattle.book.proofs.Soundness.{SoundRow}
 
@@ -82,11 +82,6 @@ twins-cons r rs =
     let a = apart-go r rs (pending r) refl in
     let b = and-both (not (pending r && any (alike (r .proposer) (r .counterparty) (r .code)) rs)) (noTwins rs) in
     ((λ h. (a .0 (b .0 h .0), b .0 h .1)), (λ w. b .1 (a .1 (w .0), w .1)))
-
--- a row that is not pending is like no other
-alike-ended : (p c k : ℕ) (r : Row) → pending r ≡ false → alike p c k r ≡ false
-unfolding alike
-alike-ended p c k r e = rw e
 
 -- of two pending rows each is like the other or neither is
 turned : (x r : Row) → pending x ≡ true → alike (r .proposer) (r .counterparty) (r .code) x ≡ false

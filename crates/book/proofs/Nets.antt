@@ -4,8 +4,8 @@ use Prim.Native.Nat.{ℕ, suc, _+_, _-_, _*_, _/_, _%_, _^_, _≤_, _<_}
 use mathlib.Core.Path.{_≡_, refl, sym, ap, _∙_}
 use mathlib.Core.Logic.{_⊎_, inl, inr, ⊎-elim}
 use mathlib.Core.List.{List, [], map}
-use mathlib.Core.Bool.{Bool, true, false, and-false}
-use native.Mathlib.Nat.{add-zero, add-mul-mod-self-left, mod-add-div, mul-add, suc-mul, one-le-pow, mul-le-mul-left, eq-zero-or-pos}
+use mathlib.Core.Bool.{true, and-false}
+use native.Mathlib.Nat.{add-zero, add-mul-mod-self-left, mod-add-div, mul-add, suc-mul, one-le-pow, mul-le-mul-left}
 use native.Mathlib.Omega.{arith}
 use lib.ListN.{length, getD, set, length-map, length-set}
 use lib.Seq.{ext-getD, getD-set-same, getD-set-other}
@@ -19,15 +19,17 @@ use Rattle.wire.proofs.PartLaws.{before}
 use Rattle.wire.proofs.SlotLaws.{Uniform, uniform-map, before-uniform, length-uniform, map-get}
 use Rattle.wire.proofs.SweepLaws.{sweep-flat, sweep-cells, length-over, over-in, over-out}
 use Rattle.rules.specs.declared.Row.{Row}
-use Rattle.rules.specs.Basics.{if_then_else_, nth, upTo}
+use Rattle.rules.specs.Basics.{nth, upTo}
 use Rattle.rules.specs.Limits.{mostAccounts}
 use Rattle.rules.specs.Books.{noRow}
 use Rattle.rules.specs.Registration.{pending, seller, buyer, covers, mark, bought, sold}
 use Rattle.rules.proofs.Searches.{counting-at, counting-length}
+use Rattle.rules.proofs.Balanced.{picked-in}
 use Rattle.rules.proofs.AccountHours.{share, moved-confirm}
 use Rattle.book.specs.Layout.{accountWidth}
 use Rattle.book.specs.Image.{accountNets, netsBytes}
 use Rattle.book.specs.Changes.{raised}
+use Rattle.book.proofs.SumLaws.{lt-or-ge}
 use Rattle.book.proofs.Sizes.{RowFits, length-signed}
 
 -- ---- a signed number raised
@@ -100,13 +102,10 @@ upTo-at g m k h =
 length-upTo : (g : ℕ → List ℕ) (m : ℕ) → length (map g (upTo m)) ≡ m
 length-upTo g m = length-map (upTo m) g ∙ counting-length m 1
 
-of-two : (a b : ℕ) → (a < b) ⊎ (b ≤ a)
-of-two a b = ⊎-elim (λ (z : b - a ≡ 0). inr (omega arith)) (λ (z : 0 < b - a). inl (omega arith)) (eq-zero-or-pos (b - a))
-
 or-not : (a b : ℕ) → (a ≡ b) ⊎ (a ≡ b → ⊥)
 or-not a b =
     ⊎-elim (λ (l : a < b). inr (λ e. omega arith)) (λ (l : b ≤ a).
-    ⊎-elim (λ (m : b < a). inr (λ e. omega arith)) (λ (m : a ≤ b). inl (omega arith)) (of-two b a)) (of-two a b)
+    ⊎-elim (λ (m : b < a). inr (λ e. omega arith)) (λ (m : a ≤ b). inl (omega arith)) (lt-or-ge b a)) (lt-or-ge a b)
 
 -- f put to n of those that are counted, the first of which has i before it
 over-upTo : (f : List ℕ → List ℕ) (g g′ : ℕ → List ℕ) (m i n : ℕ) → i + n ≤ m
@@ -126,7 +125,7 @@ over-upTo f g g′ m i n l inside outside =
         ⊎-elim (λ (b : k < i + n).
         over-in f i n (map g (upTo m)) k [] a b (omega (arith, length-upTo g m))
         ∙ ap f (upTo-at g m k h)
-        ∙ inside (suc k) (omega arith) (omega arith)) (λ (b : i + n ≤ k). out (inr b)) (of-two k (i + n))) (of-two k i)
+        ∙ inside (suc k) (omega arith) (omega arith)) (λ (b : i + n ≤ k). out (inr b)) (lt-or-ge k (i + n))) (lt-or-ge k i)
 
 -- one of those that are counted replaced
 set-upTo : (g g′ : ℕ → List ℕ) (m k : ℕ) → k < m → ((a : ℕ) → (a ≡ suc k → ⊥) → g a ≡ g′ a)
@@ -207,16 +206,9 @@ module _ (top : ℕ) (r : Row) (fit : RowFits top r) (n at : ℕ) (count : r .fi
 pub party-fits : (top : ℕ) (r : Row) → RowFits top r
     → ((1 ≤ seller r) × (seller r ≤ mostAccounts)) × ((1 ≤ buyer r) × (buyer r ≤ mostAccounts))
 party-fits top r f =
-    let p = f .proposer-low in
-    let q = f .proposer-high in
-    let c = f .counterparty-low in
-    let d = f .counterparty-high in
-    (go (eqb (r .side) 1) (r .proposer) (r .counterparty) p q c d, go (eqb (r .side) 1) (r .counterparty) (r .proposer) c d p q)
-  where
-    go : (t : Bool) (x y : ℕ) → 1 ≤ x → x ≤ mostAccounts → 1 ≤ y → y ≤ mostAccounts
-        → (1 ≤ (if t then x else y)) × ((if t then x else y) ≤ mostAccounts)
-    go true x y a b c d = (a, b)
-    go false x y a b c d = (c, d)
+    let p : (1 ≤ r .proposer) × (r .proposer ≤ mostAccounts) = (f .proposer-low, f .proposer-high) in
+    let c : (1 ≤ r .counterparty) × (r .counterparty ≤ mostAccounts) = (f .counterparty-low, f .counterparty-high) in
+    (picked-in mostAccounts (eqb (r .side) 1) _ _ p c, picked-in mostAccounts (eqb (r .side) 1) _ _ c p)
 
 -- the nets of the seller lowered, then those of the buyer raised
 pub nets-confirm : (top : ℕ) (rows : List Row) (named n low high : ℕ) (r : Row) → r ≡ nth rows named noRow → pending r ≡ true → RowFits top r

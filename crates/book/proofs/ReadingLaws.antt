@@ -38,7 +38,8 @@ use Rattle.book.proofs.Sizes.{fits}
 use Rattle.book.proofs.SetupRanges.{InRange, SoundAccount}
 use Rattle.book.proofs.Round.{book-is-image}
 use Rattle.book.proofs.ImageReads.{net-read}
-use Rattle.book.proofs.BookRows.{sound-in, counts-in, setup-in, values-in}
+use Rattle.book.proofs.StateLaws.{book-is-sound}
+use Rattle.book.proofs.BookRows.{counts-in, setup-in, values-in}
 
 -- ---- a stored net
 
@@ -133,11 +134,11 @@ module _ (s : List ℕ) (h : isBook s ≡ true) (n : Counts) (e : n ≡ countsIn
           let j = hour-inside in
           margins-near (accountAt u a) (accountHour (bookIn s .part .rows) a t) (operatorCount u)
           (account-in-range u _ a (values-in s h) (i .0) (i .1))
-          (sound-in s h .part-sound .keeps-margins a t (i .0) (i .1) (j .0) (j .1))
+          (book-is-sound s h .part-sound .keeps-margins a t (i .0) (i .1) (j .0) (j .1))
 
       pub net-in-table : InTable a t
       net-in-table =
-          let k = sound-in s h .setup-sound in
+          let k = book-is-sound s h .setup-sound in
           record {
             account-low = account-inside .0;
             account-high = omega (arith, account-inside .1, k .accounts-high);
@@ -151,7 +152,7 @@ module _ (s : List ℕ) (h : isBook s ≡ true) (n : Counts) (e : n ≡ countsIn
       net-stands v q =
           let i = net-in-table in
           let at : ℕ = presentAt + netAt mostHours a t in
-          let read = net-read mostHours bookSize (bookIn s) (fits (bookIn s) (sound-in s h)) a t at (i .account-low) (i .account-high) (i .hour-low) (i .hour-high) refl in
+          let read = net-read mostHours bookSize (bookIn s) (fits (bookIn s) (book-is-sound s h)) a t at (i .account-low) (i .account-high) (i .hour-low) (i .hour-high) refl in
           let stored = q ∙ ap (λ (z : List ℕ). numberAt z at 4) (book-is-image mostHours bookSize s h .0) ∙ read in
           ap (λ (o : Option Refusal). netReadingOf o net) (clear-lowest (netChecks (bookIn s) a t) (rw (by-account x), (rw (by-hour y), tt)))
           ∙ ap NetReading.Stands (stored-position _ _ v stored (net-near .0) (net-near .1))

@@ -1,8 +1,8 @@
 -- What one row adds to each lane: by cases on the lane, with the row's status and side known.
 use Prim.Native.Nat.{ℕ, zero, suc, _+_, _-_, _≤_, _<_}
-use mathlib.Core.Path.{_≡_, refl, sym, ap, _∙_}
+use mathlib.Core.Path.{_≡_, sym, ap, _∙_}
 use mathlib.Core.List.{List, [], _∷_}
-use mathlib.Core.Bool.{Bool, true, false, _&&_}
+use mathlib.Core.Bool.{and-true, and-false}
 use mathlib.Core.Logic.{⊎-elim}
 use native.Mathlib.Nat.{add-zero}
 use native.Mathlib.Omega.{arith}
@@ -13,30 +13,17 @@ use Rattle.rules.specs.declared.Row.{Row}
 use Rattle.rules.specs.Basics.{if_then_else_, total}
 use Rattle.rules.specs.Limits.{mostAccounts}
 use Rattle.rules.specs.Registration.{moved, waiting, buyer, seller}
+use Rattle.rules.proofs.Balanced.{picked-in}
 use Rattle.book.specs.Sums.{cellOf, InTable, Tabled, Raised, Taken, laneSum}
 use Rattle.book.proofs.SumLaws.{lt-or-ge, hits, raised-cell, raised-most}
 
-and-true : (t : Bool) → (t && true) ≡ t
-and-true true = refl
-and-true false = refl
-
-and-false : (t : Bool) → (t && false) ≡ false
-and-false true = refl
-and-false false = refl
-
 -- ---- the parties of a row are accounts of the table
 
--- of two accounts of the table, the one that a test picks
-picked-in : (test : Bool) (x y : ℕ) → 1 ≤ x → x ≤ mostAccounts → 1 ≤ y → y ≤ mostAccounts
-    → (1 ≤ (if test then x else y)) × ((if test then x else y) ≤ mostAccounts)
-picked-in true x y a b c d = (a, b)
-picked-in false x y a b c d = (c, d)
-
 pub buyer-in : (r : Row) → Tabled r → (1 ≤ buyer r) × (buyer r ≤ mostAccounts)
-buyer-in r t = picked-in (eqb (r .side) 1) _ _ (t .counterparty-low) (t .counterparty-high) (t .proposer-low) (t .proposer-high)
+buyer-in r t = picked-in mostAccounts (eqb (r .side) 1) _ _ (t .counterparty-low, t .counterparty-high) (t .proposer-low, t .proposer-high)
 
 pub seller-in : (r : Row) → Tabled r → (1 ≤ seller r) × (seller r ≤ mostAccounts)
-seller-in r t = picked-in (eqb (r .side) 1) _ _ (t .proposer-low) (t .proposer-high) (t .counterparty-low) (t .counterparty-high)
+seller-in r t = picked-in mostAccounts (eqb (r .side) 1) _ _ (t .proposer-low, t .proposer-high) (t .counterparty-low, t .counterparty-high)
 
 -- ---- what one row adds
 

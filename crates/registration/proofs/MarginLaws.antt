@@ -18,7 +18,8 @@ use Rattle.rules.specs.Registration.{accountHour, takes, keepsMargins}
 use Rattle.book.specs.Valid.{isBook, bookIn}
 use Rattle.book.specs.Sums.{cellOf, InTable, SumsOf, Room}
 use Rattle.book.proofs.TableLaws.{sums-room}
-use Rattle.book.proofs.BookRows.{sound-in, counts-in, setup-in, rows-tabled}
+use Rattle.book.proofs.StateLaws.{book-is-sound}
+use Rattle.book.proofs.BookRows.{counts-in, setup-in, rows-tabled}
 use Rattle.registration.specs.Margins.{brokenBy}
 
 -- ---- what is read of a book
@@ -33,10 +34,10 @@ module _ (s : List ℕ) (h : isBook s ≡ true) where
 
   pub accounts-read : (a : ℕ) → a ≤ accountCount (bookIn s .setup) → (a ≤ countsIn s .accounts) × (a ≤ mostAccounts)
   accounts-read a l =
-      (omega (arith, ap (λ (m : Counts). m .accounts) (counts-in s h)), omega (arith, sound-in s h .setup-sound .accounts-high))
+      (omega (arith, ap (λ (m : Counts). m .accounts) (counts-in s h)), omega (arith, book-is-sound s h .setup-sound .accounts-high))
 
   pub hours-few : bookIn s .setup .hours ≤ mostHours
-  hours-few = sound-in s h .setup-sound .hours-high
+  hours-few = book-is-sound s h .setup-sound .hours-high
 
   pub hour-in-table : (a k : ℕ) → 1 ≤ a → a ≤ accountCount (bookIn s .setup) → 1 ≤ k → k ≤ bookIn s .setup .hours → InTable a k
   hour-in-table a k al ah kl kh =
@@ -44,7 +45,7 @@ module _ (s : List ℕ) (h : isBook s ≡ true) where
 
   -- the table of its rows has room for a trade
   pub book-room : (table : List ℕ) (q : ℕ) → SumsOf (bookIn s .part .rows) table → q ≤ mostEnergy → Room table 0 q
-  book-room table q t l = sums-room table q t (rows-tabled s h) (sound-in s h .part-sound .rows-high) l
+  book-room table q t l = sums-room table q t (rows-tabled s h) (book-is-sound s h .part-sound .rows-high) l
 
 -- ---- an hour
 

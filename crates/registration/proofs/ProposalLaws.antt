@@ -37,7 +37,7 @@ use Rattle.book.proofs.RowsFrom.{rows-done, rows-step}
 use Rattle.book.proofs.BookWrites.{write-register}
 use Rattle.book.proofs.KeepsKinds.{proposed-sound, register-keeps}
 use Rattle.book.proofs.StateLaws.{book-image, book-fits, book-is-sound}
-use Rattle.book.proofs.BookRows.{sound-in, values-in, sound-tabled}
+use Rattle.book.proofs.BookRows.{values-in, sound-tabled}
 use Rattle.registration.specs.Kinds.{decided, Ready}
 use Rattle.registration.specs.Margins.{brokenBy, broken}
 use Rattle.registration.specs.declared.margins.Broken.the-variants.{Hour, Nowhere}
@@ -80,11 +80,11 @@ pub ready-row : (b : Book) (q : Request) → Ready register b q → SoundRow (b 
 ready-row b q r = proposed-sound b bare q (sym (r .of-kind)) (r .code-fits) (ready-input b q register refl r)
 
 pub ready-tabled : (s : List ℕ) (q : Request) → isBook s ≡ true → Ready register (bookIn s) q → Tabled (proposed q)
-ready-tabled s q h r = sound-tabled (bookIn s .setup) (sound-in s h .setup-sound) (proposed q) (ready-row (bookIn s) q r)
+ready-tabled s q h r = sound-tabled (bookIn s .setup) (book-is-sound s h .setup-sound) (proposed q) (ready-row (bookIn s) q r)
 
 -- its values fit their bytes
 pub ready-fits : (s : List ℕ) (q : Request) (r : Row) → isBook s ≡ true → Ready register (bookIn s) q → r ≡ proposed q → Small rowWidths (rowValues r)
-ready-fits s q r h ready e = rw e (row-small (bookIn s .setup) (proposed q) (sound-in s h .setup-sound) (ready-row (bookIn s) q ready))
+ready-fits s q r h ready e = rw e (row-small (bookIn s .setup) (proposed q) (book-is-sound s h .setup-sound) (ready-row (bookIn s) q ready))
 
 -- the operator of an account is one of the book's
 pub caller-operator : (s : List ℕ) (a : ℕ) → isBook s ≡ true → 1 ≤ a → a ≤ accountCount (bookIn s .setup)

@@ -7,7 +7,7 @@ use mathlib.Core.Bool.{Bool, true, false, _&&_}
 use lib.Dec.{eqb}
 use lib.IntN.{ℤ, pos, subℕ, _+ℤ_}
 use Rattle.rules.specs.declared.Row.{Row}
-use Rattle.rules.specs.Basics.{total, upTo, Each}
+use Rattle.rules.specs.Basics.{if_then_else_, total, upTo, Each}
 use Rattle.rules.specs.Registration.{confirmed, covers, buyer, seller, counted, moved, bought, sold, netOf, figure}
 use Rattle.rules.proofs.Differences.{difference-add, difference-none}
 use Rattle.rules.proofs.Searches.{each-map}
@@ -22,31 +22,26 @@ pub record Parties (n : ℕ) (r : Row) : Type 0 where
   pub side-low : 1 ≤ r .side
   pub side-high : r .side ≤ 2
 
-parties-go : (n : ℕ) (r : Row) (t : Bool) → eqb (r .side) 1 ≡ t → (1 ≤ r .proposer) × (r .proposer ≤ n)
-    → (1 ≤ r .counterparty) × (r .counterparty ≤ n) → (1 ≤ r .side) × (r .side ≤ 2) → Parties n r
-parties-go n r true e p c s =
-    record {
-      buyer-low = rw e (c .0);
-      buyer-high = rw e (c .1);
-      seller-low = rw e (p .0);
-      seller-high = rw e (p .1);
-      side-low = s .0;
-      side-high = s .1;
-    }
-parties-go n r false e p c s =
-    record {
-      buyer-low = rw e (p .0);
-      buyer-high = rw e (p .1);
-      seller-low = rw e (c .0);
-      seller-high = rw e (c .1);
-      side-low = s .0;
-      side-high = s .1;
-    }
+-- of two accounts 1 to n, the one that a test picks
+pub picked-in : (n : ℕ) (test : Bool) (x y : ℕ) → (1 ≤ x) × (x ≤ n) → (1 ≤ y) × (y ≤ n)
+    → (1 ≤ (if test then x else y)) × ((if test then x else y) ≤ n)
+picked-in n true x y a b = a
+picked-in n false x y a b = b
 
 -- a row whose proposer and counterparty are accounts
 pub parties : (n : ℕ) (r : Row) → (1 ≤ r .proposer) × (r .proposer ≤ n) → (1 ≤ r .counterparty) × (r .counterparty ≤ n)
     → (1 ≤ r .side) × (r .side ≤ 2) → Parties n r
-parties n r p c s = parties-go n r (eqb (r .side) 1) refl p c s
+parties n r p c s =
+    let buys = picked-in n (eqb (r .side) 1) (r .counterparty) (r .proposer) c p in
+    let sells = picked-in n (eqb (r .side) 1) (r .proposer) (r .counterparty) p c in
+    record {
+      buyer-low = buys .0;
+      buyer-high = buys .1;
+      seller-low = sells .0;
+      seller-high = sells .1;
+      side-low = s .0;
+      side-high = s .1;
+    }
 
 -- what confirmed rows move in the hour
 abbrev pub movedAll : ℕ → List Row → ℕ

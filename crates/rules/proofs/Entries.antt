@@ -15,6 +15,7 @@ use Rattle.rules.specs.Basics.{total, indexOf, nth}
 use Rattle.rules.specs.Books.{noRow}
 use Rattle.rules.specs.Registration.{pending, mark, closed, alike}
 use Rattle.rules.specs.Ledger.{Entry, without}
+use Rattle.rules.proofs.RowTests.{alike-ended}
 
 -- the pending ones of rows that are numbered from n on
 unfoldable pub entriesFrom : ℕ → List Row → List Entry
@@ -87,14 +88,10 @@ module _ (t : Row → Bool) (only : (r : Row) → pending r ≡ false → t r �
   entries-first n i (r ∷ rs) h =
       confirm-go n i r rs (t r) refl (pending r) refl (indexOf t rs) refl (λ j. entries-first (suc n) j rs) h
 
-alike-pending : (p c k : ℕ) (r : Row) → pending r ≡ false → alike p c k r ≡ false
-unfolding alike
-alike-pending p c k r e = rw e
-
 -- the row that is named by proposer, counterparty and code
 pub entries-confirm : (p c k i : ℕ) (rows : List Row) → indexOf (alike p c k) rows ≡ some i
     → without (λ e. alike p c k (e .row)) (entriesOf rows) ≡ entriesOf (mark (suc i) 2 rows)
-entries-confirm p c k i rows h = entries-first (alike p c k) (alike-pending p c k) 2 refl 1 i rows h
+entries-confirm p c k i rows h = entries-first (alike p c k) (alike-ended p c k) 2 refl 1 i rows h
 
 -- ---- withdraw: the row of that number
 

@@ -1,7 +1,7 @@
 -- What the tests on rows say: each is a conjunction, taken apart into named facts.
 use Prim.Native.Nat.{ℕ, _≤_}
 use mathlib.Core.Path.{_≡_}
-use mathlib.Core.Bool.{true}
+use mathlib.Core.Bool.{true, false}
 use native.Mathlib.Omega.{arith}
 use lib.ListN.{length}
 use borrow.Author.Tests.{eqb-true, eqb-false, eq-eqb, not-true}
@@ -28,6 +28,11 @@ pub alike-by : (p c k : ℕ) (r : Row) → Alike p c k r → alike p c k r ≡ t
 unfolding alike
 alike-by p c k r h =
     and-both _ _ .1 (and-both _ _ .1 (and-both _ _ .1 (h .is-pending, eq-eqb _ _ (h .proposer)), eq-eqb _ _ (h .counterparty)), eq-eqb _ _ (h .code))
+
+-- a row that is not pending is like no other
+pub alike-ended : (p c k : ℕ) (r : Row) → pending r ≡ false → alike p c k r ≡ false
+unfolding alike
+alike-ended p c k r e = rw e
 
 pub alike-true : (p c k : ℕ) (r : Row) → alike p c k r ≡ true → Alike p c k r
 unfolding alike

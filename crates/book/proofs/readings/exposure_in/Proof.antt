@@ -2,13 +2,14 @@
 use mathlib.Core.Path.{sym, _∙_}
 use native.Mathlib.Omega.{arith}
 use borrow.Author.Needs.{needs}
-use Rattle.book.proofs.BookRows.{length-in, setup-tabled, estimates-in}
+use Rattle.book.proofs.StateLaws.{book-length}
+use Rattle.book.proofs.BookRows.{setup-tabled, estimates-in}
 use Rattle.book.proofs.ReadingLaws.{exposure-no-operator, exposure-stands}
 use Rattle.book.proofs.readings.exposure_in.Statement.{statement}
 use Rattle.book.proofs.readings.exposure_in.Tie as tie
 
 counts-requires : tie.Need-counts-requires
-counts-requires c κs = omega (arith, length-in (c .before .args .book .now) (c .before .pre))
+counts-requires c κs = omega (arith, book-length (c .before .args .book .now) (c .before .pre))
 
 outside-requires : tie.Need-outside-requires
 outside-requires c κs = search needs

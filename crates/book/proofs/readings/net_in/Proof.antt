@@ -3,13 +3,13 @@ use mathlib.Core.Path.{sym, ap, _∙_}
 use native.Mathlib.Omega.{arith}
 use borrow.Author.Needs.{needs}
 use Rattle.rules.specs.declared.NetReading.{NetReading}
-use Rattle.book.proofs.BookRows.{length-in}
+use Rattle.book.proofs.StateLaws.{book-length}
 use Rattle.book.proofs.ReadingLaws.{net-no-account, net-no-hour, net-in-table, net-stands}
 use Rattle.book.proofs.readings.net_in.Statement.{statement}
 use Rattle.book.proofs.readings.net_in.Tie as tie
 
 counts-requires : tie.Need-counts-requires
-counts-requires c κs = omega (arith, length-in (c .before .args .book .now) (c .before .pre))
+counts-requires c κs = omega (arith, book-length (c .before .args .book .now) (c .before .pre))
 
 outside-requires : tie.Need-outside-requires
 outside-requires c κs = search needs

@@ -1,7 +1,7 @@
 -- The cells of a book stand by account and then hour, inside its bytes.
 use native.Mathlib.Omega.{arith}
 use borrow.Author.Needs.{needs}
-use Rattle.book.proofs.BookRows.{length-in}
+use Rattle.book.proofs.StateLaws.{book-length}
 use Rattle.book.proofs.readings.stored_net.Statement.{statement}
 use Rattle.book.proofs.readings.stored_net.Tie as tie
 
@@ -27,7 +27,7 @@ add-get-u32-2 : tie.Need-add-get-u32-2
 add-get-u32-2 c = search needs
 
 get-u32-requires : tie.Need-get-u32-requires
-get-u32-requires c κs = let start = c .before in omega (arith, start .pre .1, length-in (start .args .book .now) (start .pre .0))
+get-u32-requires c κs = let start = c .before in omega (arith, start .pre .1, book-length (start .args .book .now) (start .pre .0))
 
 returns : tie.Need-returns
 returns c = search needs

@@ -8,7 +8,8 @@ use Rattle.rules.specs.Basics.{find, counting}
 use Rattle.rules.specs.Limits.{mostHours}
 use Rattle.rules.specs.Books.{accountAt}
 use Rattle.book.specs.Valid.{bookIn}
-use Rattle.book.proofs.BookRows.{length-in, setup-tabled}
+use Rattle.book.proofs.StateLaws.{book-length}
+use Rattle.book.proofs.BookRows.{setup-tabled}
 use Rattle.registration.specs.Margins.{brokenBy, broken}
 use Rattle.registration.proofs.SearchLaws.{find-done, find-same, find-here, find-next}
 use Rattle.registration.proofs.MarginLaws.{hours-read, account-read, accounts-read, hours-few, hour-in-table, book-room, hour-room, breaks, broken-by-hours, breaks-tested}
@@ -30,7 +31,7 @@ abbrev μ-loop : tie.MeasureT-loop
 μ-loop book table trade number n owner hour₀ hour = n .hours + 1 - hour
 
 counts-requires : tie.Need-counts-requires Inv-loop μ-loop
-counts-requires c κs = omega (arith, length-in _ (c .before .before .pre .0))
+counts-requires c κs = omega (arith, book-length _ (c .before .before .pre .0))
 
 account-requires : tie.Need-account-requires Inv-loop μ-loop
 account-requires c κs =
