@@ -80,6 +80,12 @@ pub struct Schedule {
     pub price: CentsPerMwh,
 }
 
+// A schedule with its place, which is its order of receipt, from 1.
+pub struct Placed {
+    pub place: u16,
+    pub schedule: Schedule,
+}
+
 // An operator's balance: what it gained less what it lost.
 pub struct Balance {
     pub gained: MilliCents,
