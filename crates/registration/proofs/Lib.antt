@@ -21,3 +21,5 @@ pub mod ReadyLaws
 pub mod LodgingLaws
 -- ProposalLaws: what the state refuses a register for, and what an accepted one writes.
 pub mod ProposalLaws
+-- PositionLaws: what moving the nets of a trade writes.
+pub mod PositionLaws

@@ -4,5 +4,6 @@ pub mod cover;
 pub mod gate;
 pub mod lodging;
 pub mod margins;
+pub mod positions;
 pub mod proposal;
 pub mod withdrawal;
