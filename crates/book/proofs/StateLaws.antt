@@ -11,18 +11,18 @@ use Rattle.wire.specs.Numbers.{numberAt}
 use Rattle.wire.specs.Parts.{startOf}
 use Rattle.rules.specs.declared.Row.{Row}
 use Rattle.rules.specs.Basics.{isSome, nth}
-use Rattle.rules.specs.Limits.{mostHours, mostRows, bookSize}
+use Rattle.rules.specs.Limits.{mostHours, mostRows, mostSchedules, bookSize}
 use Rattle.rules.specs.Books.{Part, Book, noRow}
 use Rattle.rules.specs.Calls.{restored}
 use Rattle.rules.proofs.Searches.{some-of, each-at}
-use Rattle.book.specs.Layout.{rowWidths, rowWidth, phaseAt, flagAt, presentAt, savedAt, rowCountAt, rowAt}
+use Rattle.book.specs.Layout.{rowWidths, rowWidth, phaseAt, flagAt, scheduleCountAt, presentAt, savedAt, rowCountAt, rowAt}
 use Rattle.book.specs.Image.{rowValues, rowBytes, rowIn, flag}
 use Rattle.book.specs.Valid.{valid, follows, isBook, bookIn, bookBytes}
 use Rattle.book.proofs.SoundBooks.{SoundBook, sound}
 use Rattle.book.proofs.Sizes.{Fits, fits, row-small}
 use Rattle.book.proofs.KeepsRows.{follows-cons}
 use Rattle.book.proofs.Keeps.{batch-follows}
-use Rattle.book.proofs.ImageReads.{phase-read, flag-read, row-count-read, saved-row-count-read, row-read, row-value-read}
+use Rattle.book.proofs.ImageReads.{phase-read, flag-read, schedule-count-read, row-count-read, saved-row-count-read, row-read, row-value-read}
 use Rattle.book.proofs.Round.{row-back, book-is-image, length-book}
 
 -- the flag says whether a batch is open
@@ -73,6 +73,12 @@ module _ (s : List ℕ) (h : isBook s ≡ true) where
 
   pub row-count-high : length (bookIn s .part .rows) ≤ mostRows
   row-count-high = book-is-sound .part-sound .rows-high
+
+  pub schedule-count-stands : numberAt s scheduleCountAt 2 ≡ length (bookIn s .schedules)
+  schedule-count-stands = number-in-book scheduleCountAt 2 ∙ schedule-count-read mostHours bookSize (bookIn s) book-fits
+
+  pub schedule-count-high : length (bookIn s .schedules) ≤ mostSchedules
+  schedule-count-high = book-is-sound .schedules-high
 
   -- while a batch is open: how many rows undo restores, which are no more than there are
   pub saved-row-count-stands : isSome (bookIn s .saved) ≡ true

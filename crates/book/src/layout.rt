@@ -47,6 +47,11 @@ pub const MOST_SCHEDULES: usize = 256;
 // Bytes of an account's net positions: 4 for each of 25 periods.
 pub const ACCOUNT_NETS: usize = 100;
 
+// What the 4 bytes of a net position count to, and the greatest number in them.
+pub const TURN: u64 = 4_294_967_296;
+
+pub const MOST_IN_4: u32 = 4_294_967_295;
+
 // The table of sums: cells of a lane, and of the whole.
 pub const LANE_SIZE: usize = 800;
 

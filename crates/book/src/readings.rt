@@ -14,6 +14,7 @@ ghost use Rattle.book.specs.Valid.{isBook, bookIn};
 ghost use Rattle.book.specs.Sums.{InTable, SumsOf};
 ghost use Rattle.book.specs.Doors.{netAnswer, exposureAnswer};
 use crate::exposure::exposure_of;
+use crate::layout::MOST_IN_4;
 use crate::layout::PRESENT_AT;
 use crate::layout::ROWS_IN;
 use crate::layout::TABLE_SIZE;
@@ -29,10 +30,8 @@ use setup::counts::counts;
 use units::Kwh;
 use wire::numbers::get_u32;
 
-// Half of what 4 bytes count to, from which on they are below zero, and the greatest number in them.
+// Half of what 4 bytes count to, from which on they are below zero.
 const HALF_TURN: u32 = 2_147_483_648;
-
-const MOST_IN_4: u32 = 4_294_967_295;
 
 // The number is not among those from 1 to `most`.
 fn outside(number: u8, most: u8) -> bool

@@ -4,7 +4,7 @@ ghost use mathlib.Core.Bool.{true};
 ghost use Prim.Native.Nat.{_+_, _-_, _≤_};
 ghost use lib.ListN.{length};
 ghost use Rattle.rules.specs.Basics.{isSome};
-ghost use Rattle.rules.specs.Limits.{mostRows, mostHours};
+ghost use Rattle.rules.specs.Limits.{mostRows, mostSchedules, mostHours};
 ghost use Rattle.rules.specs.Calls.{restored};
 ghost use Rattle.book.specs.Layout.{presentAt, rowAt, netAt};
 ghost use Rattle.book.specs.Valid.{isBook, bookIn};
@@ -18,6 +18,7 @@ use crate::layout::ROW_COUNT_IN;
 use crate::layout::ROW_WIDTH;
 use crate::layout::ROWS_IN;
 use crate::layout::SAVED_AT;
+use crate::layout::SCHEDULE_COUNT_AT;
 use wire::numbers::get_u8;
 use wire::numbers::get_u16;
 
@@ -56,6 +57,15 @@ pub fn row_count(book: &[u8]) -> u16
     ensures bound { λ r. ⌜ r ≤ mostRows ⌝ }
 {
     get_u16(book, PRESENT_AT + ROW_COUNT_IN)
+}
+
+// How many schedules stand.
+pub fn schedule_count(book: &[u8]) -> u16
+    requires { ⌜ isBook (now book) ≡ true ⌝ }
+    ensures { λ r. ⌜ r ≡ length (bookIn (now (book .entry)) .schedules) ⌝ }
+    ensures bound { λ r. ⌜ r ≤ mostSchedules ⌝ }
+{
+    get_u16(book, SCHEDULE_COUNT_AT)
 }
 
 // How many rows had numbers when the open batch was opened: at most as many as now.

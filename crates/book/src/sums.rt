@@ -12,6 +12,7 @@ use crate::layout::ACCOUNT_NETS;
 use crate::layout::LANE_SIZE;
 use crate::layout::ROW_WIDTH;
 use crate::layout::TABLE_SIZE;
+use crate::layout::TURN;
 use crate::rows::row_at;
 use rules::AccountHour;
 use rules::Net;
@@ -33,9 +34,6 @@ const PURCHASES: usize = 3;
 
 // The cells of an account in a lane.
 const ACCOUNT_CELLS: usize = 25;
-
-// What 4 bytes count to.
-const TURN: u64 = 4_294_967_296;
 
 // Adds `q` to the `n` cells from `at` on.
 fn add_range(table: &mut [u32], at: usize, n: usize, q: u32)

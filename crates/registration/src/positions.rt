@@ -9,16 +9,13 @@ ghost use Rattle.rules.specs.Registration.{seller, buyer};
 ghost use Rattle.book.specs.Layout.{presentAt, netAt};
 ghost use Rattle.book.specs.Changes.{raised};
 ghost use Rattle.book.specs.Sums.{Tabled};
+use book::layout::MOST_IN_4;
+use book::layout::TURN;
 use book::state::net_place;
 use rules::Row;
 use rules::hours::pick;
 use wire::numbers::get_u32;
 use wire::numbers::put_u32;
-
-// The greatest number in 4 bytes, and what they count to.
-const MOST_IN_4: u32 = 4_294_967_295;
-
-const TURN: u64 = 4_294_967_296;
 
 // Raises the number in the 4 bytes at `at`; what is more than fits goes round.
 fn raise_net(s: &mut [u8], at: usize, more: u32)
