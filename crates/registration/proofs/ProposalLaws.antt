@@ -196,7 +196,8 @@ caller-covered u gs rows a o g t e f h =
 
 -- ---- what is written
 
-byte : (v : ℕ) → v < 256 → v % 256 ≡ v
+-- a number that fits a byte is its low byte
+pub byte : (v : ℕ) → v < 256 → v % 256 ≡ v
 byte v h = omega arith
 
 -- the 18 bytes of a row whose values fit them

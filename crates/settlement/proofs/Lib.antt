@@ -1,0 +1,5 @@
+-- Laws of settlement.
+-- Decisions: what the state refuses a schedule for, test by test.
+pub mod Decisions
+-- SchedulingLaws: the bytes of a schedule, and what an accepted one writes.
+pub mod SchedulingLaws

@@ -1,0 +1,69 @@
+-- A schedule handed in: its 11 bytes with the count are all that is written, and they make the image of the next book.
+use Prim.Native.Nat.{ℕ, _+_, _*_, _/_, _%_}
+use mathlib.Core.Path.{_≡_, refl, sym, ap, _∙_}
+use mathlib.Core.List.{List, [], _∷_}
+use mathlib.Core.Option.{none}
+use mathlib.Core.Bool.{true}
+use native.Mathlib.Omega.{arith}
+use lib.ListN.{length}
+use Rattle.wire.specs.Numbers.{le}
+use Rattle.wire.specs.Regions.{splice}
+use Rattle.wire.specs.Parts.{flat, pieces, pack, Small}
+use Rattle.rules.specs.declared.Schedule.{Schedule}
+use Rattle.rules.specs.declared.Request.{Request}
+use Rattle.rules.specs.Limits.{mostHours, bookSize}
+use Rattle.rules.specs.Verdicts.{accepted}
+use Rattle.rules.specs.Requests.{schedule}
+use Rattle.rules.specs.Calls.{scheduled, given}
+use Rattle.book.specs.Layout.{scheduleWidths, scheduleWidth, schedulesAt, scheduleCountAt}
+use Rattle.book.specs.Image.{scheduleValues, scheduleBytes}
+use Rattle.book.specs.Valid.{isBook, bookIn}
+use Rattle.book.proofs.Sizes.{schedule-small}
+use Rattle.book.proofs.BookWrites.{write-schedule}
+use Rattle.book.proofs.KeepsKinds.{scheduled-sound, schedule-keeps}
+use Rattle.book.proofs.StateLaws.{book-image, book-fits, book-is-sound}
+use Rattle.registration.specs.Kinds.{decided, Ready}
+use Rattle.registration.proofs.Decisions.{decided-clear}
+use Rattle.registration.proofs.Answers.{Answered, accepted-answered}
+use Rattle.registration.proofs.ReadyLaws.{bare, ready-input}
+use Rattle.registration.proofs.ProposalLaws.{byte}
+use Rattle.settlement.proofs.Decisions.{few-schedules}
+
+-- the values of a schedule that is ready fit their bytes
+pub ready-fits : (s : List ℕ) (q : Request) (x : Schedule) → isBook s ≡ true → Ready schedule (bookIn s) q → x ≡ scheduled q
+    → Small scheduleWidths (scheduleValues x)
+ready-fits s q x h r e =
+    rw e (schedule-small (bookIn s .setup) (scheduled q) (book-is-sound s h .setup-sound)
+    (scheduled-sound (bookIn s) bare q (sym (r .of-kind)) (ready-input (bookIn s) q schedule refl r)))
+
+-- the 11 bytes of a schedule whose values fit them
+pub schedule-literal : (x : Schedule) → Small scheduleWidths (scheduleValues x)
+    → x .point
+    ∷ x .side
+    ∷ x .hour
+    ∷ x .quantity .0 % 256
+    ∷ x .quantity .0 / 256 % 256
+    ∷ x .quantity .0 / 256 / 256 % 256
+    ∷ x .quantity .0 / 256 / 256 / 256 % 256
+    ∷ x .price .0 % 256
+    ∷ x .price .0 / 256 % 256
+    ∷ x .price .0 / 256 / 256 % 256
+    ∷ x .price .0 / 256 / 256 / 256 % 256
+    ∷ []
+    ≡ scheduleBytes x
+unfolding scheduleBytes pack pieces flat le
+schedule-literal x s = rw (byte (x .point) (s .0), byte (x .side) (s .1 .0), byte (x .hour) (s .1 .1 .0))
+
+-- what an accepted schedule writes
+pub scheduled-answered : (s t : List ℕ) (h : isBook s ≡ true) (q : Request) (n : ℕ) → Ready schedule (bookIn s) q
+    → decided schedule (bookIn s) q ≡ none → n ≡ length (bookIn s .schedules)
+    → t ≡ splice (splice s (schedulesAt + scheduleWidth * n) (scheduleBytes (scheduled q))) scheduleCountAt (le 2 (n + 1))
+    → Answered schedule s q (accepted (n + 1)) t
+unfolding given
+scheduled-answered s t h q n r d e w =
+    let few = few-schedules (bookIn s) q d in
+    accepted-answered schedule s q h t (n + 1) d (omega (arith, e))
+    (w
+    ∙ ap (λ (x : List ℕ). splice (splice x (schedulesAt + scheduleWidth * n) (scheduleBytes (scheduled q))) scheduleCountAt (le 2 (n + 1))) (book-image s h)
+    ∙ write-schedule mostHours bookSize (bookIn s) (book-fits s h) q n (schedulesAt + scheduleWidth * n) e (omega (arith, e, few)) refl)
+    (schedule-keeps (bookIn s) q (book-is-sound s h) bare (sym (r .of-kind)) (ready-input (bookIn s) q schedule refl r) (decided-clear schedule (bookIn s) q d))

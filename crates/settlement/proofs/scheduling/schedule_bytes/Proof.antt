@@ -1,0 +1,37 @@
+-- The bytes are those of each value, by nested division.
+use Rattle.settlement.proofs.SchedulingLaws.{schedule-literal}
+use borrow.Author.Needs.{needs}
+use Rattle.settlement.proofs.scheduling.schedule_bytes.Statement.{statement}
+use Rattle.settlement.proofs.scheduling.schedule_bytes.Tie as tie
+
+cast-t5 : tie.Need-cast-t5
+cast-t5 c = search needs
+
+cast-t8 : tie.Need-cast-t8
+cast-t8 c = search needs
+
+cast-t12 : tie.Need-cast-t12
+cast-t12 c = search needs
+
+cast-t17 : tie.Need-cast-t17
+cast-t17 c = search needs
+
+cast-t19 : tie.Need-cast-t19
+cast-t19 c = search needs
+
+cast-t22 : tie.Need-cast-t22
+cast-t22 c = search needs
+
+cast-t26 : tie.Need-cast-t26
+cast-t26 c = search needs
+
+cast-t31 : tie.Need-cast-t31
+cast-t31 c = search needs
+
+returns : tie.Need-returns
+returns c = schedule-literal _ (c .pre)
+
+pub schedule-bytes-spec : {M : Type 1} → statement M
+schedule-bytes-spec =
+    tie.close
+    (tie.spec cast-t5 cast-t8 cast-t12 cast-t17 cast-t19 cast-t22 cast-t26 cast-t31 returns)

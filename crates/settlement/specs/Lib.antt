@@ -1,0 +1,1 @@
+-- What the contracts of `settlement` say stands in `rules`, `book` and `registration`.

@@ -1,0 +1,2 @@
+// Settlement on a book that is known to be one: kinds 9 and 10.
+pub mod scheduling;
