@@ -1,0 +1,3 @@
+-- Laws of settlement.
+-- PriceLaws: the prices of a table, one after the other.
+pub mod PriceLaws

@@ -1,0 +1,2 @@
+// Schedules and settlement on a book that is known to be one: kinds 9 and 10.
+pub mod prices;
