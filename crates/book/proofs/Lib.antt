@@ -89,3 +89,5 @@ pub mod ReadingLaws
 pub mod Reachable
 -- TableLaws: a table of sums and one row more.
 pub mod TableLaws
+-- MoneyLaws: how much money a day's settlement can move.
+pub mod MoneyLaws

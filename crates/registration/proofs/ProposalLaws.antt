@@ -48,7 +48,7 @@ use Rattle.registration.proofs.CoverLaws.{covered-by}
 
 -- ---- a search over rows
 
-any-cons : {A : Type 0} (p : A → Bool) (x : A) (xs : List A) → any p (x ∷ xs) ≡ p x || any p xs
+pub any-cons : {A : Type 0} (p : A → Bool) (x : A) (xs : List A) → any p (x ∷ xs) ≡ p x || any p xs
 unfolding any
 any-cons p x xs = go (p x) refl
   where
@@ -56,7 +56,7 @@ any-cons p x xs = go (p x) refl
     go true e = rw (e, any)
     go false e = rw (e, any)
 
-or-false : (t : Bool) → (t || false) ≡ t
+pub or-false : (t : Bool) → (t || false) ≡ t
 or-false true = refl
 or-false false = refl
 

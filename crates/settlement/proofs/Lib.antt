@@ -3,3 +3,5 @@
 pub mod Decisions
 -- SchedulingLaws: the bytes of a schedule, and what an accepted one writes.
 pub mod SchedulingLaws
+-- PriceLaws: the prices of a table, one after the other.
+pub mod PriceLaws

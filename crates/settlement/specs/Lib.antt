@@ -1,1 +1,5 @@
--- What the contracts of `settlement` say stands in `rules`, `book` and `registration`.
+-- What the contracts of `settlement` say, beside `rules`, `book` and `registration`.
+-- Settling: a settle as a call.
+pub mod Settling
+-- Tables: what settlement works from, and the tables that it keeps.
+pub mod Tables

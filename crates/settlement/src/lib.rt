@@ -1,2 +1,3 @@
-// Settlement on a book that is known to be one: kinds 9 and 10.
+// Schedules and settlement on a book that is known to be one: kinds 9 and 10.
+pub mod prices;
 pub mod scheduling;
