@@ -136,8 +136,8 @@ used-next u net t {before} table middle after j q p a ip ia eq ep ea em ef by =
     kept k = ap (λ (s : List ℕ). getD s (pointCells + k) 0) em ∙ getD-set-other table p (pointCells + k) _ 0 (λ z. omega arith)
 
 -- the room that it needs at its point, and then at its account
-pub room-here : (table : List ℕ) (k q most : ℕ) → Room table 0 most → q ≤ most → length table ≡ pointCells + accountCells → k < pointCells + accountCells
-    → (k < length table) × (getD table k 0 + q < 2 ^ 32)
+pub room-here : (table : List ℕ) (k q most : ℕ) → Room table 0 most → q ≤ most
+    → length table ≡ pointCells + accountCells → k < pointCells + accountCells → (k < length table) × (getD table k 0 + q < 2 ^ 32)
 room-here table k q most room l whole here = (omega arith, omega (arith, room k (omega arith)))
 
 pub room-next : (table middle : List ℕ) (p v k q most : ℕ) → middle ≡ set table p v → p < k → Room table 0 most → q ≤ most
@@ -149,6 +149,7 @@ room-next table middle p v k q most e apart room l whole here =
 
 -- ---- room
 
+-- what is used up is at most the quantity
 used-low : (s t : Bool) (q : ℕ) → (if s then (if t then q else 0) else 0) ≤ q
 used-low true true q = omega arith
 used-low true false q = omega arith
@@ -175,8 +176,10 @@ used-room u net t {js} table q by each few l k low =
     (λ (w : pointCells ≤ k).
     ⊎-elim
     (λ (v : k < pointCells + accountCells).
-    let i : pointCells + (k - pointCells) ≡ k = omega arith in
-    omega (arith, rw i at (by .by-account (k - pointCells) (omega arith)), falls-low (λ j. cellFor (accountOf u net t (j .schedule)) (j .schedule)) (k - pointCells) small))
+    let i : ℕ = k - pointCells in
+    let here : pointCells + i ≡ k = omega arith in
+    let falls = falls-low (λ j. cellFor (accountOf u net t (j .schedule)) (j .schedule)) i small in
+    omega (arith, rw here at (by .by-account i (omega arith)), falls))
     (λ (v : pointCells + accountCells ≤ k). omega (arith, List·getD-eq-default table 0 {n = k} (omega (arith, by .whole))))
     (lt-or-ge k (pointCells + accountCells)))
     (lt-or-ge k pointCells) in

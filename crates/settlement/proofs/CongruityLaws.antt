@@ -18,7 +18,7 @@ use Rattle.rules.specs.Basics.{if_then_else_, nth, Each}
 use Rattle.rules.specs.Limits.{mostPoints, mostAccounts}
 use Rattle.rules.specs.Books.{Setup, noPoint, pointAt}
 use Rattle.rules.specs.Opening.{countsIn, pointsIn, setupOf}
-use Rattle.rules.specs.Settlement.{Judged, used, accountOf, sameHourSide, pointLimit, accountLimit, metPrice, taken, judge}
+use Rattle.rules.specs.Settlement.{Judged, used, accountOf, sameHourSide, pointLimit, accountLimit, metPrice, taken, judge, priceCount}
 use Rattle.rules.proofs.Searches.{each-nth, each-map}
 use Rattle.setup.specs.Faults.{Whole}
 use Rattle.book.specs.Valid.{isBook, scheduleOk}
@@ -26,6 +26,7 @@ use Rattle.book.proofs.Soundness.{SoundSchedule, sound-schedule}
 use Rattle.book.proofs.SetupRanges.{SoundPoint}
 use Rattle.book.proofs.StateLaws.{book-is-sound}
 use Rattle.book.proofs.BookRows.{counts-in, setup-in, setup-tabled, values-in}
+use Rattle.registration.proofs.MarginLaws.{hours-read, hours-few}
 use Rattle.settlement.specs.Tables.{Settling, setupIn, netsIn, pricesOf, cellFor, pointCells, UsedBy}
 use Rattle.settlement.specs.Congruity.{InCells, greatest, leftBy, priceNumber, takenAt, resultBy}
 use Rattle.settlement.proofs.CellLaws.{used-in-cell}
@@ -38,6 +39,7 @@ number-within true m h n l e = (omega arith, omega arith)
 number-within false m h n l e = (omega arith, omega arith)
 
 module _ (s : List ℕ) (h : isBook s ≡ true) where
+  -- the point that was read
   pub point-read : (p : Point) (n : ℕ) → p ≡ nth (pointsIn s) n noPoint → p ≡ pointAt (setupIn s) n
   unfolding setupOf
   point-read p n e = e ∙ ap (λ (u : Setup). pointAt u n) (sym (setup-in s h))
@@ -51,6 +53,7 @@ module _ (s : List ℕ) (h : isBook s ≡ true) where
     point-stands =
         (setup-tabled s h .whole, in-range .point-low, omega (arith, ap (λ (m : Counts). m .points) (counts-in s h), in-range .point-high))
 
+    -- and in range
     pub point-sound : SoundPoint (setupIn s .accounts) (setupIn s .zones) (pointAt (setupIn s) (x .point))
     point-sound = each-nth noPoint (x .point) (values-in s h .points-sound) (in-range .point-low) (in-range .point-high)
 
@@ -60,7 +63,7 @@ module _ (s : List ℕ) (h : isBook s ≡ true) where
           owner-low = low;
           owner-high = high;
           hour-low = in-range .hour-low;
-          hour-high = omega (arith, in-range .hour-high, book-is-sound s h .setup-sound .hours-high);
+          hour-high = omega (arith, in-range .hour-high, hours-few s h);
           side-low = in-range .side-low;
           side-high = in-range .side-high;
         }
@@ -74,6 +77,7 @@ module _ (s : List ℕ) (h : isBook s ≡ true) where
     account-in-cells =
         in-cells mostAccounts _ (point-sound .account-low) (omega (arith, point-sound .account-high, book-is-sound s h .setup-sound .accounts-high))
 
+    -- as was read
     pub account-read-in-cells : (p : Point) → p ≡ nth (pointsIn s) (x .point) noPoint → InCells mostAccounts (p .account) x
     account-read-in-cells p e = rw (point-read p (x .point) e) account-in-cells
 
@@ -82,13 +86,12 @@ module _ (s : List ℕ) (h : isBook s ≡ true) where
         → (1 ≤ priceNumber (n .hours) p x) × (4 * priceNumber (n .hours) p x ≤ length prices)
     price-stands sums prices given n p en ep =
         let u = setupIn s in
-        let hours : n .hours ≡ u .hours = ap (λ (m : Counts). m .hours) (en ∙ sym (counts-in s h)) in
         let zone = pointAt u (x .point) .zone in
-        let whole = mul-le-mul-left {m = zone} {n = u .zones} (u .hours) (point-sound .zone-high) in
-        let sum = mul-add (u .hours) 1 (u .zones) in
         let zonal : Bool = eqb (x .side) 1 || eqb (pointAt u (x .point) .kind) 3 in
-        let k = number-within zonal (u .hours * zone) (x .hour) (u .hours * (1 + u .zones)) (in-range .hour-low) (omega (arith, in-range .hour-high)) in
-        rw (hours, point-read p (x .point) ep) (k .0, omega (arith, k .1, given .priced))
+        let zones = mul-le-mul-left {m = zone} {n = u .zones} (u .hours) (point-sound .zone-high) in
+        let last : u .hours * zone + x .hour ≤ priceCount u = omega (arith, in-range .hour-high, mul-add (u .hours) 1 (u .zones)) in
+        let k = number-within zonal (u .hours * zone) (x .hour) (priceCount u) (in-range .hour-low) last in
+        rw (hours-read s h n en, point-read p (x .point) ep) (k .0, omega (arith, k .1, given .priced))
 
 -- ---- the result by what is used up
 
@@ -104,6 +107,7 @@ taken-at b price m n e = rw e
 
 module _ (u : Setup) (net : ℕ → ℕ → Net) (t : List CentsPerMwh) (x : Schedule) (before : List Judged) (table : List ℕ) (by : UsedBy u net t before table)
   where
+    -- what is used up of its point and of its account stands in their cells
     used-of-point : InCells mostPoints (x .point) x → Each (λ j. InCells mostPoints (j .schedule .point) (j .schedule)) before
         → used (λ y. sameHourSide u net t x y && eqb (x .point) (y .point)) before ≡ getD table (cellFor (x .point) x) 0
     used-of-point i e = used-in-cell mostPoints (λ y. y .point) x i e ∙ sym (by .by-point (cellFor (x .point) x) (omega arith))
@@ -144,7 +148,7 @@ pub result-judged : (s sums prices table : List ℕ) (x : Schedule) → Settling
     → resultBy a b c ≡ judge (setupIn s) (netsIn s) (pricesOf s prices) before x
 result-judged s sums prices table x given ok n p {c = c} en ep ta tb tc before by each =
     let h = given .is-book in
-    let hours : n .hours ≡ setupIn s .hours = ap (λ (m : Counts). m .hours) (en ∙ sym (counts-in s h)) in
+    let hours : n .hours ≡ setupIn s .hours = hours-read s h n en in
     let held : c ≡ takenAt x (nth (pricesOf s prices) (priceNumber (setupIn s .hours) p x) (centsPerMwh 0)) = rw hours at tc in
     let points = each-map (λ j o. point-in-cells s h (j .schedule) o) each in
     let accounts = each-map (λ j o. account-in-cells s h (j .schedule) o) each in

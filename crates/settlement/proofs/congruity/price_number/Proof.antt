@@ -15,7 +15,9 @@ cast-result-2 : tie.Need-cast-result-2
 cast-result-2 c = search needs
 
 add-result : tie.Need-add-result
-add-result c = omega (arith, product-fits 8 {a = c .before .before .before .before .before .args .hours} {b = c .before .before .before .before .before .args .point .zone} (search needs) (search needs))
+add-result c =
+    let args = c .before .before .before .before .before .args in
+    omega (arith, product-fits 8 {a = args .hours} {b = args .point .zone} (search needs) (search needs))
 
 returns : tie.Need-returns
 returns c = rw (c .before .before .if1 .taken)
