@@ -1,6 +1,6 @@
 -- The result of a schedule in a book, by what the table says is used up: its point, its account and the price that it meets are the book's,
 -- and the three tests are the definition's.
-use Prim.Native.Nat.{ℕ, _+_, _-_, _*_, _≤_}
+use Prim.Native.Nat.{ℕ, _+_, _*_, _≤_}
 use mathlib.Core.Path.{_≡_, refl, sym, ap, _∙_}
 use mathlib.Core.List.{List}
 use mathlib.Core.Bool.{Bool, true, false, _&&_, _||_}
