@@ -3,3 +3,5 @@
 pub mod Settling
 -- Tables: what settlement works from, and the tables that it keeps.
 pub mod Tables
+-- Congruity: what a schedule is held against.
+pub mod Congruity

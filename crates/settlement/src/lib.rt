@@ -1,3 +1,4 @@
 // Schedules and settlement on a book that is known to be one: kinds 9 and 10.
+pub mod congruity;
 pub mod prices;
 pub mod scheduling;
