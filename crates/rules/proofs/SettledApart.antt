@@ -1,21 +1,25 @@
 -- The schedules of one account, hour and side are settled as if no others stood: only they are counted together.
-use Prim.Native.Nat.{ℕ, _+_}
-use mathlib.Core.Path.{_≡_, refl, _∙_, ap}
+use Prim.Native.Nat.{ℕ, suc, _+_}
+use mathlib.Core.Path.{_≡_, refl, _∙_, sym, ap}
 use mathlib.Core.Logic.{_↔_, inl, inr}
 use mathlib.Core.List.{List, [], _∷_}
 use mathlib.Core.Bool.{Bool, true, false, _&&_}
 use native.Mathlib.Nat.{zero-add}
+use native.Mathlib.Omega.{arith}
+use lib.ListN.{getD}
 use lib.Dec.{eqb}
 use borrow.Author.Tests.{eqb-true, eq-eqb}
 use Rattle.units.specs.declared.CentsPerMwh.{CentsPerMwh}
 use Rattle.rules.specs.declared.Net.{Net}
 use Rattle.rules.specs.declared.Schedule.{Schedule}
 use Rattle.rules.specs.declared.Placed.{Placed}
-use Rattle.rules.specs.Basics.{if_then_else_, total}
+use Rattle.rules.specs.Basics.{if_then_else_, total, Each, nil, cons}
 use Rattle.rules.specs.Books.{Setup, pointAt}
-use Rattle.rules.specs.Settlement.{placed, prioritised, Judged, congruous, used, accountOf, sameHourSide, judge, judged, settled}
+use Rattle.rules.specs.Settlement.{placed, prioritised, Judged, congruous, used, accountOf, sameHourSide, judge, judged, settled, resultAt}
 use Rattle.rules.proofs.Tests.{true-or-false, test-fails, and-both}
-use Rattle.rules.proofs.PriorityLaws.{only, only-in, only-out, only-prioritised}
+use Rattle.rules.proofs.Searches.{each-any, each-map}
+use Rattle.rules.proofs.SettledTotal.{each-settled-place}
+use Rattle.rules.proofs.PriorityLaws.{only, only-in, only-out, only-prioritised, placed-at}
 
 -- what is judged of the schedules that pass
 abbrev pub onlyJudged : (Schedule → Bool) → List Judged → List Judged
@@ -25,21 +29,23 @@ onlyJudged q js = only (λ j. q (j .schedule)) js
 abbrev pub onlyPlaced : (Schedule → Bool) → List Placed → List Placed
 onlyPlaced q xs = only (λ x. q (x .schedule)) xs
 
+-- what adds nothing may be left out
+total-only {ℓ} : {A : Type ℓ} (f : A → ℕ) (p : A → Bool) (xs : List A) → Each (λ x. p x ≡ false → f x ≡ 0) xs → total f (only p xs) ≡ total f xs
+unfolding total only
+total-only f p [] nil = refl
+total-only f p (x ∷ xs) (cons h e) = elim (true-or-false (p x)) [
+  | inl t ↦ rw (only-in p x xs t) (ap (λ (n : ℕ). f x + n) (total-only f p xs e))
+  | inr t ↦ rw (only-out p x xs t, h t, zero-add) (total-only f p xs e)
+]
+
 not-counted : (t : Bool) (n : ℕ) → (if t && false then n else 0) ≡ 0
 not-counted true n = refl
 not-counted false n = refl
 
--- what is not counted may be left out
 used-only : (p q : Schedule → Bool) → ((y : Schedule) → p y ≡ true → q y ≡ true) → (js : List Judged) → used p (onlyJudged q js) ≡ used p js
-unfolding used total only
-used-only p q h [] = refl
-used-only p q h (j ∷ js) =
-    let ih = used-only p q h js in
-    elim (true-or-false (q (j .schedule))) [
-      | inl e ↦ rw (only-in (λ i. q (i .schedule)) j js e) (ap (λ (n : ℕ). (if congruous j && p (j .schedule) then j .schedule .quantity .0 else 0) + n) ih)
-      | inr e ↦
-          rw (only-out (λ i. q (i .schedule)) j js e, test-fails _ _ (h (j .schedule)) e, not-counted (congruous j) (j .schedule .quantity .0), zero-add) ih
-    ]
+unfolding used
+used-only p q h js =
+    total-only _ _ js (each-any js (λ j e. rw (test-fails _ _ (h (j .schedule)) e, not-counted (congruous j) (j .schedule .quantity .0))))
 
 module _ (u : Setup) (net : ℕ → ℕ → Net) (t : List CentsPerMwh) where
   -- of the same account, hour and side
@@ -95,3 +101,25 @@ module _ (u : Setup) (net : ℕ → ℕ → Net) (t : List CentsPerMwh) where
   unfolding settled only
   settled-apart x xs =
       judged-apart (alike x) (alike-alike x) [] (prioritised (placed 1 xs)) ∙ ap (judged u net t []) (only-prioritised (λ y. alike x (y .schedule)) (placed 1 xs))
+
+  -- a schedule of another account, hour or side stands at another place
+  elsewhere : (x : Schedule) (k : ℕ) (j : Judged) → (j .place ≡ k → j .schedule ≡ x) → alike x (j .schedule) ≡ false → (if eqb (j .place) k then j .result else 0) ≡ 0
+  elsewhere x k j h out = elim (true-or-false (eqb (j .place) k)) [
+    | inl e ↦
+        let same : alike x (j .schedule) ≡ true = rw (h (eqb-true (j .place) k e)) (alike-true x x .1 (refl, refl, refl)) in
+        let z : true ≡ false = cc in
+        cc
+    | inr e ↦ rw e
+  ]
+
+  -- the result of a schedule is what it is among those of its own account, hour and side
+  pub result-apart : (xs : List Schedule) (i : ℕ) (d : Schedule)
+      → resultAt u net t (settled u net t xs) (suc i)
+      ≡ resultAt u net t (judged u net t [] (prioritised (onlyPlaced (alike (getD xs i d)) (placed 1 xs)))) (suc i)
+  unfolding resultAt
+  result-apart xs i d =
+      let x = getD xs i d in
+      let received = each-settled-place u net t (λ n y. (k : ℕ) → n ≡ 1 + k → y ≡ getD xs k d) xs (placed-at 1 xs d) in
+      let share : Judged → ℕ = λ j. if eqb (j .place) (suc i) then j .result else 0 in
+      sym (total-only share (λ j. alike x (j .schedule)) (settled u net t xs) (each-map (λ j h. elsewhere x (suc i) j (λ e. h i (e ∙ omega arith))) received))
+      ∙ ap (total share) (settled-apart x xs)
