@@ -1,8 +1,8 @@
 -- A table of sums and one row more: no cell is above what all rows hold together, so that there is room for the row, and the table that
 -- took it is that of the rows with it. A row marked: the table holds its share, and once it released it and took the marked row it is that
 -- of the rows after.
-use Prim.Native.Nat.{ℕ, zero, suc, _+_, _*_, _/_, _%_, _^_, _≤_, _<_}
-use mathlib.Core.Path.{_≡_, refl, _∙_}
+use Prim.Native.Nat.{ℕ, zero, suc, _+_, _*_, _/_, _%_, _≤_, _<_}
+use mathlib.Core.Path.{_≡_}
 use mathlib.Core.List.{List, [], _∷_, _++_}
 use mathlib.Core.Bool.{Bool, true, false, _&&_}
 use mathlib.Core.Logic.{⊎-elim}

@@ -21,3 +21,5 @@ pub mod ReadyLaws
 pub mod LodgingLaws
 -- ProposalLaws: what the state refuses a register for, and what an accepted one writes.
 pub mod ProposalLaws
+-- ConfirmationLaws: the row that a confirm names, and what the state refuses a confirm for.
+pub mod ConfirmationLaws

@@ -1,5 +1,4 @@
 -- The proposer's cells are lowered in the lane of the row's side.
-use native.Mathlib.Omega.{arith}
 use Rattle.book.proofs.ShareLaws.{held-sale, held-purchase, released-sale, released-purchase, released-sideless}
 use borrow.Author.Needs.{needs}
 use Rattle.book.proofs.sums.release_row.Statement.{statement}
