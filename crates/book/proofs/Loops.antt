@@ -27,6 +27,10 @@ module _ (f : List ℕ → List ℕ) (w : ℕ) (s : List ℕ) (at : ℕ) where
   unfolding sweep
   sweep-step n m e = rw (e, add-one m)
 
+  -- the same where t is what the first cell's change leaves
+  pub sweep-on : (t : List ℕ) (n m : ℕ) → n ≡ m + 1 → t ≡ splice s at (f (take w (drop at s))) → sweep f w s at n ≡ sweep f w t (at + w) m
+  sweep-on t n m e h = sweep-step n m e ∙ ap (λ (x : List ℕ). sweep f w x (at + w) m) (sym h)
+
 -- ---- a piece of a region replaced
 
 module _ (s : List ℕ) (at w : ℕ) (h : at + w ≤ length s) where

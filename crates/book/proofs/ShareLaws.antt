@@ -25,6 +25,10 @@ buyer-in r t = picked-in mostAccounts (eqb (r .side) 1) _ _ (t .counterparty-low
 pub seller-in : (r : Row) → Tabled r → (1 ≤ seller r) × (seller r ≤ mostAccounts)
 seller-in r t = picked-in mostAccounts (eqb (r .side) 1) _ _ (t .proposer-low, t .proposer-high) (t .counterparty-low, t .counterparty-high)
 
+-- the row's first hour is one that a book can have, of any account
+pub first-hour : (r : Row) (a : ℕ) → Tabled r → (1 ≤ a) × (a ≤ mostAccounts) → InTable a (r .first)
+first-hour r a t i = record { account-low = i .0; account-high = i .1; hour-low = t .first-low; hour-high = omega (arith, t) }
+
 -- ---- what one row adds
 
 module _ (r : Row) (a h : ℕ) where
@@ -79,7 +83,7 @@ raised-share : (before after : List ℕ) (r : Row) (lane account : ℕ) → Tabl
     → (other a h : ℕ) → InTable a h → getD after (cellOf other a h) 0 ≡ getD before (cellOf other a h) 0 + share r a h lane account other
 unfolding share
 raised-share before after r lane account t l u w other a h i =
-    let low : InTable account (r .first) = record { account-low = l; account-high = u; hour-low = t .first-low; hour-high = omega (arith, t) } in
+    let low : InTable account (r .first) = first-hour r account t (l, u) in
     let high : InTable account (r .last) = record { account-low = l; account-high = u; hour-low = omega (arith, t); hour-high = t .last-high } in
     raised-cell lane account (r .first) (r .last) other a h low high (t .in-order) i before after (r .quantity .0) w
 

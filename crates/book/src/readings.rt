@@ -14,11 +14,10 @@ ghost use Rattle.book.specs.Valid.{isBook, bookIn};
 ghost use Rattle.book.specs.Sums.{InTable, SumsOf};
 ghost use Rattle.book.specs.Doors.{netAnswer, exposureAnswer};
 use crate::exposure::exposure_of;
-use crate::layout::ACCOUNT_NETS;
-use crate::layout::NETS_IN;
 use crate::layout::PRESENT_AT;
 use crate::layout::ROWS_IN;
 use crate::layout::TABLE_SIZE;
+use crate::state::net_place;
 use crate::state::row_count;
 use crate::sums::sums_of;
 use crate::whole::is_book;
@@ -57,8 +56,7 @@ fn stored_net(book: &[u8], account: u8, hour: u8) -> u32
     requires { ⌜ (isBook (now book) ≡ true) × InTable account hour ⌝ }
     ensures { λ r. ⌜ r ≡ numberAt (now (book .entry)) (presentAt + netAt mostHours account hour) 4 ⌝ }
 {
-    let cell = ACCOUNT_NETS * (account as usize - 1) + 4 * (hour as usize - 1);
-    get_u32(book, PRESENT_AT + (NETS_IN + cell))
+    get_u32(book, net_place(account, hour))
 }
 
 // The net position of an account in an hour.

@@ -4,11 +4,14 @@ ghost use mathlib.Core.Bool.{true};
 ghost use Prim.Native.Nat.{_+_, _-_, _≤_};
 ghost use lib.ListN.{length};
 ghost use Rattle.rules.specs.Basics.{isSome};
-ghost use Rattle.rules.specs.Limits.{mostRows};
+ghost use Rattle.rules.specs.Limits.{mostRows, mostHours};
 ghost use Rattle.rules.specs.Calls.{restored};
-ghost use Rattle.book.specs.Layout.{presentAt, rowAt};
+ghost use Rattle.book.specs.Layout.{presentAt, rowAt, netAt};
 ghost use Rattle.book.specs.Valid.{isBook, bookIn};
+ghost use Rattle.book.specs.Sums.{InTable};
+use crate::layout::ACCOUNT_NETS;
 use crate::layout::FLAG_AT;
+use crate::layout::NETS_IN;
 use crate::layout::PHASE_AT;
 use crate::layout::PRESENT_AT;
 use crate::layout::ROW_COUNT_IN;
@@ -71,4 +74,13 @@ pub fn row_place(number: u16) -> usize
     ensures { λ r. ⌜ r ≡ presentAt + rowAt (number - 1) ⌝ }
 {
     PRESENT_AT + ROWS_IN + ROW_WIDTH * ((number - 1) as usize)
+}
+
+// Where the net position of an account in an hour begins.
+pub fn net_place(account: u8, hour: u8) -> usize
+    requires { ⌜ InTable account hour ⌝ }
+    ensures { λ r. ⌜ r ≡ presentAt + netAt mostHours account hour ⌝ }
+{
+    let cell = ACCOUNT_NETS * (account as usize - 1) + 4 * (hour as usize - 1);
+    PRESENT_AT + (NETS_IN + cell)
 }

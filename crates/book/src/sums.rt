@@ -4,7 +4,7 @@ ghost use mathlib.Core.List.{List};
 ghost use Prim.Native.Nat.{_+_, _-_, _*_, _≤_, _<_};
 ghost use lib.ListN.{length, getD};
 ghost use Rattle.rules.specs.declared.Row.{Row};
-ghost use Rattle.rules.specs.Basics.{if_then_else_, every, upTo, Each};
+ghost use Rattle.rules.specs.Basics.{every, upTo, Each};
 ghost use Rattle.rules.specs.Limits.{mostAccounts, mostHours};
 ghost use Rattle.rules.specs.Registration.{accountHour};
 ghost use Rattle.book.specs.Sums.{rowsFrom, cellOf, InTable, SumsOf, Tabled, noSums, Room, Raised, Taken, Held, Holds, Released, netStored, netsStored};
@@ -16,6 +16,7 @@ use crate::rows::row_at;
 use rules::AccountHour;
 use rules::Net;
 use rules::Row;
+use rules::hours::pick;
 use rules::limits::MOST_ACCOUNTS;
 use rules::limits::MOST_HOURS;
 use units::Kwh;
@@ -90,13 +91,6 @@ fn subtract_hours(table: &mut [u32], lane: usize, account: u8, r: Row)
     let n = (r.last - r.first) as usize + 1;
     let quantity = r.quantity;
     subtract_range(table, at, n, quantity.0);
-}
-
-// The first where the test holds, else the second.
-fn pick(on: bool, a: u8, b: u8) -> u8
-    ensures { λ r. ⌜ r ≡ (if on then a else b) ⌝ }
-{
-    if on { a } else { b }
 }
 
 // A confirmed row: its buyer bought, and its seller sold.

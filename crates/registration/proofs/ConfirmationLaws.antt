@@ -1,26 +1,33 @@
 -- A row confirmed: the search for it, row by row; what it is by being named; and the tests of confirm in the order of their numbers, each
 -- on the book as it would be.
-use Prim.Native.Nat.{ℕ, suc, _+_, _≤_}
+use Prim.Native.Nat.{ℕ, suc, _+_, _-_, _^_, _≤_}
 use mathlib.Core.Path.{_≡_, refl, sym, ap, _∙_}
 use mathlib.Core.List.{List, _∷_}
 use mathlib.Core.Option.{Option, none, some}
 use mathlib.Core.Bool.{Bool, true, false, not}
 use native.Mathlib.Omega.{arith}
-use lib.ListN.{length, take, drop}
+use lib.ListN.{length, getD, take, drop}
 use lib.Dec.{eqb}
 use borrow.Author.Tests.{eqb-true, ne-eqb}
+use Rattle.wire.specs.Numbers.{le}
+use Rattle.wire.specs.Regions.{splice}
+use Rattle.wire.specs.Parts.{sweep}
 use Rattle.rules.specs.declared.Row.{Row}
 use Rattle.rules.specs.declared.Request.{Request}
 use Rattle.rules.specs.declared.Refusal.the-variants.{NoSuchRow, NotMirrored, MarginBroken, Uncovered}
 use Rattle.rules.specs.Basics.{indexOf, nth, counting}
-use Rattle.rules.specs.Limits.{mostEnergy}
+use Rattle.rules.specs.Limits.{mostEnergy, mostHours}
+use Rattle.rules.specs.Verdicts.{accepted}
 use Rattle.rules.specs.Books.{Setup, Book, noRow, accountAt, operatorOf, accountCount}
 use Rattle.rules.specs.Requests.{confirm}
-use Rattle.rules.specs.Registration.{pending, withStatus, mark, alike, confirms, mirrors, accountHour, takes, keepsMargins, brokenHour, covered}
+use Rattle.rules.specs.Registration.{pending, seller, buyer, withStatus, mark, alike, confirms, mirrors, accountHour, takes, keepsMargins, brokenHour, covered}
 use Rattle.rules.specs.Calls.{numberFrom, confirmedNumber, next}
 use Rattle.rules.proofs.Searches.{each-nth, index-first}
-use Rattle.rules.proofs.RowTests.{Alike, alike-true}
+use Rattle.rules.proofs.RowTests.{Alike, alike-true, passed-confirm}
+use Rattle.rules.proofs.Passed.{passed-16-confirm}
 use Rattle.rules.proofs.AccountHours.{hour-takes-confirmed}
+use Rattle.book.specs.Layout.{presentAt, rowAt, netAt, statusIn}
+use Rattle.book.specs.Changes.{raised}
 use Rattle.book.specs.Image.{rowIn}
 use Rattle.book.specs.Valid.{isBook, bookIn}
 use Rattle.book.specs.Sums.{rowsFrom, SumsOf, Tabled, Room, Taken, Holds, Released}
@@ -32,7 +39,9 @@ use Rattle.book.proofs.TableLaws.{sums-hold, released-room, sums-marked}
 use Rattle.registration.specs.Kinds.{decided, Confirming}
 use Rattle.registration.specs.Margins.{brokenBy, broken}
 use Rattle.registration.specs.declared.margins.Broken.the-variants.{Hour, Nowhere}
-use Rattle.registration.proofs.Decisions.{no-row-to-confirm, terms-differ, confirm-breaks, confirm-uncovered, confirm-passes}
+use Rattle.registration.proofs.Decisions.{decided-clear, no-row-to-confirm, terms-differ, confirm-breaks, confirm-uncovered, confirm-passes}
+use Rattle.registration.proofs.Answers.{Answered}
+use Rattle.registration.proofs.Acceptances.{confirmed-answered}
 use Rattle.registration.proofs.SearchLaws.{find-cong}
 use Rattle.registration.proofs.MarginLaws.{book-room, found-hour, found-nowhere}
 
@@ -233,3 +242,39 @@ module _ (s : List ℕ) (q : Request) (r : Row) (h : isBook s ≡ true) (w : Con
       trade-covered f =
           let (i, named) = index-named (confirms (bookIn s .part .rows) q) (w .named) in
           confirm-passes (bookIn s) q (w .in-registration) i named same-terms (broken-next ∙ found-nowhere _ _ _ _ _ e kept) (covered-next ∙ f)
+
+-- ---- what an accepted one writes
+
+module _ (s : List ℕ) (q : Request) (number : ℕ) (h : isBook s ≡ true) (free : decided confirm (bookIn s) q ≡ none)
+    (same : number ≡ confirmedNumber (bookIn s) q) where
+  pub accepted-number : (1 ≤ number) × (number ≤ length (bookIn s .part .rows))
+  accepted-number =
+      let w = passed-confirm (bookIn s) q (decided-clear confirm (bookIn s) q free) in
+      (omega (arith, same, w .low), omega (arith, same, w .high))
+
+  module _ (r : Row) (row : r ≡ nth (bookIn s .part .rows) number noRow) where
+    accepted-sound : SoundRow (bookIn s .setup) r
+    accepted-sound = rw row (each-nth noRow number (book-is-sound s h .part-sound .rows-sound) (accepted-number .0) (accepted-number .1))
+
+    pub accepted-tabled : Tabled r
+    accepted-tabled = sound-tabled (bookIn s .setup) (book-is-sound s h .setup-sound) r accepted-sound
+
+    pub accepted-energy : 1 ≤ r .quantity .0
+    accepted-energy = accepted-sound .quantity-low
+
+    pub trade-answered : (t : List ℕ)
+        → t
+        ≡ sweep (raised 4 (r .quantity .0)) 4
+        (sweep (raised 4 (256 ^ 4 - r .quantity .0)) 4 (splice s (presentAt + rowAt (number - 1) + statusIn) (le 1 2))
+        (presentAt + netAt mostHours (seller r) (r .first)) (r .last - r .first + 1))
+        (presentAt + netAt mostHours (buyer r) (r .first)) (r .last - r .first + 1)
+        → Answered confirm s q (accepted number) t
+    trade-answered t e =
+        let (i, named) = passed-16-confirm (bookIn s) q (decided-clear confirm (bookIn s) q free) in
+        let next-one : number ≡ suc i = same ∙ ap numberFrom named in
+        let here : r ≡ getD (bookIn s .part .rows) i noRow = row ∙ ap (λ (n : ℕ). nth (bookIn s .part .rows) n noRow) next-one in
+        let given : i + 1 ≡ number = omega (arith, next-one) in
+        let order = accepted-sound .in-order in
+        rw given at
+        (confirmed-answered s t h q i (r .last - r .first + 1) (presentAt + rowAt (number - 1) + statusIn) _ _ r free named here
+        (omega arith) (omega (arith, next-one)) refl refl e)

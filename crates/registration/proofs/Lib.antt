@@ -23,3 +23,5 @@ pub mod LodgingLaws
 pub mod ProposalLaws
 -- ConfirmationLaws: the row that a confirm names, and what the state refuses a confirm for.
 pub mod ConfirmationLaws
+-- PositionLaws: what moving the nets of a trade writes.
+pub mod PositionLaws

@@ -1,24 +1,32 @@
 // Confirm: a pending row becomes a trade, and moves the net positions of its seller and its buyer.
 ghost use mathlib.Core.Path.{_≡_};
 ghost use mathlib.Core.Bool.{true};
-ghost use Prim.Native.Nat.{_+_, _*_, _≤_};
+ghost use Prim.Native.Nat.{_+_, _-_, _*_, _^_, _≤_};
 ghost use lib.ListN.{length};
+ghost use Rattle.wire.specs.Numbers.{le};
+ghost use Rattle.wire.specs.Regions.{splice};
+ghost use Rattle.wire.specs.Parts.{sweep};
 ghost use Rattle.rules.specs.Basics.{indexOf, nth};
+ghost use Rattle.rules.specs.Limits.{mostRows, mostHours, bookSize};
 ghost use Rattle.rules.specs.Books.{noRow};
 ghost use Rattle.rules.specs.Verdicts.{checked};
 ghost use Rattle.rules.specs.Requests.{confirm};
-ghost use Rattle.rules.specs.Registration.{withStatus, alike, mirrors};
+ghost use Rattle.rules.specs.Registration.{seller, buyer, withStatus, alike, mirrors};
 ghost use Rattle.rules.specs.Calls.{numberFrom, confirmedNumber};
-ghost use Rattle.book.specs.Valid.{isBook, bookIn};
-ghost use Rattle.book.specs.Sums.{rowsFrom};
-ghost use Rattle.registration.specs.Kinds.{decided, Confirming};
+ghost use Rattle.book.specs.Layout.{presentAt, rowAt, statusIn, netAt};
+ghost use Rattle.book.specs.Changes.{raised};
+ghost use Rattle.book.specs.Valid.{isBook, bookIn, bookBytes};
+ghost use Rattle.book.specs.Sums.{rowsFrom, Tabled};
+ghost use Rattle.registration.specs.Kinds.{decided, outcomeOn, bookAfter, Ready, Confirming};
 use crate::cover::caller_covered;
 use crate::margins::Broken;
 use crate::margins::broken_hour;
+use crate::positions::move_nets;
 use crate::proposal::is_alike;
 use book::layout::PRESENT_AT;
 use book::layout::ROW_WIDTH;
 use book::layout::ROWS_IN;
+use book::layout::STATUS_IN;
 use book::readings::sums_in;
 use book::rows::row_at;
 use book::state::CONFIRMED;
@@ -29,9 +37,12 @@ use book::state::row_place;
 use book::sums::release_row;
 use book::sums::take_row;
 use rules::Checked;
+use rules::Outcome;
 use rules::Refusal;
 use rules::Request;
 use rules::Row;
+use rules::Verdict;
+use wire::numbers::put_u8;
 
 // Of the `n` rows from `at` on, the number of the first that the request confirms; 0 where there is none.
 fn number_among(book: &[u8], at: usize, n: u16, request: Request) -> u16
@@ -131,4 +142,34 @@ fn confirm_fault(book: &[u8], request: Request) -> Checked
         return weighed(book, request, row);
     }
     Checked::Fails(Refusal::NotMirrored)
+}
+
+// The row of that number becomes a trade: its status, then the net positions of its seller and its buyer.
+fn put_trade(book: &mut [u8], number: u16, row: Row)
+    requires { ⌜ (length (now book) ≡ bookSize) × (1 ≤ number) × (number ≤ mostRows) × Tabled row × (1 ≤ row .quantity .0) ⌝ }
+    ensures { λ _. ⌜ now (book .exit) ≡ sweep (raised 4 (row .quantity .0)) 4 (sweep (raised 4 (256 ^ 4 - row .quantity .0)) 4 (splice (now (book .entry)) (presentAt + rowAt (number - 1) + statusIn) (le 1 2)) (presentAt + netAt mostHours (seller row) (row .first)) (row .last - row .first + 1)) (presentAt + netAt mostHours (buyer row) (row .first)) (row .last - row .first + 1) ⌝ }
+{
+    put_u8(book, row_place(number) + STATUS_IN, CONFIRMED);
+    move_nets(book, row);
+}
+
+// Kind 2: the row that the request names and mirrors is confirmed, under its number.
+pub fn confirm(book: &mut [u8], request: Request) -> Outcome
+    requires { ⌜ isBook (now book) ≡ true ⌝ }
+    requires { ⌜ Ready confirm (bookIn (now book)) request ⌝ }
+    ensures answer { λ o. ⌜ o ≡ outcomeOn confirm (bookIn (now (book .entry))) request ⌝ }
+    ensures bytes { λ _. ⌜ now (book .exit) ≡ bookBytes (bookAfter confirm (bookIn (now (book .entry))) request) ⌝ }
+    ensures still { λ _. ⌜ isBook (now (book .exit)) ≡ true ⌝ }
+{
+    if let Checked::Fails(r) = confirm_fault(book, request) {
+        return Outcome {
+            verdict: Verdict::Refused(r),
+        };
+    }
+    let number = confirmed_number(book, request);
+    let row = numbered_row(book, number);
+    put_trade(book, number, row);
+    Outcome {
+        verdict: Verdict::Accepted { number },
+    }
 }

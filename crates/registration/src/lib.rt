@@ -5,5 +5,6 @@ pub mod cover;
 pub mod gate;
 pub mod lodging;
 pub mod margins;
+pub mod positions;
 pub mod proposal;
 pub mod withdrawal;

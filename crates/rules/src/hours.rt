@@ -11,7 +11,7 @@ use crate::Row;
 use units::Kwh;
 
 // The first where the test holds, else the second.
-fn pick(on: bool, a: u8, b: u8) -> u8
+pub fn pick(on: bool, a: u8, b: u8) -> u8
     ensures { λ r. ⌜ r ≡ (if on then a else b) ⌝ }
 {
     if on { a } else { b }

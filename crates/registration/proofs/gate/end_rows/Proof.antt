@@ -1,14 +1,13 @@
 -- What is left runs down: the rows from `at` on are still to be ended, those before are.
-use Prim.Native.Nat.{ℕ, _+_, _-_, _*_, _≤_}
-use mathlib.Core.Path.{_≡_, refl, sym, ap, _∙_}
-use mathlib.Core.List.{List}
+use Prim.Native.Nat.{_+_, _-_, _*_, _≤_}
+use mathlib.Core.Path.{_≡_, refl, sym, _∙_}
 use native.Mathlib.Omega.{arith}
 use lib.ListN.{length}
 use borrow.Author.Needs.{needs}
 use Rattle.wire.specs.Parts.{sweep}
 use Rattle.book.specs.Layout.{rowWidth}
 use Rattle.book.specs.Changes.{ended}
-use Rattle.book.proofs.Loops.{sweep-step, sweep-done}
+use Rattle.book.proofs.Loops.{sweep-on, sweep-done}
 use Rattle.registration.proofs.gate.end_rows.Statement.{statement}
 use Rattle.registration.proofs.gate.end_rows.Tie as tie
 
@@ -38,7 +37,7 @@ loop-again : tie.Need-loop-again Inv-loop μ-loop
 loop-again c =
     let l = c .before .before .before .before .before .loop in
     let e = c .before .before .end-row .ensures in
-    (omega arith, omega arith, l .inv .2 ∙ sweep-step ended rowWidth (l .s) (l .at) (l .left) (l .left - 1) (omega arith) ∙ ap (λ (x : List ℕ). sweep ended rowWidth x (l .at + rowWidth) (l .left - 1)) (sym e))
+    (omega arith, omega arith, l .inv .2 ∙ sweep-on ended rowWidth (l .s) (l .at) _ (l .left) (l .left - 1) (omega arith) e)
 
 same-length : tie.Need-same-length Inv-loop μ-loop
 same-length c = search needs

@@ -1,0 +1,78 @@
+-- The seller's nets are swept first and then the buyer's, each from its own place, and what is raised by a turn less the quantity falls by it.
+use native.Mathlib.Omega.{arith}
+use Rattle.book.proofs.ShareLaws.{first-hour, seller-in, buyer-in}
+use Rattle.registration.proofs.PositionLaws.{nets-moved}
+use borrow.Author.Needs.{needs}
+use Rattle.registration.proofs.positions.move_nets.Statement.{statement}
+use Rattle.registration.proofs.positions.move_nets.Tie as tie
+
+sub-n : tie.Need-sub-n
+sub-n c = search needs
+
+cast-n : tie.Need-cast-n
+cast-n c = search needs
+
+add-n : tie.Need-add-n
+add-n c = search needs
+
+pick-requires : tie.Need-pick-requires
+pick-requires c κs = search needs
+
+pick-requires-2 : tie.Need-pick-requires-2
+pick-requires-2 c κs = search needs
+
+net-place-requires : tie.Need-net-place-requires
+net-place-requires c κs =
+    let pick = c .before .before .before in
+    let start = pick .before .before .before .before .before in
+    rw (pick .pick .ensures) (first-hour (start .args .r) _ (start .pre .1) (seller-in (start .args .r) (start .pre .1)))
+
+sub-raise-nets : tie.Need-sub-raise-nets
+sub-raise-nets c = search needs
+
+add-raise-nets : tie.Need-add-raise-nets
+add-raise-nets c = search needs
+
+raise-nets-requires : tie.Need-raise-nets-requires
+raise-nets-requires c κs = search needs
+
+net-place-requires-2 : tie.Need-net-place-requires-2
+net-place-requires-2 c κs =
+    let pick2 = c .before .before .before .before .before .before .before in
+    let start = pick2 .before .before .before .before .before .before .before in
+    rw (pick2 .pick2 .ensures) (first-hour (start .args .r) _ (start .pre .1) (buyer-in (start .args .r) (start .pre .1)))
+
+raise-nets-requires-2 : tie.Need-raise-nets-requires-2
+raise-nets-requires-2 c κs = search needs
+
+same-length : tie.Need-same-length
+same-length c = search needs
+
+returns : tie.Need-returns
+returns c =
+    let place2 = c .before .before .before in
+    let first = place2 .before .before .before .before in
+    let place = first .before .before in
+    let pick2 = place .before .before in
+    let pick = pick2 .before .before in
+    let start = pick .before .before .before .before .before in
+    nets-moved _ _ _ (start .args .r) _ _ _ _ _ _ (pick .pick .ensures) (pick2 .pick2 .ensures) (place .net-place .ensures) (place2 .net-place2 .ensures)
+    (first .raise-nets .ensures) (c .before .before .raise-nets2 .ensures) (omega arith) (omega (arith, start .pre))
+
+pub move-nets-spec : {M : Type 1} → statement M
+move-nets-spec =
+    tie.close
+    (tie.spec
+    sub-n
+    cast-n
+    add-n
+    pick-requires
+    pick-requires-2
+    net-place-requires
+    sub-raise-nets
+    add-raise-nets
+    raise-nets-requires
+    net-place-requires-2
+    raise-nets-requires-2
+    same-length
+    returns)

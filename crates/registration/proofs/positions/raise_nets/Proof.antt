@@ -1,0 +1,60 @@
+-- What is left runs down: the nets from `at` on are still to be raised, those before are.
+use Prim.Native.Nat.{_+_, _-_, _*_, _≤_}
+use mathlib.Core.Path.{_≡_, refl, sym, _∙_}
+use native.Mathlib.Omega.{arith}
+use lib.ListN.{length}
+use borrow.Author.Needs.{needs}
+use Rattle.wire.specs.Parts.{sweep}
+use Rattle.book.specs.Changes.{raised}
+use Rattle.book.proofs.Loops.{sweep-on, sweep-done}
+use Rattle.registration.proofs.positions.raise_nets.Statement.{statement}
+use Rattle.registration.proofs.positions.raise_nets.Tie as tie
+
+abbrev Inv-loop : tie.InvT-loop
+Inv-loop s₀ from n more at₀ left₀ s at left =
+    (at + 4 * left ≤ length s) × (length s ≡ length s₀) × (sweep (raised 4 more) 4 s₀ from n ≡ sweep (raised 4 more) 4 s at left)
+
+abbrev μ-loop : tie.MeasureT-loop
+μ-loop s₀ from n more at₀ left₀ s at left = left
+
+loop-holds : tie.Need-loop-holds Inv-loop μ-loop
+loop-holds c = (omega arith, refl, refl)
+
+raise-net-requires : tie.Need-raise-net-requires Inv-loop μ-loop
+raise-net-requires c κs = search needs
+
+add-at : tie.Need-add-at Inv-loop μ-loop
+add-at c = search needs
+
+sub-left : tie.Need-sub-left Inv-loop μ-loop
+sub-left c = search needs
+
+loop-less : tie.Need-loop-less Inv-loop μ-loop
+loop-less c = search needs
+
+loop-again : tie.Need-loop-again Inv-loop μ-loop
+loop-again c =
+    let l = c .before .before .before .before .before .loop in
+    let e = c .before .before .raise-net .ensures in
+    (omega arith, omega arith, l .inv .2 ∙ sweep-on _ 4 (l .s) (l .at) _ (l .left) (l .left - 1) (omega arith) e)
+
+same-length : tie.Need-same-length Inv-loop μ-loop
+same-length c = search needs
+
+returns : tie.Need-returns Inv-loop μ-loop
+returns c = sym (c .before .loop .inv .2 ∙ sweep-done _ _ _ _ _ (c .loop-test .left))
+
+pub raise-nets-spec : {M : Type 1} → statement M
+raise-nets-spec =
+    tie.close
+    (tie.spec
+    Inv-loop
+    μ-loop
+    loop-holds
+    raise-net-requires
+    add-at
+    sub-left
+    loop-less
+    loop-again
+    same-length
+    returns)

@@ -1,0 +1,62 @@
+// The net positions that a confirmed trade moves: the seller's fall, the buyer's rise.
+ghost use mathlib.Core.Path.{_≡_};
+ghost use Prim.Native.Nat.{_+_, _-_, _*_, _^_, _≤_};
+ghost use lib.ListN.{length, take, drop};
+ghost use Rattle.wire.specs.Regions.{splice};
+ghost use Rattle.wire.specs.Parts.{sweep};
+ghost use Rattle.rules.specs.Limits.{bookSize, mostHours};
+ghost use Rattle.rules.specs.Registration.{seller, buyer};
+ghost use Rattle.book.specs.Layout.{presentAt, netAt};
+ghost use Rattle.book.specs.Changes.{raised};
+ghost use Rattle.book.specs.Sums.{Tabled};
+use book::state::net_place;
+use rules::Row;
+use rules::hours::pick;
+use wire::numbers::get_u32;
+use wire::numbers::put_u32;
+
+// The greatest number in 4 bytes, and what they count to.
+const MOST_IN_4: u32 = 4_294_967_295;
+
+const TURN: u64 = 4_294_967_296;
+
+// Raises the number in the 4 bytes at `at`; what is more than fits goes round.
+fn raise_net(s: &mut [u8], at: usize, more: u32)
+    requires { ⌜ at + 4 ≤ length (now s) ⌝ }
+    ensures { λ _. ⌜ now (s .exit) ≡ splice (now (s .entry)) at (raised 4 more (take 4 (drop at (now (s .entry))))) ⌝ }
+{
+    let sum = get_u32(s, at) as u64 + more as u64;
+    put_u32(s, at, (sum % TURN) as u32);
+}
+
+// Raises each of the `n` numbers that stand from `from` on.
+fn raise_nets(s: &mut [u8], from: usize, n: usize, more: u32)
+    requires { ⌜ from + 4 * n ≤ length (now s) ⌝ }
+    ensures { λ _. ⌜ now (s .exit) ≡ sweep (raised 4 more) 4 (now (s .entry)) from n ⌝ }
+{
+    let mut at = from;
+    let mut left = n;
+    while 0 < left {
+        raise_net(s, at, more);
+        at = at + 4;
+        left = left - 1;
+    }
+}
+
+// Moves the nets of both parties of a trade in each of its hours: the seller's fall by its quantity, then the buyer's rise by it.
+pub fn move_nets(book: &mut [u8], r: Row)
+    requires { ⌜ (length (now book) ≡ bookSize) × Tabled r × (1 ≤ r .quantity .0) ⌝ }
+    ensures { λ _. ⌜ now (book .exit) ≡ sweep (raised 4 (r .quantity .0)) 4 (sweep (raised 4 (256 ^ 4 - r .quantity .0)) 4 (now (book .entry)) (presentAt + netAt mostHours (seller r) (r .first)) (r .last - r .first + 1)) (presentAt + netAt mostHours (buyer r) (r .first)) (r .last - r .first + 1) ⌝ }
+{
+    let quantity = r.quantity;
+    let n = (r.last - r.first) as usize + 1;
+    let seller = pick(r.side == 1, r.proposer, r.counterparty);
+    let buyer = pick(r.side == 1, r.counterparty, r.proposer);
+    raise_nets(
+        book,
+        net_place(seller, r.first),
+        n,
+        MOST_IN_4 - quantity.0 + 1,
+    );
+    raise_nets(book, net_place(buyer, r.first), n, quantity.0);
+}
