@@ -1,5 +1,5 @@
--- A row confirmed: the search for it, row by row; what it is by being named; and the tests of confirm in the order of their numbers, each
--- on the book as it would be.
+-- A row confirmed: the search for it, row by row; what it is by being named; the tests of confirm in the order of their numbers, each on the
+-- book as it would be; and its status with the nets of both parties as all that is written.
 use Prim.Native.Nat.{ℕ, suc, _+_, _-_, _^_, _≤_}
 use mathlib.Core.Path.{_≡_, refl, sym, ap, _∙_}
 use mathlib.Core.List.{List, _∷_}
@@ -145,11 +145,15 @@ pub confirmed-high : (b : Book) (q : Request) → confirmedNumber b q ≤ length
 unfolding confirms
 confirmed-high b q = number-high (alike (q .other) (q .account) (q .code)) (b .part .rows)
 
+-- the row of a number is sound
+row-sound : (s : List ℕ) (h : isBook s ≡ true) (n : ℕ) (r : Row) → 1 ≤ n → n ≤ length (bookIn s .part .rows)
+    → r ≡ nth (bookIn s .part .rows) n noRow → SoundRow (bookIn s .setup) r
+row-sound s h n r low high e = rw e (each-nth noRow n (book-is-sound s h .part-sound .rows-sound) low high)
+
 module _ (s : List ℕ) (q : Request) (r : Row) (h : isBook s ≡ true) (w : Confirming (bookIn s) q r) where
   -- it is a row of the book
   named-sound : SoundRow (bookIn s .setup) r
-  named-sound =
-      rw (w .row) (each-nth noRow (confirmedNumber (bookIn s) q) (book-is-sound s h .part-sound .rows-sound) (w .named) (confirmed-high (bookIn s) q))
+  named-sound = row-sound s h (confirmedNumber (bookIn s) q) r (w .named) (confirmed-high (bookIn s) q) (w .row)
 
   pub named-tabled : Tabled r
   named-tabled = sound-tabled (bookIn s .setup) (book-is-sound s h .setup-sound) r named-sound
@@ -254,7 +258,7 @@ module _ (s : List ℕ) (q : Request) (number : ℕ) (h : isBook s ≡ true) (fr
 
   module _ (r : Row) (row : r ≡ nth (bookIn s .part .rows) number noRow) where
     accepted-sound : SoundRow (bookIn s .setup) r
-    accepted-sound = rw row (each-nth noRow number (book-is-sound s h .part-sound .rows-sound) (accepted-number .0) (accepted-number .1))
+    accepted-sound = row-sound s h number r (accepted-number .0) (accepted-number .1) row
 
     pub accepted-tabled : Tabled r
     accepted-tabled = sound-tabled (bookIn s .setup) (book-is-sound s h .setup-sound) r accepted-sound

@@ -21,7 +21,7 @@ pub mod ReadyLaws
 pub mod LodgingLaws
 -- ProposalLaws: what the state refuses a register for, and what an accepted one writes.
 pub mod ProposalLaws
--- ConfirmationLaws: the row that a confirm names, and what the state refuses a confirm for.
+-- ConfirmationLaws: the row that a confirm names, what the state refuses a confirm for, and what an accepted one writes.
 pub mod ConfirmationLaws
 -- PositionLaws: what moving the nets of a trade writes.
 pub mod PositionLaws
