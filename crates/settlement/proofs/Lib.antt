@@ -1,3 +1,9 @@
 -- Laws of settlement.
 -- PriceLaws: the prices of a table, one after the other.
 pub mod PriceLaws
+-- BalanceLaws: sums of balances, and a share credited to an operator.
+pub mod BalanceLaws
+-- WordLaws: a balance as a signed word, and the balances written one after the other.
+pub mod WordLaws
+-- WorthLaws: what accounts bought and sold, at PUN.
+pub mod WorthLaws

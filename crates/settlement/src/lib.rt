@@ -1,2 +1,3 @@
 // Schedules and settlement on a book that is known to be one: kinds 9 and 10.
+pub mod balances;
 pub mod prices;
