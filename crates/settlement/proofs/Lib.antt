@@ -3,6 +3,8 @@
 pub mod PriceLaws
 -- BalanceLaws: sums of balances, and a share credited to an operator.
 pub mod BalanceLaws
+-- ScheduleLaws: what a judged schedule adds to its operator's balance.
+pub mod ScheduleLaws
 -- WordLaws: a balance as a signed word, and the balances written one after the other.
 pub mod WordLaws
 -- WorthLaws: what accounts bought and sold, at PUN.
