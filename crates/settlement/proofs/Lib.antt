@@ -9,3 +9,5 @@ pub mod ScheduleLaws
 pub mod WordLaws
 -- WorthLaws: what accounts bought and sold, at PUN.
 pub mod WorthLaws
+-- BalanceTotals: the balances of all operators fit their words, and are the definition's.
+pub mod BalanceTotals
