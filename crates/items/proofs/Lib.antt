@@ -1,3 +1,7 @@
 -- Laws of items and lines.
 -- StreamLaws: what stands at an offset is the first of the items from there on; an item's two parts.
 pub mod StreamLaws
+-- DecimalLaws: decimal digits, as defined and as the code makes them.
+pub mod DecimalLaws
+-- WrittenLaws: texts put one behind the other.
+pub mod WrittenLaws
