@@ -5,3 +5,5 @@ pub mod StreamLaws
 pub mod DecimalLaws
 -- WrittenLaws: texts put one behind the other.
 pub mod WrittenLaws
+-- LineLaws: a line is the pieces that the code puts.
+pub mod LineLaws

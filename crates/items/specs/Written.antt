@@ -9,3 +9,7 @@ use Rattle.wire.specs.Regions.{splice}
 pub record Written (before : List ℕ) (at : ℕ) (text after : List ℕ) (past : ℕ) : Type 0 where
   pub put : after ≡ splice before at text
   pub behind : past ≡ at + length text
+
+-- no line is longer: four numbers of 20 digits, each with one byte behind it
+abbrev pub lineRoom : ℕ
+lineRoom = 84
