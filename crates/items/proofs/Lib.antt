@@ -7,3 +7,5 @@ pub mod DecimalLaws
 pub mod WrittenLaws
 -- LineLaws: a line is the pieces that the code puts.
 pub mod LineLaws
+-- FigureLaws: signed figures of 8 bytes, and their sum.
+pub mod FigureLaws

@@ -1,4 +1,5 @@
 // The replay's items and lines: the stream cut into items, and what the answers print.
+pub mod figures;
 pub mod lines;
 pub mod stream;
 pub mod text;
