@@ -9,3 +9,5 @@ pub mod WrittenLaws
 pub mod LineLaws
 -- FigureLaws: signed figures of 8 bytes, and their sum.
 pub mod FigureLaws
+-- ListLaws: lines put one after the other.
+pub mod ListLaws

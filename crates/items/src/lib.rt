@@ -1,6 +1,7 @@
 // The replay's items and lines: the stream cut into items, and what the answers print.
 pub mod figures;
 pub mod lines;
+pub mod lists;
 pub mod stream;
 pub mod text;
 
