@@ -11,3 +11,5 @@ pub mod LineLaws
 pub mod FigureLaws
 -- ListLaws: lines put one after the other.
 pub mod ListLaws
+-- SettledLaws: the buffers as an accepted settle leaves them print its lines.
+pub mod SettledLaws

@@ -6,46 +6,33 @@ use Rattle.items.proofs.DecimalLaws.{figure-plus, figure-minus}
 use Rattle.items.proofs.WrittenLaws.{written-as, written-then}
 use Rattle.items.proofs.text.put_figure.Statement.{statement}
 use Rattle.items.proofs.text.put_figure.Tie as tie
-use Rattle.items.proofs.text.put_figure.Reads as reads
-use Rattle.items.proofs.text.put_figure.Lts as lts
-use Rattle.items.proofs.text.put_bytes.Reads as put-bytes-reads
-use Rattle.items.proofs.text.put_number.Reads as put-number-reads
 
--- src/text.rt:53:9
 put-number-requires : tie.Need-put-number-requires
 put-number-requires c κs = search needs
 
--- src/text.rt:53:9
 same-length : tie.Need-same-length
 same-length c = search needs
 
--- src/text.rt:53:9
 returns : tie.Need-returns
 returns c =
     let w = c .before .before .put-number .ensures in
     (rw (figure-plus _ _ (c .before .before .before .before .if1 .taken)) (w .0), omega (arith, w .1))
 
--- src/text.rt:55:35
 slice-aggregate-put-bytes : tie.Need-slice-aggregate-put-bytes
 slice-aggregate-put-bytes c = search needs
 
--- src/text.rt:55:9
 put-bytes-requires : tie.Need-put-bytes-requires
 put-bytes-requires c κs = search needs
 
--- src/text.rt:56:27
 sub-put-number : tie.Need-sub-put-number
 sub-put-number c = search needs
 
--- src/text.rt:56:5
 put-number-requires-2 : tie.Need-put-number-requires-2
 put-number-requires-2 c κs = search needs
 
--- src/text.rt:45:1
 same-length-2 : tie.Need-same-length-2
 same-length-2 c = search needs
 
--- src/text.rt:45:1
 returns-2 : tie.Need-returns-2
 returns-2 c =
     let b = c .before .before .before .before .before .before in

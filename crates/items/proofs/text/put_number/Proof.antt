@@ -4,28 +4,19 @@ use borrow.Author.Needs.{needs}
 use Rattle.items.proofs.WrittenLaws.{written-then}
 use Rattle.items.proofs.text.put_number.Statement.{statement}
 use Rattle.items.proofs.text.put_number.Tie as tie
-use Rattle.items.proofs.text.put_number.Reads as reads
-use Rattle.items.proofs.text.put_number.Lts as lts
-use Rattle.items.proofs.text.put_bytes.Reads as put-bytes-reads
-use Rattle.items.proofs.text.put_decimal.Reads as put-decimal-reads
 
--- src/text.rt:40:9
 put-decimal-requires : tie.Need-put-decimal-requires
 put-decimal-requires c κs = search needs
 
--- src/text.rt:41:26
 slice-aggregate-put-bytes : tie.Need-slice-aggregate-put-bytes
 slice-aggregate-put-bytes c = search needs
 
--- src/text.rt:41:5
 put-bytes-requires : tie.Need-put-bytes-requires
 put-bytes-requires c κs = search needs
 
--- src/text.rt:35:1
 same-length : tie.Need-same-length
 same-length c = search needs
 
--- src/text.rt:35:1
 returns : tie.Need-returns
 returns c =
     let d = c .before .before .before .before .before .before .before .put-decimal .ensures in
