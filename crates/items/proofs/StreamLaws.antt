@@ -9,9 +9,7 @@ use lib.Seq.{take-length, drop-length, drop-drop, drop-cons}
 use lib.Dec.{eqb, leb}
 use borrow.Author.Tests.{leb-true, leb-false, eqb-true, eqb-false, eq-eqb, ne-eqb, le-leb, lt-leb}
 use Rattle.wire.specs.Numbers.{number, numberAt}
-use Rattle.rules.specs.Basics.{if_then_else_}
 use Rattle.rules.specs.Limits.{mostSchedules, mostOperators}
-use Rattle.rules.specs.Calls.{Call}
 use Rattle.rules.specs.Replay.{Item, whole, cutShort, itemsWithin, items, callOf}
 use Rattle.items.specs.declared.Found.{Found}
 use Rattle.items.specs.declared.Found.the-variants.{Whole, Cut, End}

@@ -1,10 +1,9 @@
 -- Texts put one behind the other are one text.
 use Prim.Native.Nat.{ℕ, _+_, _≤_}
-use mathlib.Core.Path.{_≡_, refl, sym, ap, _∙_}
-use mathlib.Core.List.{List, [], _∷_, _++_, append-assoc}
+use mathlib.Core.Path.{_≡_, _∙_}
+use mathlib.Core.List.{List, _++_}
 use native.Mathlib.Omega.{arith}
 use lib.ListN.{length, length-append}
-use Rattle.wire.specs.Regions.{splice}
 use Rattle.wire.proofs.RegionLaws.{splice-append}
 use Rattle.items.specs.Written.{Written}
 

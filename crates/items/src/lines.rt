@@ -1,5 +1,4 @@
 // One line of the replay, put into a lent buffer. Each function gives the offset past the line.
-ghost use mathlib.Core.Path.{_≡_};
 ghost use Prim.Native.Nat.{_+_, _≤_};
 ghost use lib.ListN.{length};
 ghost use Rattle.rules.specs.Settlement.{balanceFigure};

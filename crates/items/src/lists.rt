@@ -4,7 +4,7 @@ ghost use lib.ListN.{length};
 ghost use Rattle.rules.specs.Basics.{Each};
 ghost use Rattle.rules.specs.Limits.{mostOperators};
 ghost use Rattle.items.specs.Written.{Written, lineRoom};
-ghost use Rattle.items.specs.Figures.{figuresIn, SmallFigure, resultsText, balanceLinesText, balancesText};
+ghost use Rattle.items.specs.Figures.{figuresIn, SmallFigure, resultsText, balanceLinesText, balancesText, settledText};
 use crate::figures::balance_at;
 use crate::figures::total_of;
 use crate::lines::put_balance;
@@ -56,4 +56,22 @@ pub fn put_balances(out: &mut [u8], at: usize, balances: &[u8], n: usize) -> usi
     let total_at = put_balance_lines(out, at, balances, n);
     let total = total_of(balances, n);
     put_total(out, total_at, total)
+}
+
+// Puts all that an accepted settle adds: a line for each of the first `n` results, for each of the first `m` balances, and the total.
+pub fn put_settled(
+    out: &mut [u8],
+    at: usize,
+    results: &[u8],
+    n: usize,
+    balances: &[u8],
+    m: usize,
+) -> usize
+    requires { ⌜ (n ≤ length (now results)) × (m ≤ mostOperators) × (8 * m ≤ length (now balances)) × Each SmallFigure (figuresIn m (now balances)) ⌝ }
+    requires { ⌜ at + lineRoom * (n + m + 1) ≤ length (now out) ⌝ }
+    ensures { λ r. ⌜ Written (now (out .entry)) at (settledText n (now (results .entry)) m (now (balances .entry))) (now (out .exit)) r ⌝ }
+    ensures { λ r. ⌜ r ≤ at + lineRoom * (n + m + 1) ⌝ }
+{
+    let balances_at = put_results(out, at, results, n);
+    put_balances(out, balances_at, balances, m)
 }

@@ -1,9 +1,7 @@
 // Text put into a lent buffer: bytes, numbers in decimal, and signed figures. Each function gives the offset past what it put.
-ghost use mathlib.Core.Path.{_≡_};
 ghost use mathlib.Core.List.{[], _∷_, _++_};
 ghost use Prim.Native.Nat.{_+_, _≤_};
 ghost use lib.ListN.{length};
-ghost use lib.IntN.{subℕ};
 ghost use Rattle.rules.specs.Settlement.{balanceFigure};
 ghost use Rattle.rules.specs.Replay.{decimal as decimalText, signedDecimal};
 ghost use Rattle.items.specs.Written.{Written};

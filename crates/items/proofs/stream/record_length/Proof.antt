@@ -1,6 +1,5 @@
 -- The third byte decides, where there is one.
 use mathlib.Core.Path.{sym}
-use native.Mathlib.Omega.{arith}
 use borrow.Author.Needs.{needs}
 use Rattle.items.proofs.StreamLaws.{record-short, record-settle, record-whole}
 use Rattle.items.proofs.stream.record_length.Statement.{statement}

@@ -1,9 +1,8 @@
 -- The sign decides which of the two is taken from the other.
-use mathlib.Core.Path.{sym}
 use native.Mathlib.Omega.{arith}
 use borrow.Author.Needs.{needs}
 use Rattle.items.proofs.DecimalLaws.{figure-plus, figure-minus}
-use Rattle.items.proofs.WrittenLaws.{written-as, written-then}
+use Rattle.items.proofs.WrittenLaws.{written-then}
 use Rattle.items.proofs.text.put_figure.Statement.{statement}
 use Rattle.items.proofs.text.put_figure.Tie as tie
 
