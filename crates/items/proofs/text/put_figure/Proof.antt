@@ -1,0 +1,53 @@
+-- The sign decides which of the two is taken from the other.
+use native.Mathlib.Omega.{arith}
+use borrow.Author.Needs.{needs}
+use Rattle.items.proofs.DecimalLaws.{figure-plus, figure-minus}
+use Rattle.items.proofs.WrittenLaws.{written-then}
+use Rattle.items.proofs.text.put_figure.Statement.{statement}
+use Rattle.items.proofs.text.put_figure.Tie as tie
+
+put-number-requires : tie.Need-put-number-requires
+put-number-requires c κs = search needs
+
+same-length : tie.Need-same-length
+same-length c = search needs
+
+returns : tie.Need-returns
+returns c =
+    let w = c .before .before .put-number .ensures in
+    (rw (figure-plus _ _ (c .before .before .before .before .if1 .taken)) (w .0), omega (arith, w .1))
+
+slice-aggregate-put-bytes : tie.Need-slice-aggregate-put-bytes
+slice-aggregate-put-bytes c = search needs
+
+put-bytes-requires : tie.Need-put-bytes-requires
+put-bytes-requires c κs = search needs
+
+sub-put-number : tie.Need-sub-put-number
+sub-put-number c = search needs
+
+put-number-requires-2 : tie.Need-put-number-requires-2
+put-number-requires-2 c κs = search needs
+
+same-length-2 : tie.Need-same-length-2
+same-length-2 c = search needs
+
+returns-2 : tie.Need-returns-2
+returns-2 c =
+    let b = c .before .before .before .before .before .before in
+    let w = c .before .before .put-number2 .ensures in
+    (rw (figure-minus _ _ (b .before .before .before .if1 .left)) (written-then (omega arith) (b .put-bytes .ensures) (w .0)), omega (arith, w .1, b .put-bytes .ensures .behind))
+
+pub put-figure-spec : {M : Type 1} → statement M
+put-figure-spec =
+    tie.close
+    (tie.spec
+    put-number-requires
+    same-length
+    returns
+    slice-aggregate-put-bytes
+    put-bytes-requires
+    sub-put-number
+    put-number-requires-2
+    same-length-2
+    returns-2)

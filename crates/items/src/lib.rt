@@ -1,0 +1,13 @@
+// The replay's items and lines: the stream cut into items, and what the answers print.
+pub mod figures;
+pub mod lines;
+pub mod lists;
+pub mod stream;
+pub mod text;
+
+// What stands at an offset of a stream: an item whose bytes run from `from` to `end`, one that is cut short, or nothing.
+pub enum Found {
+    Whole { from: usize, end: usize },
+    Cut,
+    End,
+}
