@@ -1,11 +1,4 @@
 // One case: what the proved functions say of the bytes in the room, of which the first 49,152 are the book.
-use crate::text::begin;
-use crate::text::bytes;
-use crate::text::end;
-use crate::text::negative;
-use crate::text::number;
-use crate::text::small;
-use crate::text::verdict;
 use book::opening::open;
 use book::readings::exposure;
 use book::readings::net;
@@ -16,6 +9,13 @@ use rules::Numbers;
 use rules::Position;
 use rules::verdicts::outcome_numbers;
 use rules::verdicts::refusal_numbers;
+use test_lines::begin;
+use test_lines::bytes;
+use test_lines::end;
+use test_lines::negative;
+use test_lines::number;
+use test_lines::small;
+use test_lines::verdict;
 use wire::numbers::get_u16;
 use wire::regions::copy_in;
 

@@ -1,11 +1,6 @@
 // One case: what the proved functions say of its bytes.
 ghost use Prim.Native.Nat.{_≤_};
 ghost use lib.ListN.{length};
-use crate::text::begin;
-use crate::text::bytes;
-use crate::text::end;
-use crate::text::number;
-use crate::text::verdict;
 use records::ranges::check_ranges;
 use records::reader::read;
 use records::writer::write;
@@ -16,6 +11,11 @@ use rules::Reading;
 use rules::Request;
 use rules::verdicts::outcome_numbers;
 use rules::verdicts::refusal_numbers;
+use test_lines::begin;
+use test_lines::bytes;
+use test_lines::end;
+use test_lines::number;
+use test_lines::verdict;
 use units::Cents;
 use units::CentsPerMwh;
 use units::Kwh;

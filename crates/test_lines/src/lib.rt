@@ -1,6 +1,25 @@
-// Lines on standard output.
+// What the test programs share: the cases on standard input and the lines on standard output. tests/README.md has their form.
+ghost use Prim.Native.Nat.{_<_, _≤_};
+ghost use lib.ListN.{length};
 use libc::STDOUT_FILENO;
 use rules::Numbers;
+use wire::numbers::get_u16;
+
+// Where the case at `at` ends: a tag, a 2-byte length and that many bytes, or what is left of the input.
+pub fn case_end(input: &[u8], at: usize) -> usize
+    requires { ⌜ at < length (now input) ⌝ }
+    ensures { λ r. ⌜ (at < r) × (r ≤ length (now (input .entry))) ⌝ }
+{
+    let left = input.len() - at;
+    if left < 3 {
+        return input.len();
+    }
+    let size = get_u16(input, at + 1) as usize;
+    if left - 3 < size {
+        return input.len();
+    }
+    at + 3 + size
+}
 
 // Begins a line.
 pub fn begin(tag: u8) {
