@@ -5,3 +5,5 @@ pub mod Settling
 pub mod Tables
 -- Congruity: what a schedule is held against.
 pub mod Congruity
+-- Balances: what is added up to an operator's balance.
+pub mod Balances
