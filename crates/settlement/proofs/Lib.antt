@@ -19,3 +19,9 @@ pub mod WordLaws
 pub mod WorthLaws
 -- BalanceTotals: the balances of all operators fit their words, and are the definition's.
 pub mod BalanceTotals
+-- PlacingLaws: the schedules of a book with their places, before and in order of priority.
+pub mod PlacingLaws
+-- JudgingLaws: schedules judged one after the other.
+pub mod JudgingLaws
+-- TurnLaws: each schedule of a book in its turn.
+pub mod TurnLaws
