@@ -4,3 +4,4 @@ pub mod congruity;
 pub mod judging;
 pub mod prices;
 pub mod scheduling;
+pub mod settling;
