@@ -19,3 +19,15 @@ pub mod WordLaws
 pub mod WorthLaws
 -- BalanceTotals: the balances of all operators fit their words, and are the definition's.
 pub mod BalanceTotals
+-- Refusals: what settle is refused for, test by test.
+pub mod Refusals
+-- PlacingLaws: the schedules of a book with their places, before and in order of priority.
+pub mod PlacingLaws
+-- JudgingLaws: schedules judged one after the other.
+pub mod JudgingLaws
+-- TurnLaws: each schedule of a book in its turn.
+pub mod TurnLaws
+-- DrawingLaws: what settle writes to its buffers.
+pub mod DrawingLaws
+-- SettlingLaws: what settle answers.
+pub mod SettlingLaws

@@ -7,3 +7,5 @@ pub mod Tables
 pub mod Congruity
 -- Balances: what is added up to an operator's balance.
 pub mod Balances
+-- Judging: schedules judged one after the other, and the tables kept of them.
+pub mod Judging
