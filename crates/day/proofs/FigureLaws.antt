@@ -1,17 +1,17 @@
 -- Signed figures in bytes: a figure of which neither part reaches half a turn is read back from its 8 bytes, and so the figures that
 -- fill a buffer are those of the balances.
-use Prim.Native.Nat.{ℕ, zero, suc, _+_, _-_, _*_, _^_, _≤_, _<_}
+use Prim.Native.Nat.{ℕ, suc, _-_, _^_, _<_}
 use mathlib.Core.Path.{_≡_, refl, sym, ap, _∙_}
 use mathlib.Core.List.{List, [], _∷_, _++_, map, append-assoc}
 use mathlib.Core.Bool.{Bool, true, false, cond}
 use native.Mathlib.Omega.{arith}
-use lib.ListN.{length, take, drop, length-append}
+use lib.ListN.{length, drop}
 use lib.Seq.{take-at, drop-at}
 use lib.Dec.{ltb}
-use lib.IntN.{ℤ, pos, negsuc, negℤ, subℕ, _+ℤ_}
-use borrow.Author.Tests.{ltb-true, ltb-false, lt-ltb, le-ltb}
+use lib.IntN.{ℤ, pos, negsuc, subℕ, _+ℤ_}
+use borrow.Author.Tests.{lt-ltb, le-ltb}
 use Rattle.wire.specs.Numbers.{number, le, signed}
-use Rattle.wire.proofs.NumberLaws.{number-le, length-le, signed-minus}
+use Rattle.wire.proofs.NumberLaws.{number-le, signed-minus}
 use Rattle.rules.specs.declared.Balance.{Balance}
 use Rattle.rules.specs.Basics.{entries, joined, Each, nil, cons}
 use Rattle.rules.specs.Requests.{filled}

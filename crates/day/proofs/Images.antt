@@ -1,15 +1,14 @@
 -- Calls on the bytes of a valid book are those on the book: a valid book is read back from its bytes, and every call leaves one.
 use Prim.Native.Nat.{ℕ}
 use mathlib.Core.Path.{_≡_, refl, sym, ap, _∙_}
-use mathlib.Core.List.{List, [], _∷_, _++_, map}
-use mathlib.Core.Bool.{Bool, true, _&&_, not}
+use mathlib.Core.List.{List, [], _∷_, map}
+use mathlib.Core.Bool.{Bool, true, _&&_}
 use native.Mathlib.Omega.{arith}
-use Rattle.wire.specs.Numbers.{Bytes}
-use Rattle.rules.specs.Basics.{Each, nil, cons}
+use Rattle.rules.specs.Basics.{nil, cons}
 use Rattle.rules.specs.Limits.{mostHours, bookSize}
 use Rattle.rules.specs.Books.{Book}
-use Rattle.rules.specs.Requests.{Kind, openBatch, undo, keep}
-use Rattle.rules.specs.Calls.{Call, Answer, kindIn, _∈_, step}
+use Rattle.rules.specs.Requests.{Kind, openBatch, undo}
+use Rattle.rules.specs.Calls.{Call, kindIn, _∈_, step}
 use Rattle.rules.specs.Lists.{runs, after, isAcceptance, accepts, acceptsAs, endsNoBatch, UndoneBatch}
 use Rattle.rules.specs.Ledger.{heard}
 use Rattle.book.specs.Valid.{valid, isBook, bookBytes, bookIn}

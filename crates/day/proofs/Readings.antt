@@ -1,12 +1,9 @@
 -- Every reading of a book is that of a ledger that agrees with it: in range by the sums in which they agree, out of range by the set-up that
 -- they share.
 use Prim.Native.Nat.{ℕ}
-use mathlib.Core.Path.{_≡_, refl, _∙_}
-use mathlib.Core.List.{List}
+use mathlib.Core.Path.{_≡_, refl}
 use mathlib.Core.Bool.{Bool, true, false}
-use Rattle.rules.specs.declared.NetReading.{NetReading}
-use Rattle.rules.specs.declared.ExposureReading.{ExposureReading}
-use Rattle.rules.specs.Basics.{if_then_else_, within}
+use Rattle.rules.specs.Basics.{within}
 use Rattle.rules.specs.Verdicts.{lowest}
 use Rattle.rules.specs.Books.{Book, accountCount, operatorCount}
 use Rattle.rules.specs.Readings.{netReading, exposureReading}

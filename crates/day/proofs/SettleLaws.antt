@@ -1,7 +1,7 @@
 -- What an accepted settle writes: the balances of the book at its prices, which are in range, so that each balance is read back from the
 -- 8 bytes that it fills.
 use Prim.Native.Nat.{ℕ, _≤_}
-use mathlib.Core.Path.{_≡_, refl, ap, _∙_}
+use mathlib.Core.Path.{_≡_, ap, _∙_}
 use mathlib.Core.List.{List, [], _∷_, map}
 use mathlib.Core.Option.{Option, none, some}
 use mathlib.Core.Bool.{true}
@@ -10,21 +10,19 @@ use lib.ListN.{length, length-map}
 use borrow.Author.Tests.{ltb-false}
 use Rattle.units.specs.declared.CentsPerMwh.{CentsPerMwh}
 use Rattle.rules.specs.declared.Refusal.{Refusal}
-use Rattle.rules.specs.declared.Balance.{Balance}
-use Rattle.rules.specs.declared.Outcome.{Outcome}
 use Rattle.rules.specs.Basics.{upTo, Each, nil, cons}
 use Rattle.rules.specs.Limits.{mostPrice}
 use Rattle.rules.specs.Books.{Book, operatorCount}
 use Rattle.rules.specs.Requests.{Kind, settle, filled}
 use Rattle.rules.specs.Registration.{netOf}
-use Rattle.rules.specs.Settlement.{pricesIn, settled, balance, results, balances, balanceFigure, balanceBytes}
+use Rattle.rules.specs.Settlement.{pricesIn, settled, balance, results, balances, balanceBytes}
 use Rattle.rules.specs.Calls.{Call, Settled, kindIn, requestIn, settles, refusal, answer, balancesAfter, _∈_, inputChecks, step}
 use Rattle.rules.specs.Lists.{isAcceptance, accepts, acceptsAs}
 use Rattle.rules.specs.Replay.{sumOf}
 use Rattle.rules.proofs.Tests.{and-both}
 use Rattle.rules.proofs.Searches.{each-map, any-none, counting-length}
 use Rattle.rules.proofs.Clearing.{Clear}
-use Rattle.rules.proofs.Passed.{Passed, passed-6-prices}
+use Rattle.rules.proofs.Passed.{passed-6-prices}
 use Rattle.rules.proofs.CallLists.{accepts-passed}
 use Rattle.rules.proofs.Batches.{the-kind}
 use Rattle.book.specs.Valid.{valid}

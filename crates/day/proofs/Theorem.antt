@@ -1,45 +1,45 @@
 -- Demand 3 whole. From an accepted opening the book's bytes are those of a valid plain book after every call, and the ledger agrees with
 -- that book; each clause is a law of such a book, said on its bytes.
-use Prim.Native.Nat.{ℕ, zero, suc, _+_, _≤_}
+use Prim.Native.Nat.{ℕ, zero, suc, _+_}
 use mathlib.Core.Path.{_≡_, refl, sym, ap, _∙_, fun-ext}
 use mathlib.Core.List.{List, [], _∷_, _++_, map}
 use mathlib.Core.Option.{none}
 use mathlib.Core.Bool.{true}
-use native.Mathlib.Omega.{arith}
 use lib.ListN.{length, take, drop}
-use lib.IntN.{ℤ, pos}
+use lib.IntN.{pos}
 use Rattle.rules.specs.declared.Net.{Net}
-use Rattle.rules.specs.declared.AccountHour.{AccountHour}
 use Rattle.rules.specs.Basics.{upTo, Each}
+use Rattle.rules.specs.Verdicts.{numbers}
 use Rattle.rules.specs.Books.{Setup, Book, accountCount, operatorCount}
 use Rattle.rules.specs.Opening.{setupOf, setupRefusal, openRefusal, opened}
 use Rattle.rules.specs.Requests.{settle}
-use Rattle.rules.specs.Registration.{netOf, accountHour, figure}
+use Rattle.rules.specs.Registration.{netOf, figure}
 use Rattle.rules.specs.Settlement.{pricesIn, registeredTotal}
-use Rattle.rules.specs.Calls.{Call, Answer, step}
-use Rattle.rules.specs.Lists.{runs, after, acceptsAs, UndoneBatch, CutOut}
-use Rattle.rules.specs.Ledger.{Ledger, newLedger, heard, fedAll, ledgerNet, ledgerHour}
+use Rattle.rules.specs.Calls.{Call, step}
+use Rattle.rules.specs.Lists.{after, acceptsAs}
+use Rattle.rules.specs.Ledger.{newLedger, fedAll, ledgerNet}
 use Rattle.rules.proofs.Clearing.{clear, clear-lowest}
 use Rattle.rules.proofs.Balanced.{totalℤ}
-use Rattle.rules.proofs.Agreement.{Agrees, day-agrees}
+use Rattle.rules.proofs.Agreement.{day-agrees}
 use Rattle.rules.proofs.LedgerReadings.{net-is-the-ledgers, hour-is-the-ledgers, exposure-is-the-ledgers, available-is-the-ledgers}
 use Rattle.rules.proofs.LedgerDay.{dayBook, dayLedger, day-setup, day-settled}
 use Rattle.rules.proofs.SettledTotal.{Owned}
 use Rattle.rules.proofs.Searches.{each-map}
 use Rattle.rules.proofs.Batches.{undone-batch-cut-out}
-use Rattle.book.specs.Valid.{valid, bookBytes}
+use Rattle.book.specs.Valid.{bookBytes}
 use Rattle.book.specs.Doors.{openBytes}
 use Rattle.book.proofs.SetupRanges.{each-split, each-join}
 use Rattle.book.proofs.SetupAgain.{accepted-in-range}
 use Rattle.book.proofs.Opened.{opened-valid}
 use Rattle.book.proofs.Reachable.{OfBytes, after-valid, reachable-valid, reachable-setup, reachable-nets-cancel, reachable-nets-within-margins, reachable-margins-kept, reachable-covered}
 use Rattle.day.specs.Doors.{Answered, inBytes, callAnswer}
-use Rattle.day.specs.Lists.{answersOn, bytesAfter, acceptsOnAs, heardOn, ledgerOn, UndoneOn, CutOutOn}
+use Rattle.day.specs.Lists.{answersOn, bytesAfter, acceptsOnAs, ledgerOn, UndoneOn, CutOutOn}
 use Rattle.day.specs.Figures.{figuresIn, sum}
 use Rattle.day.specs.Promise.{Promise}
 use Rattle.day.proofs.Images.{call-on-image, accepts-as-on-image, answers-on-image, bytes-after-image, heard-on-image, undone-on-image}
 use Rattle.day.proofs.FigureLaws.{sum-of-map}
 use Rattle.day.proofs.SettleLaws.{settle-writes, written-total}
+use Rattle.day.proofs.Refusals.{runs-not-one}
 use Rattle.day.proofs.Readings.{net-answer-agrees, exposure-answer-agrees}
 
 -- ---- the first of changed elements, and those past them
@@ -181,3 +181,8 @@ module _ (setup book : List ℕ) (h : openRefusal setup book ≡ none) where
   -- demand 3: any list of calls, each with bytes of its own, run from the bytes that an accepted opening wrote
   pub whole-list : (cs : List Call) → OfBytes cs → Promise setup (openBytes setup book) cs
   whole-list cs bytes = rw opened-bytes (fresh-promise setup setup-accepted cs bytes)
+
+  -- and no call of such a list answers 1
+  pub no-call-answers-1 : (cs : List Call) → OfBytes cs → Each (λ x. numbers (x .outcome) .0 ≡ 1 → ⊥) (answersOn (openBytes setup book) cs)
+  no-call-answers-1 cs bytes =
+      rw (opened-bytes, answers-on-image (opened setup) (opened-valid setup setup-accepted) cs bytes) (runs-not-one (opened setup) cs)

@@ -2,7 +2,6 @@
 -- no book. A refusal changes no lent byte.
 use Prim.Native.Nat.{ℕ}
 use mathlib.Core.List.{List}
-use mathlib.Core.Bool.{true, false}
 use Rattle.rules.specs.declared.Outcome.{Outcome}
 use Rattle.rules.specs.declared.Refusal.the-variants.{NotABook}
 use Rattle.rules.specs.Basics.{if_then_else_}

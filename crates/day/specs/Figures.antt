@@ -1,7 +1,6 @@
 -- The figures that the promise compares: what the ledger would read out, the signed figures in a buffer, and sums of signed figures.
 use Prim.Native.Nat.{ℕ, _^_}
 use mathlib.Core.List.{List, [], _∷_}
-use mathlib.Core.Bool.{true, false}
 use lib.Dec.{ltb}
 use lib.IntN.{ℤ, pos, subℕ, _+ℤ_}
 use Rattle.wire.specs.Numbers.{number}

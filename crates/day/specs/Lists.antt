@@ -3,7 +3,7 @@
 use Prim.Native.Nat.{ℕ, _+_}
 use mathlib.Core.Path.{_≡_}
 use mathlib.Core.List.{List, [], _∷_, _++_}
-use mathlib.Core.Bool.{Bool, true, false, not, _&&_}
+use mathlib.Core.Bool.{Bool, true, not, _&&_}
 use lib.ListN.{length, take, drop}
 use Rattle.rules.specs.Requests.{Kind, openBatch, undo, keep}
 use Rattle.rules.specs.Calls.{Call, kindIn, _∈_}
