@@ -2,19 +2,21 @@
 -- byte is as it was.
 use Prim.Native.Nat.{ℕ}
 use mathlib.Core.Path.{_≡_, refl, sym, ap, _∙_}
+use mathlib.Core.Logic.{_⊎_, inl, inr}
 use mathlib.Core.List.{List}
 use mathlib.Core.Bool.{Bool, true, false}
 use Rattle.wire.specs.Numbers.{Bytes}
+use Rattle.rules.specs.declared.Refusal.{Refusal}
+use Rattle.rules.specs.declared.Refusal.the-variants.{NotABook}
+use Rattle.rules.specs.Verdicts.{refused}
 use Rattle.rules.specs.Limits.{mostHours, bookSize}
-use Rattle.rules.specs.Books.{Book}
 use Rattle.rules.specs.Calls.{Call, step}
-use Rattle.rules.specs.Lists.{isAcceptance, accepts}
-use Rattle.rules.proofs.CallLists.{refused-leaves-all}
-use Rattle.book.specs.Valid.{valid, isBook, bookBytes, bookIn}
+use Rattle.rules.proofs.Clearing.{never-both}
+use Rattle.rules.proofs.Passed.{Passed, Kept, step-cases}
+use Rattle.book.specs.Valid.{isBook, bookIn}
 use Rattle.book.proofs.Keeps.{keeps-valid}
 use Rattle.book.proofs.Round.{book-is-image}
-use Rattle.day.specs.Doors.{Answered, inBytes, onNoBook, callAnswer}
-use Rattle.day.specs.Lists.{acceptsOn}
+use Rattle.day.specs.Doors.{Answered, inBytes, refusedOn, callAnswer}
 use Rattle.day.proofs.Images.{image-stands}
 
 module _ (s : List ℕ) (c : Call) where
@@ -22,7 +24,7 @@ module _ (s : List ℕ) (c : Call) where
   unfolding callAnswer
   call-on-book h = rw h
 
-  pub call-on-no-book : isBook s ≡ false → callAnswer s c ≡ onNoBook s c
+  pub call-on-no-book : isBook s ≡ false → callAnswer s c ≡ refusedOn NotABook s c
   unfolding callAnswer
   call-on-no-book h = rw h
 
@@ -32,32 +34,19 @@ module _ (s : List ℕ) (c : Call) where
       let v = book-is-image mostHours bookSize s h .1 in
       ap (λ (x : Answered). isBook (x .book)) (call-on-book h) ∙ image-stands (step (bookIn s) c .book) (keeps-valid (bookIn s) c bytes v)
 
-  -- a refused call changes no lent byte
-  pub record Unchanged : Type 0 where
-    pub book : callAnswer s c .book ≡ s
-    pub results : callAnswer s c .results ≡ c .results
-    pub balances : callAnswer s c .balances ≡ c .balances
+  refused-on-book : isBook s ≡ true → (r : Refusal) → step (bookIn s) c .outcome ≡ refused r → Kept (bookIn s) c ⊎ Passed (bookIn s) c
+      → callAnswer s c ≡ refusedOn r s c
+  refused-on-book h r e (inl kept) =
+      call-on-book h ∙ rw (e, kept .book, kept .results, kept .balances, ← book-is-image mostHours bookSize s h .0)
+  refused-on-book h r e (inr passed) = absurd (never-both r _ (sym e ∙ passed .outcome))
 
-  unchanged-go : (t : Bool) → isBook s ≡ t → acceptsOn s c ≡ false → Unchanged
-  unchanged-go true h e =
-      let answer = call-on-book h in
-      let refused : accepts (bookIn s) c ≡ false = ap (λ (x : Answered). isAcceptance (x .outcome .verdict)) (sym answer) ∙ e in
-      let kept = refused-leaves-all (bookIn s) c refused in
-      record {
-        book =
-            ap (λ (x : Answered). x .book) answer
-            ∙ ap (λ (b : Book). bookBytes b) (kept .book)
-            ∙ sym (book-is-image mostHours bookSize s h .0);
-        results = ap (λ (x : Answered). x .results) answer ∙ kept .results;
-        balances = ap (λ (x : Answered). x .balances) answer ∙ kept .balances;
-      }
-  unchanged-go false h e =
-      let answer = call-on-no-book h in
-      record {
-        book = ap (λ (x : Answered). x .book) answer;
-        results = ap (λ (x : Answered). x .results) answer;
-        balances = ap (λ (x : Answered). x .balances) answer;
-      }
+  refused-go : (t : Bool) → isBook s ≡ t → (r : Refusal) → callAnswer s c .outcome ≡ refused r → callAnswer s c ≡ refusedOn r s c
+  refused-go true h r e =
+      refused-on-book h r (ap (λ (x : Answered). x .outcome) (sym (call-on-book h)) ∙ e) (step-cases (bookIn s) c)
+  refused-go false h r e =
+      let outcome : refused NotABook ≡ refused r = ap (λ (x : Answered). x .outcome) (sym (call-on-no-book h)) ∙ e in
+      call-on-no-book h ∙ rw outcome
 
-  pub refused-changes-nothing : acceptsOn s c ≡ false → Unchanged
-  refused-changes-nothing e = unchanged-go (isBook s) refl e
+  -- a refused call changes no lent byte, whatever the bytes are
+  pub refused-changes-nothing : (r : Refusal) → callAnswer s c .outcome ≡ refused r → callAnswer s c ≡ refusedOn r s c
+  refused-changes-nothing r e = refused-go (isBook s) refl r e

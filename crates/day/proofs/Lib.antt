@@ -3,6 +3,8 @@
 pub mod Images
 -- DoorLaws: a call on any bytes; a refused one changes no lent byte.
 pub mod DoorLaws
+-- Stages: what a call is refused for, stage by stage.
+pub mod Stages
 -- FigureLaws: signed figures in bytes, and their sum.
 pub mod FigureLaws
 -- SettleLaws: what an accepted settle writes, and that its figures are read back.

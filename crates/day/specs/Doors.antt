@@ -3,6 +3,7 @@
 use Prim.Native.Nat.{ℕ}
 use mathlib.Core.List.{List}
 use Rattle.rules.specs.declared.Outcome.{Outcome}
+use Rattle.rules.specs.declared.Refusal.{Refusal}
 use Rattle.rules.specs.declared.Refusal.the-variants.{NotABook}
 use Rattle.rules.specs.Basics.{if_then_else_}
 use Rattle.rules.specs.Verdicts.{refused}
@@ -20,13 +21,13 @@ pub record Answered : Type 0 where
 abbrev pub inBytes : Answer → Answered
 inBytes x = record { outcome = x .outcome; book = bookBytes (x .book); results = x .results; balances = x .balances }
 
--- 1 not a book: every byte as it was
-abbrev pub onNoBook : List ℕ → Call → Answered
-onNoBook s c = record { outcome = refused NotABook; book = s; results = c .results; balances = c .balances }
+-- a refusal: every lent byte as it was
+abbrev pub refusedOn : Refusal → List ℕ → Call → Answered
+refusedOn r s c = record { outcome = refused r; book = s; results = c .results; balances = c .balances }
 
--- what a call answers on the bytes of a book, or on any others
+-- what a call answers: on bytes that are a book what the rules answer on that book, on any others 1
 unfoldable pub callAnswer : List ℕ → Call → Answered
-callAnswer s c = if isBook s then inBytes (step (bookIn s) c) else onNoBook s c
+callAnswer s c = if isBook s then inBytes (step (bookIn s) c) else refusedOn NotABook s c
 
 -- a call by the bytes that it is lent: its record, the price table, and the buffers for results and balances
 abbrev pub callWith : List ℕ → List ℕ → List ℕ → List ℕ → Call
