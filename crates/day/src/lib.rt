@@ -1,0 +1,1 @@
+// A day's calls on the bytes of a book.
