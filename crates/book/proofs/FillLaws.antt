@@ -72,21 +72,22 @@ filling-next all left rest before after most more r e d t w f =
       bounded = λ k. omega (arith, w .grown k, f .bounded k, t .quantity-high);
     }
 
-pub filling-done : (all left : List Row) (table : List ℕ) (most : ℕ) → left ≡ [] → length table ≡ 3200 → most < 2 ^ 32
-    → Filling all left table most → SumsOf all table
+-- a table whose cells are these lane sums
+pub sums-by : {rows : List Row} (table : List ℕ) → length table ≡ 3200 → ((k : ℕ) → getD table k 0 < 2 ^ 32)
+    → ((lane : ℕ) → lane ≤ 3 → (a h : ℕ) → InTable a h → getD table (cellOf lane a h) 0 ≡ laneSum lane rows a h) → SumsOf rows table
 unfolding laneSum
-filling-done all left table most e n h f =
+sums-by table n small at =
     record {
       whole = n;
-      small = λ k. omega (arith, f .bounded k);
+      small = small;
       bought-at = at 0 (omega arith);
       sold-at = at 1 (omega arith);
       sales-at = at 2 (omega arith);
       purchases-at = at 3 (omega arith);
     }
-  where
-    at : (lane : ℕ) → lane ≤ 3 → (a h : ℕ) → InTable a h → getD table (cellOf lane a h) 0 ≡ laneSum lane all a h
-    at lane l a h i =
-        let x = f .sums lane a h l i in
-        let y = ap (λ (rows : List Row). laneSum lane rows a h) e ∙ lane-none lane a h in
-        omega arith
+
+pub filling-done : (all left : List Row) (table : List ℕ) (most : ℕ) → left ≡ [] → length table ≡ 3200 → most < 2 ^ 32
+    → Filling all left table most → SumsOf all table
+filling-done all left table most e n h f =
+    sums-by table n (λ k. omega (arith, f .bounded k)) (λ lane l a h i.
+    omega (arith, f .sums lane a h l i, ap (λ (rows : List Row). laneSum lane rows a h) e ∙ lane-none lane a h))

@@ -51,9 +51,9 @@ pub mod Places
 pub mod Local
 -- RowBytes: a row read at its place in the whole bytes.
 pub mod RowBytes
--- SumLaws: what raising a range of cells does to the table of sums.
+-- SumLaws: what raising or lowering a range of cells does to the table of sums.
 pub mod SumLaws
--- ShareLaws: what one row adds to each lane.
+-- ShareLaws: what one row adds to each lane, and what it gives up.
 pub mod ShareLaws
 -- FillLaws: the table row by row.
 pub mod FillLaws
@@ -87,7 +87,7 @@ pub mod BookRows
 pub mod ReadingLaws
 -- Reachable: what holds of every book that calls reach from a freshly opened one.
 pub mod Reachable
--- TableLaws: a table of sums and one row more.
+-- TableLaws: a table of sums and one row more, or one row marked.
 pub mod TableLaws
 -- MoneyLaws: how much money a day's settlement can move.
 pub mod MoneyLaws

@@ -1,20 +1,22 @@
 -- A table of sums and one row more: no cell is above what all rows hold together, so that there is room for the row, and the table that
--- took it is that of the rows with it.
-use Prim.Native.Nat.{ℕ, zero, suc, _+_, _*_, _/_, _%_, _^_, _≤_, _<_}
-use mathlib.Core.Path.{_≡_, refl, _∙_}
+-- took it is that of the rows with it. A row marked: the table holds its share, and once it released it and took the marked row it is that
+-- of the rows after.
+use Prim.Native.Nat.{ℕ, zero, suc, _+_, _*_, _/_, _%_, _≤_, _<_}
+use mathlib.Core.Path.{_≡_}
 use mathlib.Core.List.{List, [], _∷_, _++_}
 use mathlib.Core.Bool.{Bool, true, false, _&&_}
 use mathlib.Core.Logic.{⊎-elim}
 use native.Mathlib.Omega.{arith}
-use lib.ListN.{length, getD, List·getD-eq-default}
+use lib.ListN.{length, getD, set, List·getD-eq-default}
 use lib.Dec.{eqb}
 use Rattle.rules.specs.declared.Row.{Row}
-use Rattle.rules.specs.Basics.{if_then_else_, total, Each, nil, cons}
+use Rattle.rules.specs.Basics.{if_then_else_, total, nth, Each, nil, cons}
 use Rattle.rules.specs.Limits.{mostEnergy, mostRows}
-use Rattle.rules.specs.Registration.{pending, confirmed, covers, buyer, seller, counted, moved, waiting}
-use Rattle.book.specs.Sums.{cellOf, InTable, SumsOf, Tabled, Room, Taken, laneSum}
+use Rattle.rules.specs.Books.{noRow}
+use Rattle.rules.specs.Registration.{pending, confirmed, covers, buyer, seller, counted, withStatus, mark, moved, waiting}
+use Rattle.book.specs.Sums.{cellOf, InTable, SumsOf, Tabled, Room, Taken, Holds, Released, laneSum}
 use Rattle.book.proofs.SumLaws.{lt-or-ge}
-use Rattle.book.proofs.FillLaws.{lane-step, lane-none}
+use Rattle.book.proofs.FillLaws.{lane-step, lane-none, sums-by}
 
 -- ---- no sum is above what the rows hold together
 
@@ -80,20 +82,51 @@ lane-snoc lane (x ∷ xs) r a h =
 -- the table that took the row is that of the rows with it
 pub sums-taken : {rows : List Row} (before after : List ℕ) (r : Row) → SumsOf rows before → Room before 0 (r .quantity .0)
     → length after ≡ 3200 → Taken before after r → SumsOf (rows ++ r ∷ []) after
-unfolding laneSum
 sums-taken {rows} before after r s room n t =
-    record {
-      whole = n;
-      small = λ k. omega (arith, t .grown k, room k (omega arith));
-      bought-at = at 0 (omega arith);
-      sold-at = at 1 (omega arith);
-      sales-at = at 2 (omega arith);
-      purchases-at = at 3 (omega arith);
-    }
-  where
-    at : (lane : ℕ) → lane ≤ 3 → (a h : ℕ) → InTable a h → getD after (cellOf lane a h) 0 ≡ laneSum lane (rows ++ r ∷ []) a h
-    at lane l a h i =
-        let x = t .share lane a h l i in
-        let y = sums-at lane a h s l i in
-        let z = lane-snoc lane rows r a h in
-        omega arith
+    sums-by after n (λ k. omega (arith, t .grown k, room k (omega arith))) (λ lane l a h i.
+    omega (arith, t .share lane a h l i, sums-at lane a h s l i, lane-snoc lane rows r a h))
+
+-- ---- a row marked
+
+lane-of-one : (lane : ℕ) (rows : List Row) (i a h : ℕ) → i < length rows → laneSum lane (getD rows i noRow ∷ []) a h ≤ laneSum lane rows a h
+lane-of-one lane [] i a h l = absurd (omega arith)
+lane-of-one lane (x ∷ xs) zero a h l = omega (arith, lane-step lane x xs a h)
+lane-of-one lane (x ∷ xs) (suc i) a h l = omega (arith, lane-step lane x xs a h, lane-of-one lane xs i a h (omega arith))
+
+-- the table holds the share of each row
+pub sums-hold : {rows : List Row} (table : List ℕ) (n : ℕ) (r : Row) → SumsOf rows table → 1 ≤ n → n ≤ length rows → r ≡ nth rows n noRow
+    → Holds table r
+sums-hold table zero r s low high e lane a h l i = absurd (omega arith)
+sums-hold {rows} table (suc j) r s low high e lane a h l i =
+    rw e (omega (arith, sums-at lane a h s l i, lane-of-one lane rows j a h (omega arith)))
+
+-- there is the room that there was
+pub released-room : (before after : List ℕ) (r : Row) (q : ℕ) → Released before after r → Room before 0 q → Room after 0 q
+released-room before after r q w room k low = omega (arith, w .fallen k, room k low)
+
+lane-set : (lane : ℕ) (rows : List Row) (i : ℕ) (r : Row) (a h : ℕ) → i < length rows
+    → laneSum lane (set rows i r) a h + laneSum lane (getD rows i noRow ∷ []) a h ≡ laneSum lane rows a h + laneSum lane (r ∷ []) a h
+lane-set lane [] i r a h l = absurd (omega arith)
+lane-set lane (x ∷ xs) zero r a h l = omega (arith, lane-step lane x xs a h, lane-step lane r xs a h)
+lane-set lane (x ∷ xs) (suc i) r a h l =
+    omega (arith, lane-step lane x xs a h, lane-step lane x (set xs i r) a h, lane-set lane xs i r a h (omega arith))
+
+lane-mark : (lane n status : ℕ) (rows : List Row) (a h : ℕ) → 1 ≤ n → n ≤ length rows
+    → laneSum lane (mark n status rows) a h + laneSum lane (nth rows n noRow ∷ []) a h
+    ≡ laneSum lane rows a h + laneSum lane (withStatus status (nth rows n noRow) ∷ []) a h
+unfolding mark
+lane-mark lane zero status rows a h low high = absurd (omega arith)
+lane-mark lane (suc i) status rows a h low high = lane-set lane rows i (withStatus status (getD rows i noRow)) a h (omega arith)
+
+-- the table that released the row and took it with its new status is that of the rows marked
+pub sums-marked : {rows : List Row} (before middle after : List ℕ) (n status : ℕ) (r trade : Row) → SumsOf rows before
+    → 1 ≤ n → n ≤ length rows → r ≡ nth rows n noRow → trade ≡ withStatus status r → Room before 0 (trade .quantity .0)
+    → length after ≡ 3200 → Released before middle r → Taken middle after trade → SumsOf (mark n status rows) after
+sums-marked {rows} before middle after n status r trade s low high e f room whole w t =
+    sums-by after whole (λ k. omega (arith, t .grown k, w .fallen k, room k (omega arith))) (λ lane l a h i.
+    let same : trade ≡ withStatus status (nth rows n noRow) = rw (f, e) in
+    let old = w .share lane a h l i in
+    let new = t .share lane a h l i in
+    let marked : laneSum lane (mark n status rows) a h + laneSum lane (r ∷ []) a h ≡ laneSum lane rows a h + laneSum lane (trade ∷ []) a h =
+    rw (e, same) (lane-mark lane n status rows a h low high) in
+    omega (arith, sums-at lane a h s l i))

@@ -1,10 +1,10 @@
 -- What stands in a book of an operator: its guarantee in force, its maintenance, and what is available of a guarantee.
-use Prim.Native.Nat.{ℕ, zero, suc, _+_, _-_, _*_, _^_, _≤_, _<_}
-use mathlib.Core.Path.{_≡_, refl, sym, ap, _∙_}
-use mathlib.Core.List.{List, [], _∷_, map}
+use Prim.Native.Nat.{ℕ, zero, suc, _+_, _-_, _*_, _≤_}
+use mathlib.Core.Path.{_≡_, sym, ap, _∙_}
+use mathlib.Core.List.{List, map}
 use mathlib.Core.Bool.{Bool, true}
 use native.Mathlib.Omega.{arith}
-use lib.ListN.{length, getD, replicate, length-map, length-replicate}
+use lib.ListN.{length, replicate, length-map, length-replicate}
 use lib.Dec.{leb}
 use Rattle.wire.specs.Numbers.{numberAt}
 use Rattle.wire.proofs.SlotLaws.{map-get}
@@ -14,13 +14,13 @@ use Rattle.rules.specs.declared.Operator.{Operator}
 use Rattle.rules.specs.declared.Row.{Row}
 use Rattle.rules.specs.Basics.{nth, Each, nil, cons}
 use Rattle.rules.specs.Limits.{mostHours, mostGuarantee, thousand, bookSize}
-use Rattle.rules.specs.Books.{Setup, Part, Book, maintenanceAt, guaranteeAt, operatorCount, countsOf}
-use Rattle.rules.specs.Opening.{countsIn, operatorsIn, operatorsOf, setupOf}
+use Rattle.rules.specs.Books.{Setup, Part, Book, noAccount, maintenanceAt, guaranteeAt, operatorOf, operatorCount, accountCount}
+use Rattle.rules.specs.Opening.{countsIn, operatorsIn, setupOf}
 use Rattle.rules.specs.Registration.{exposure, available, covered}
 use Rattle.rules.specs.declared.Counts.{Counts}
 use Rattle.rules.proofs.Searches.{each-at}
 use Rattle.setup.specs.Faults.{noOperator}
-use Rattle.book.specs.Layout.{presentAt, guaranteesAt}
+use Rattle.book.specs.Layout.{presentAt}
 use Rattle.book.specs.Valid.{isBook, bookIn}
 use Rattle.book.proofs.SetupRanges.{SoundOperator, maintenance-of}
 use Rattle.book.proofs.ImageReads.{guarantee-read}
@@ -84,3 +84,19 @@ pub covered-by : (u : Setup) (p : Part) (o g : ℕ) → guaranteeAt (p .guarante
     → covered u p o ≡ leb (exposure u (p .rows) o) (g * (thousand - maintenanceAt u o))
 unfolding covered available
 covered-by u p o g e = rw e
+
+-- ---- the operator of a calling account
+
+-- the operator of an account is one of the book's
+pub caller-operator : (s : List ℕ) (a : ℕ) → isBook s ≡ true → 1 ≤ a → a ≤ accountCount (bookIn s .setup)
+    → (1 ≤ operatorOf (bookIn s .setup) a) × (operatorOf (bookIn s .setup) a ≤ operatorCount (bookIn s .setup))
+caller-operator s zero h low high = absurd (omega arith)
+caller-operator s (suc i) h low high = let x = each-at noAccount i (values-in s h .accounts-sound) (omega arith) in (x .operator-low, x .operator-high)
+
+-- the account's operator is covered by its guarantee in force
+pub caller-covered : (u : Setup) (gs : List Cents) (rows : List Row) (a o : ℕ) (g : Cents) (t : Bool) → o ≡ operatorOf u a → g ≡ guaranteeAt gs o
+    → t ≡ leb (exposure u rows o) (g .0 * (thousand - maintenanceAt u o))
+    → t ≡ covered u (record { guarantees = gs; rows = rows }) (operatorOf u a)
+caller-covered u gs rows a o g t e f h =
+    let p : Part = record { guarantees = gs; rows = rows } in
+    h ∙ sym (covered-by u p o (g .0) (ap (λ (x : Cents). x .0) (sym f))) ∙ ap (covered u p) e

@@ -9,11 +9,11 @@ pub mod Answers
 pub mod Acceptances
 -- Withdrawals: the row that a withdrawal names.
 pub mod Withdrawals
--- SearchLaws: a search that counts up, number by number.
+-- SearchLaws: a search that counts up, number by number, and by tests that agree.
 pub mod SearchLaws
 -- MarginLaws: what the search for a broken margin asks at each hour.
 pub mod MarginLaws
--- CoverLaws: what stands in a book of an operator, and what covers its exposure.
+-- CoverLaws: what stands in a book of an operator, of an account its operator, and what covers its exposure.
 pub mod CoverLaws
 -- ReadyLaws: a request that is ready passed what the input is refused for.
 pub mod ReadyLaws
@@ -21,5 +21,7 @@ pub mod ReadyLaws
 pub mod LodgingLaws
 -- ProposalLaws: what the state refuses a register for, and what an accepted one writes.
 pub mod ProposalLaws
+-- ConfirmationLaws: the row that a confirm names, and what the state refuses a confirm for.
+pub mod ConfirmationLaws
 -- PositionLaws: what moving the nets of a trade writes.
 pub mod PositionLaws

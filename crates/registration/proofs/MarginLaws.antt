@@ -2,8 +2,8 @@
 -- margins of the account that took it are the definition's test.
 use Prim.Native.Nat.{ℕ, _+_, _^_, _≤_, _<_}
 use mathlib.Core.Path.{_≡_, refl, sym, ap, _∙_}
-use mathlib.Core.List.{List, [], _∷_, _++_}
-use mathlib.Core.Option.{Option}
+use mathlib.Core.List.{List}
+use mathlib.Core.Option.{Option, none, some}
 use mathlib.Core.Bool.{Bool, true, not}
 use native.Mathlib.Omega.{arith}
 use Rattle.rules.specs.declared.Account.{Account}
@@ -20,7 +20,8 @@ use Rattle.book.specs.Sums.{cellOf, InTable, SumsOf, Room}
 use Rattle.book.proofs.TableLaws.{sums-room}
 use Rattle.book.proofs.StateLaws.{book-is-sound}
 use Rattle.book.proofs.BookRows.{counts-in, setup-in, rows-tabled}
-use Rattle.registration.specs.Margins.{brokenBy}
+use Rattle.registration.specs.Margins.{brokenBy, broken}
+use Rattle.registration.specs.declared.margins.Broken.the-variants.{Hour, Nowhere}
 
 -- ---- what is read of a book
 
@@ -76,3 +77,21 @@ pub breaks-tested : (u : Setup) (rows : List Row) (trade : Row) (a h : ℕ) (own
     → breaks u rows trade a h ≡ not t
 unfolding breaks
 breaks-tested u rows trade a h owner held after t eo eh ea et = rw (← eo, ← eh, ← ea, ← et)
+
+-- ---- what the search says, of a trade that is this one
+
+pub found-hour : (u : Setup) (rows : List Row) (trade other : Row) (a h : ℕ) → trade ≡ other → Hour h ≡ broken (brokenBy u rows trade a)
+    → brokenBy u rows other a ≡ some h
+found-hour u rows trade other a h e f = go (brokenBy u rows other a) (rw e at f)
+  where
+    go : (o : Option ℕ) → Hour h ≡ broken o → o ≡ some h
+    go none z = cc
+    go (some k) z = cc
+
+pub found-nowhere : (u : Setup) (rows : List Row) (trade other : Row) (a : ℕ) → trade ≡ other → Nowhere ≡ broken (brokenBy u rows trade a)
+    → brokenBy u rows other a ≡ none
+found-nowhere u rows trade other a e f = go (brokenBy u rows other a) (rw e at f)
+  where
+    go : (o : Option ℕ) → Nowhere ≡ broken o → o ≡ none
+    go none z = refl
+    go (some k) z = cc

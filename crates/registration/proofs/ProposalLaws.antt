@@ -1,30 +1,27 @@
 -- A row proposed: the tests of register in the order of their numbers, each on the book as it would be, and the row's 18 bytes with the
 -- count as all that is written.
-use Prim.Native.Nat.{ℕ, zero, suc, _+_, _-_, _*_, _/_, _%_, _≤_, _<_}
+use Prim.Native.Nat.{ℕ, _+_, _/_, _%_, _≤_, _<_}
 use mathlib.Core.Path.{_≡_, refl, sym, ap, _∙_}
 use mathlib.Core.List.{List, [], _∷_, _++_}
-use mathlib.Core.Option.{Option, none, some}
+use mathlib.Core.Option.{none, some}
 use mathlib.Core.Bool.{Bool, true, false, not, _||_, or-assoc}
 use native.Mathlib.Omega.{arith}
-use lib.ListN.{length, getD, take, drop}
-use lib.Dec.{eqb, leb}
+use lib.ListN.{length, take, drop}
 use borrow.Author.Tests.{eq-eqb, le-leb, lt-leb}
 use Rattle.wire.specs.Numbers.{le}
 use Rattle.wire.specs.Regions.{splice}
 use Rattle.wire.specs.Parts.{flat, pieces, pack, Small}
-use Rattle.units.specs.declared.Cents.{Cents}
 use Rattle.rules.specs.declared.Row.{Row}
 use Rattle.rules.specs.declared.Request.{Request}
 use Rattle.rules.specs.declared.Refusal.the-variants.{AlreadyPending, RowsFull, MarginBroken, Uncovered}
-use Rattle.rules.specs.Basics.{any, find, counting}
-use Rattle.rules.specs.Limits.{mostHours, mostRows, thousand, bookSize}
+use Rattle.rules.specs.Basics.{any, counting}
+use Rattle.rules.specs.Limits.{mostHours, mostRows, bookSize}
 use Rattle.rules.specs.Verdicts.{lowest, accepted}
-use Rattle.rules.specs.Books.{Setup, Part, Book, noAccount, accountAt, maintenanceAt, guaranteeAt, operatorOf, operatorCount, accountCount}
+use Rattle.rules.specs.Books.{Setup, Book, accountAt, operatorOf}
 use Rattle.rules.specs.Requests.{register}
-use Rattle.rules.specs.Registration.{alike, proposed, accountHour, takes, keepsMargins, brokenHour, exposure, covered}
+use Rattle.rules.specs.Registration.{alike, proposed, accountHour, takes, keepsMargins, brokenHour, covered}
 use Rattle.rules.specs.Calls.{next, given, stateChecks}
 use Rattle.rules.proofs.AccountHours.{hour-takes}
-use Rattle.rules.proofs.Searches.{each-at}
 use Rattle.rules.proofs.Passed.{passed-15}
 use Rattle.book.specs.Layout.{rowWidths, presentAt, rowAt, rowCountAt}
 use Rattle.book.specs.Image.{rowValues, rowBytes, rowIn}
@@ -32,19 +29,17 @@ use Rattle.book.specs.Valid.{isBook, bookIn}
 use Rattle.book.specs.Sums.{rowsFrom, Tabled}
 use Rattle.book.proofs.Soundness.{SoundRow}
 use Rattle.book.proofs.Sizes.{row-small}
-use Rattle.book.proofs.SetupRanges.{SoundAccount}
 use Rattle.book.proofs.RowsFrom.{rows-done, rows-step}
 use Rattle.book.proofs.BookWrites.{write-register}
 use Rattle.book.proofs.KeepsKinds.{proposed-sound, register-keeps}
 use Rattle.book.proofs.StateLaws.{book-image, book-fits, book-is-sound}
-use Rattle.book.proofs.BookRows.{values-in, sound-tabled}
+use Rattle.book.proofs.BookRows.{sound-tabled}
 use Rattle.registration.specs.Kinds.{decided, Ready}
 use Rattle.registration.specs.Margins.{brokenBy, broken}
-use Rattle.registration.specs.declared.margins.Broken.the-variants.{Hour, Nowhere}
 use Rattle.registration.proofs.Decisions.{decided-clear}
 use Rattle.registration.proofs.Answers.{Answered, accepted-answered}
 use Rattle.registration.proofs.ReadyLaws.{bare, ready-input}
-use Rattle.registration.proofs.CoverLaws.{covered-by}
+use Rattle.registration.proofs.SearchLaws.{find-cong}
 
 -- ---- a search over rows
 
@@ -86,30 +81,7 @@ ready-tabled s q h r = sound-tabled (bookIn s .setup) (book-is-sound s h .setup-
 pub ready-fits : (s : List ℕ) (q : Request) (r : Row) → isBook s ≡ true → Ready register (bookIn s) q → r ≡ proposed q → Small rowWidths (rowValues r)
 ready-fits s q r h ready e = rw e (row-small (bookIn s .setup) (proposed q) (book-is-sound s h .setup-sound) (ready-row (bookIn s) q ready))
 
--- the operator of an account is one of the book's
-pub caller-operator : (s : List ℕ) (a : ℕ) → isBook s ≡ true → 1 ≤ a → a ≤ accountCount (bookIn s .setup)
-    → (1 ≤ operatorOf (bookIn s .setup) a) × (operatorOf (bookIn s .setup) a ≤ operatorCount (bookIn s .setup))
-caller-operator s zero h low high = absurd (omega arith)
-caller-operator s (suc i) h low high = let x = each-at noAccount i (values-in s h .accounts-sound) (omega arith) in (x .operator-low, x .operator-high)
-
 -- ---- what the state decides
-
-find-hit : (p : ℕ → Bool) (x : ℕ) (xs : List ℕ) → p x ≡ true → find p (x ∷ xs) ≡ some x
-unfolding find
-find-hit p x xs e = rw (e, find)
-
-find-miss : (p : ℕ → Bool) (x : ℕ) (xs : List ℕ) → p x ≡ false → find p (x ∷ xs) ≡ find p xs
-unfolding find
-find-miss p x xs e = rw (e, find)
-
-find-cong : (p r : ℕ → Bool) → ((k : ℕ) → p k ≡ r k) → (xs : List ℕ) → find p xs ≡ find r xs
-unfolding find
-find-cong p r e [] = refl
-find-cong p r e (x ∷ xs) = go (r x) refl (find-cong p r e xs)
-  where
-    go : (t : Bool) → r x ≡ t → find p xs ≡ find r xs → find p (x ∷ xs) ≡ find r (x ∷ xs)
-    go true f ih = find-hit p x xs (e x ∙ f) ∙ sym (find-hit r x xs f)
-    go false f ih = find-miss p x xs (e x ∙ f) ∙ ih ∙ sym (find-miss r x xs f)
 
 -- the hour that the proposed row breaks is the one broken in the book as it would be
 pub broken-proposed : (u : Setup) (rows : List Row) (trade : Row) (a : ℕ) → brokenHour u (rows ++ trade ∷ []) a ≡ brokenBy u rows trade a
@@ -168,31 +140,6 @@ module _ (b : Book) (q : Request) (first : b .phase ≡ 1) where
 -- an accepted row has a number
 pub few-rows : (b : Book) (q : Request) → decided register b q ≡ none → length (b .part .rows) < mostRows
 few-rows b q d = passed-15 b q (decided-clear register b q d)
-
--- what the search says
-pub found-hour : (u : Setup) (rows : List Row) (trade : Row) (a h : ℕ) (q : Request) → trade ≡ proposed q → Hour h ≡ broken (brokenBy u rows trade a)
-    → brokenBy u rows (proposed q) a ≡ some h
-found-hour u rows trade a h q e f = go (brokenBy u rows (proposed q) a) (rw e at f)
-  where
-    go : (o : Option ℕ) → Hour h ≡ broken o → o ≡ some h
-    go none z = cc
-    go (some k) z = cc
-
-pub found-nowhere : (u : Setup) (rows : List Row) (trade : Row) (a : ℕ) (q : Request) → trade ≡ proposed q → Nowhere ≡ broken (brokenBy u rows trade a)
-    → brokenBy u rows (proposed q) a ≡ none
-found-nowhere u rows trade a q e f = go (brokenBy u rows (proposed q) a) (rw e at f)
-  where
-    go : (o : Option ℕ) → Nowhere ≡ broken o → o ≡ none
-    go none z = refl
-    go (some k) z = cc
-
--- the account's operator is covered by its guarantee in force
-pub caller-covered : (u : Setup) (gs : List Cents) (rows : List Row) (a o : ℕ) (g : Cents) (t : Bool) → o ≡ operatorOf u a → g ≡ guaranteeAt gs o
-    → t ≡ leb (exposure u rows o) (g .0 * (thousand - maintenanceAt u o))
-    → t ≡ covered u (record { guarantees = gs; rows = rows }) (operatorOf u a)
-caller-covered u gs rows a o g t e f h =
-    let p : Part = record { guarantees = gs; rows = rows } in
-    h ∙ sym (covered-by u p o (g .0) (ap (λ (x : Cents). x .0) (sym f))) ∙ ap (covered u p) e
 
 -- ---- what is written
 

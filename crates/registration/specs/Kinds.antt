@@ -1,15 +1,18 @@
 -- What a request that was read and is in range is answered on a book, and the book after it (document 01, "Registration", "Verdicts").
-use Prim.Native.Nat.{ℕ, _^_, _<_}
+use Prim.Native.Nat.{ℕ, _^_, _≤_, _<_}
 use mathlib.Core.Path.{_≡_}
 use mathlib.Core.Option.{Option, none}
-use mathlib.Core.Bool.{false}
+use mathlib.Core.Bool.{true, false}
+use Rattle.rules.specs.declared.Row.{Row}
 use Rattle.rules.specs.declared.Request.{Request}
+use Rattle.rules.specs.Basics.{nth}
 use Rattle.rules.specs.declared.Outcome.{Outcome}
 use Rattle.rules.specs.declared.Refusal.{Refusal}
 use Rattle.rules.specs.Verdicts.{lowest, outcomeOf}
-use Rattle.rules.specs.Books.{Book, countsOf}
+use Rattle.rules.specs.Books.{Book, noRow, countsOf}
 use Rattle.rules.specs.Requests.{Kind, kindNumber, faultyBit, sameAccounts, unlessRefused}
-use Rattle.rules.specs.Calls.{stateChecks, next, given}
+use Rattle.rules.specs.Registration.{mirrors}
+use Rattle.rules.specs.Calls.{confirmedNumber, stateChecks, next, given}
 
 -- what the state refuses it for, if anything: 11 to 20
 unfoldable pub decided : Kind → Book → Request → Option Refusal
@@ -29,3 +32,10 @@ pub record Ready (k : Kind) (b : Book) (q : Request) : Type 0 where
   pub in-range : faultyBit (countsOf (b .setup)) q ≡ none
   pub two-accounts : sameAccounts q ≡ false
   pub code-fits : q .code < 256 ^ 8
+
+-- in the phase of registration, the request confirms this row: it names it and mirrors its terms
+pub record Confirming (b : Book) (q : Request) (r : Row) : Type 0 where
+  pub in-registration : b .phase ≡ 1
+  pub named : 1 ≤ confirmedNumber b q
+  pub row : r ≡ nth (b .part .rows) (confirmedNumber b q) noRow
+  pub terms : mirrors q r ≡ true

@@ -7,13 +7,14 @@ ghost use lib.ListN.{length};
 ghost use lib.Dec.{leb};
 ghost use Rattle.rules.specs.declared.Row.{Row};
 ghost use Rattle.rules.specs.Limits.{mostGuarantee, thousand};
-ghost use Rattle.rules.specs.Books.{maintenanceAt, guaranteeAt, operatorCount};
-ghost use Rattle.rules.specs.Registration.{exposure};
+ghost use Rattle.rules.specs.Books.{maintenanceAt, guaranteeAt, operatorOf, operatorCount, accountCount};
+ghost use Rattle.rules.specs.Registration.{exposure, covered};
 ghost use Rattle.book.specs.Valid.{isBook, bookIn};
 ghost use Rattle.book.specs.Sums.{SumsOf};
 use book::exposure::exposure_of;
 use book::layout::GUARANTEE_WIDTH;
 use book::layout::PRESENT_AT;
+use setup::entries::account;
 use setup::entries::operator;
 use units::Cents;
 use wire::numbers::get_u64;
@@ -36,4 +37,14 @@ pub fn is_covered(book: &[u8], table: &[u32], guarantee: Cents, number: u8) -> b
     let limit = guarantee.available(owner.maintenance);
     let owed = exposure_of(book, table, number);
     owed.at_most(limit)
+}
+
+// Whether the exposure of the account's operator is covered by its guarantee in force, by the table of sums.
+pub fn caller_covered(book: &[u8], table: &[u32], number: u8) -> bool
+    requires { ⌜ (isBook (now book) ≡ true) × (length (now table) ≡ 3200) × (1 ≤ number) × (number ≤ accountCount (bookIn (now book) .setup)) ⌝ }
+    ensures { λ r. ⌜ ((rows : List Row) → SumsOf rows (now (table .entry)) → r ≡ covered (bookIn (now (book .entry)) .setup) (record { guarantees = bookIn (now (book .entry)) .part .guarantees; rows = rows }) (operatorOf (bookIn (now (book .entry)) .setup) number)) ⌝ }
+{
+    let owner = account(book, number);
+    let guarantee = lodged(book, owner.operator);
+    is_covered(book, table, guarantee, owner.operator)
 }

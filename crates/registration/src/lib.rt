@@ -1,5 +1,6 @@
 // Registration on a book that is known to be one: kinds 1 to 8.
 pub mod batches;
+pub mod confirmation;
 pub mod cover;
 pub mod gate;
 pub mod lodging;

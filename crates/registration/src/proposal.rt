@@ -1,26 +1,22 @@
 // Register: makes a pending row with the next number.
 ghost use mathlib.Core.Path.{_≡_};
 ghost use mathlib.Core.Bool.{true, false};
-ghost use mathlib.Core.List.{List};
 ghost use Prim.Native.Nat.{_+_, _*_, _≤_, _<_};
 ghost use lib.ListN.{length};
 ghost use Rattle.wire.specs.Numbers.{le};
 ghost use Rattle.wire.specs.Regions.{splice};
 ghost use Rattle.wire.specs.Parts.{Small};
-ghost use Rattle.rules.specs.declared.Row.{Row};
 ghost use Rattle.rules.specs.Basics.{any};
 ghost use Rattle.rules.specs.Limits.{mostRows, bookSize};
-ghost use Rattle.rules.specs.Books.{operatorOf, accountCount};
 ghost use Rattle.rules.specs.Verdicts.{checked};
 ghost use Rattle.rules.specs.Requests.{register};
-ghost use Rattle.rules.specs.Registration.{alike, proposed, covered};
+ghost use Rattle.rules.specs.Registration.{alike, proposed};
 ghost use Rattle.book.specs.Layout.{rowWidths, presentAt, rowAt, rowCountAt};
 ghost use Rattle.book.specs.Image.{rowValues, rowBytes};
 ghost use Rattle.book.specs.Valid.{isBook, bookIn, bookBytes};
-ghost use Rattle.book.specs.Sums.{rowsFrom, SumsOf};
+ghost use Rattle.book.specs.Sums.{rowsFrom};
 ghost use Rattle.registration.specs.Kinds.{decided, outcomeOn, bookAfter, Ready};
-use crate::cover::is_covered;
-use crate::cover::lodged;
+use crate::cover::caller_covered;
 use crate::margins::Broken;
 use crate::margins::broken_hour;
 use book::layout::MOST_ROWS;
@@ -41,7 +37,6 @@ use rules::Refusal;
 use rules::Request;
 use rules::Row;
 use rules::Verdict;
-use setup::entries::account;
 use wire::numbers::put_u16;
 use wire::regions::copy_in;
 
@@ -62,17 +57,17 @@ fn proposed_row(request: Request) -> Row
     }
 }
 
-// The row is pending with the request's proposer, counterparty and code.
-fn is_alike(r: Row, request: Request) -> bool
-    ensures { λ b. ⌜ b ≡ alike (request .account) (request .other) (request .code) r ⌝ }
+// The row is pending with this proposer, counterparty and code.
+pub fn is_alike(r: Row, proposer: u8, counterparty: u8, code: u64) -> bool
+    ensures { λ b. ⌜ b ≡ alike proposer counterparty code r ⌝ }
 {
     (r.status == PENDING)
-        & (r.proposer == request.account)
-        & (r.counterparty == request.other)
-        & (r.code == request.code)
+        & (r.proposer == proposer)
+        & (r.counterparty == counterparty)
+        & (r.code == code)
 }
 
-// One of the `n` rows from `at` on is so.
+// One of the `n` rows from `at` on is so, with the request's account as proposer.
 fn any_alike(book: &[u8], at: usize, n: usize, request: Request) -> bool
     requires { ⌜ at + 18 * n ≤ length (now book) ⌝ }
     ensures { λ b. ⌜ b ≡ any (alike (request .account) (request .other) (request .code)) (rowsFrom (now (book .entry)) at n) ⌝ }
@@ -82,7 +77,7 @@ fn any_alike(book: &[u8], at: usize, n: usize, request: Request) -> bool
     let mut left = n;
     while 0 < left {
         let r = row_at(book, k);
-        found = found | is_alike(r, request);
+        found = found | is_alike(r, request.account, request.other, request.code);
         k = k + ROW_WIDTH;
         left = left - 1;
     }
@@ -96,16 +91,6 @@ fn already_pending(book: &[u8], request: Request) -> bool
 {
     let n = row_count(book) as usize;
     any_alike(book, PRESENT_AT + ROWS_IN, n, request)
-}
-
-// Whether the exposure of the account's operator is covered by its guarantee in force, by the table of sums.
-fn caller_covered(book: &[u8], table: &[u32], number: u8) -> bool
-    requires { ⌜ (isBook (now book) ≡ true) × (length (now table) ≡ 3200) × (1 ≤ number) × (number ≤ accountCount (bookIn (now book) .setup)) ⌝ }
-    ensures { λ r. ⌜ ((rows : List Row) → SumsOf rows (now (table .entry)) → r ≡ covered (bookIn (now (book .entry)) .setup) (record { guarantees = bookIn (now (book .entry)) .part .guarantees; rows = rows }) (operatorOf (bookIn (now (book .entry)) .setup) number)) ⌝ }
-{
-    let owner = account(book, number);
-    let guarantee = lodged(book, owner.operator);
-    is_covered(book, table, guarantee, owner.operator)
 }
 
 // What register is refused for where its row is no twin and has a number: margins and exposure as they would be.

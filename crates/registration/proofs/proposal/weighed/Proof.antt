@@ -4,8 +4,8 @@ use native.Mathlib.Omega.{arith}
 use Rattle.rules.specs.declared.Row.{Row}
 use Rattle.rules.specs.Verdicts.{checked}
 use Rattle.book.proofs.TableLaws.{sums-taken}
-use Rattle.registration.proofs.MarginLaws.{book-room}
-use Rattle.registration.proofs.ProposalLaws.{ready-row, ready-tabled, found-hour, found-nowhere, margin-breaks, row-uncovered, row-covered}
+use Rattle.registration.proofs.MarginLaws.{book-room, found-hour, found-nowhere}
+use Rattle.registration.proofs.ProposalLaws.{ready-row, ready-tabled, margin-breaks, row-uncovered, row-covered}
 use borrow.Author.Needs.{needs}
 use Rattle.registration.proofs.proposal.weighed.Statement.{statement}
 use Rattle.registration.proofs.proposal.weighed.Tie as tie
@@ -36,7 +36,7 @@ returns c =
     let trade = hour .before .before .before in
     let pre = trade .before .before .pre in
     ap checked (sym (margin-breaks _ _ (pre .2) (pre .3) (pre .4) _
-    (found-hour _ _ _ _ _ (trade .before .before .args .request) (trade .proposed-row .ensures) (sym (c .before .hour .given .1) ∙ hour .broken-hour .ensures))))
+    (found-hour _ _ _ _ _ _ (trade .proposed-row .ensures) (sym (c .before .hour .given .1) ∙ hour .broken-hour .ensures))))
 
 enum-told : tie.Need-enum-told
 enum-told c = search needs
@@ -80,7 +80,7 @@ returns-2 c =
     let room = book-room _ (pre .0) _ (trade .proposed-row .result .quantity .0) (table .sums-in .ensures) (omega (arith, quantity, row .quantity-high)) in
     let taken = c .before .before .before .before in
     let sums = sums-taken _ _ _ (table .sums-in .ensures) room (omega (arith, taken .take-row .kept .0, table .sums-in .ensures .whole)) (taken .take-row .ensures) in
-    let kept = found-nowhere _ _ _ _ (trade .before .before .args .request) same (sym (told .enum-told .given .1) ∙ hour .broken-hour .ensures) in
+    let kept = found-nowhere _ _ _ _ _ same (sym (told .enum-told .given .1) ∙ hour .broken-hour .ensures) in
     ap checked (sym (row-covered _ _ (pre .2) (pre .3) (pre .4) kept _ (rw same at (c .before .caller-covered .ensures _ sums)) (c .if1 .taken)))
 
 returns-3 : tie.Need-returns-3
@@ -96,7 +96,7 @@ returns-3 c =
     let room = book-room _ (pre .0) _ (trade .proposed-row .result .quantity .0) (table .sums-in .ensures) (omega (arith, quantity, row .quantity-high)) in
     let taken = c .before .before .before .before in
     let sums = sums-taken _ _ _ (table .sums-in .ensures) room (omega (arith, taken .take-row .kept .0, table .sums-in .ensures .whole)) (taken .take-row .ensures) in
-    let kept = found-nowhere _ _ _ _ (trade .before .before .args .request) same (sym (told .enum-told .given .1) ∙ hour .broken-hour .ensures) in
+    let kept = found-nowhere _ _ _ _ _ same (sym (told .enum-told .given .1) ∙ hour .broken-hour .ensures) in
     ap checked (sym (row-uncovered _ _ (pre .2) (pre .3) (pre .4) kept _ (rw same at (c .before .caller-covered .ensures _ sums)) (c .if1 .left)))
 
 pub weighed-spec : {M : Type 1} → statement M

@@ -4,9 +4,9 @@ use native.Mathlib.Omega.{arith}
 use Rattle.rules.specs.declared.Account.{Account}
 use Rattle.book.proofs.BookRows.{setup-tabled}
 use Rattle.registration.proofs.MarginLaws.{account-read, accounts-read}
-use Rattle.registration.proofs.ProposalLaws.{caller-operator, caller-covered}
-use Rattle.registration.proofs.proposal.caller_covered.Statement.{statement}
-use Rattle.registration.proofs.proposal.caller_covered.Tie as tie
+use Rattle.registration.proofs.CoverLaws.{caller-operator, caller-covered}
+use Rattle.registration.proofs.cover.caller_covered.Statement.{statement}
+use Rattle.registration.proofs.cover.caller_covered.Tie as tie
 
 account-requires : tie.Need-account-requires
 account-requires c κs =

@@ -1,0 +1,79 @@
+-- The cells from `at` to the cursor are lowered, those past it are as they came.
+use Prim.Native.Nat.{_+_, _-_, _≤_}
+use mathlib.Core.Path.{_≡_}
+use native.Mathlib.Omega.{arith}
+use lib.ListN.{length, length-set}
+use borrow.Author.Needs.{needs}
+use Rattle.book.specs.Sums.{Raised}
+use Rattle.book.proofs.SumLaws.{raised-none, still-held, lowered-next}
+use Rattle.book.proofs.sums.subtract_range.Statement.{statement}
+use Rattle.book.proofs.sums.subtract_range.Tie as tie
+
+abbrev Inv-loop : tie.InvT-loop
+Inv-loop table₀ at n q end k₀ table k =
+    (at ≤ k) × (k ≤ at + n) × (length table ≡ length table₀) × Raised table table₀ at (k - at) q
+
+abbrev μ-loop : tie.MeasureT-loop
+μ-loop table₀ at n q end k₀ table k = at + n - k
+
+add-end : tie.Need-add-end Inv-loop μ-loop
+add-end c = search needs
+
+loop-holds : tie.Need-loop-holds Inv-loop μ-loop
+loop-holds c = (search needs, search needs, search needs, raised-none _ _ _ _ (omega arith))
+
+mul-table : tie.Need-mul-table Inv-loop μ-loop
+mul-table c = search needs
+
+slice-read-table : tie.Need-slice-read-table Inv-loop μ-loop
+slice-read-table c = search needs
+
+sub-table : tie.Need-sub-table Inv-loop μ-loop
+sub-table c =
+    let l = c .before .before .loop in
+    still-held _ _ _ _ _ (l .k) _ (l .inv .3) (c .before .before .before .pre .1) (omega arith) (omega arith)
+
+mul-table-2 : tie.Need-mul-table-2 Inv-loop μ-loop
+mul-table-2 c = search needs
+
+slice-write-table : tie.Need-slice-write-table Inv-loop μ-loop
+slice-write-table c = search needs
+
+add-k : tie.Need-add-k Inv-loop μ-loop
+add-k c = search needs
+
+loop-less : tie.Need-loop-less Inv-loop μ-loop
+loop-less c = search needs
+
+loop-again : tie.Need-loop-again Inv-loop μ-loop
+loop-again c =
+    let l = c .before .before .loop in
+    let held = still-held _ _ _ _ _ (l .k) _ (l .inv .3) (c .before .before .before .pre .1) (omega arith) (omega arith) in
+    (search needs, search needs, simp length-set (omega arith), lowered-next _ _ _ _ _ _ _ (omega arith) (omega arith) (omega arith) held (l .inv .3))
+
+same-length : tie.Need-same-length Inv-loop μ-loop
+same-length c = search needs
+
+returns : tie.Need-returns Inv-loop μ-loop
+returns c =
+    let done : c .before .loop .k - c .before .before .args .at ≡ c .before .before .args .n = omega arith in
+    rw done at (c .before .loop .inv .3)
+
+pub subtract-range-spec : {M : Type 1} → statement M
+subtract-range-spec =
+    tie.close
+    (tie.spec
+    Inv-loop
+    μ-loop
+    add-end
+    loop-holds
+    mul-table
+    slice-read-table
+    sub-table
+    mul-table-2
+    slice-write-table
+    add-k
+    loop-less
+    loop-again
+    same-length
+    returns)

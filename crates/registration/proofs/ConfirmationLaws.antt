@@ -1,0 +1,280 @@
+-- A row confirmed: the search for it, row by row; what it is by being named; and the tests of confirm in the order of their numbers, each
+-- on the book as it would be.
+use Prim.Native.Nat.{ℕ, suc, _+_, _-_, _^_, _≤_}
+use mathlib.Core.Path.{_≡_, refl, sym, ap, _∙_}
+use mathlib.Core.List.{List, _∷_}
+use mathlib.Core.Option.{Option, none, some}
+use mathlib.Core.Bool.{Bool, true, false, not}
+use native.Mathlib.Omega.{arith}
+use lib.ListN.{length, getD, take, drop}
+use lib.Dec.{eqb}
+use borrow.Author.Tests.{eqb-true, ne-eqb}
+use Rattle.wire.specs.Numbers.{le}
+use Rattle.wire.specs.Regions.{splice}
+use Rattle.wire.specs.Parts.{sweep}
+use Rattle.rules.specs.declared.Row.{Row}
+use Rattle.rules.specs.declared.Request.{Request}
+use Rattle.rules.specs.declared.Refusal.the-variants.{NoSuchRow, NotMirrored, MarginBroken, Uncovered}
+use Rattle.rules.specs.Basics.{indexOf, nth, counting}
+use Rattle.rules.specs.Limits.{mostEnergy, mostHours}
+use Rattle.rules.specs.Verdicts.{accepted}
+use Rattle.rules.specs.Books.{Setup, Book, noRow, accountAt, operatorOf, accountCount}
+use Rattle.rules.specs.Requests.{confirm}
+use Rattle.rules.specs.Registration.{pending, seller, buyer, withStatus, mark, alike, confirms, mirrors, accountHour, takes, keepsMargins, brokenHour, covered}
+use Rattle.rules.specs.Calls.{numberFrom, confirmedNumber, next}
+use Rattle.rules.proofs.Searches.{each-nth, index-first}
+use Rattle.rules.proofs.RowTests.{Alike, alike-true, passed-confirm}
+use Rattle.rules.proofs.Passed.{passed-16-confirm}
+use Rattle.rules.proofs.AccountHours.{hour-takes-confirmed}
+use Rattle.book.specs.Layout.{presentAt, rowAt, netAt, statusIn}
+use Rattle.book.specs.Changes.{raised}
+use Rattle.book.specs.Image.{rowIn}
+use Rattle.book.specs.Valid.{isBook, bookIn}
+use Rattle.book.specs.Sums.{rowsFrom, SumsOf, Tabled, Room, Taken, Holds, Released}
+use Rattle.book.proofs.Soundness.{SoundRow}
+use Rattle.book.proofs.RowsFrom.{rows-done, rows-step}
+use Rattle.book.proofs.StateLaws.{book-is-sound}
+use Rattle.book.proofs.BookRows.{sound-tabled}
+use Rattle.book.proofs.TableLaws.{sums-hold, released-room, sums-marked}
+use Rattle.registration.specs.Kinds.{decided, Confirming}
+use Rattle.registration.specs.Margins.{brokenBy, broken}
+use Rattle.registration.specs.declared.margins.Broken.the-variants.{Hour, Nowhere}
+use Rattle.registration.proofs.Decisions.{decided-clear, no-row-to-confirm, terms-differ, confirm-breaks, confirm-uncovered, confirm-passes}
+use Rattle.registration.proofs.Answers.{Answered}
+use Rattle.registration.proofs.Acceptances.{confirmed-answered}
+use Rattle.registration.proofs.SearchLaws.{find-cong}
+use Rattle.registration.proofs.MarginLaws.{book-room, found-hour, found-nowhere}
+
+-- ---- the search for the row
+
+-- the number of the row found, past those that were passed
+unfoldable pub numbered : ℕ → Option ℕ → ℕ
+numbered passed none = 0
+numbered passed (some i) = passed + i + 1
+
+module _ (p : Row → Bool) where
+  index-here : (x : Row) (xs : List Row) → p x ≡ true → indexOf p (x ∷ xs) ≡ some 0
+  unfolding indexOf
+  index-here x xs e = rw (e, indexOf)
+
+  index-next : (x : Row) (xs : List Row) (passed : ℕ) → p x ≡ false → numbered passed (indexOf p (x ∷ xs)) ≡ numbered (passed + 1) (indexOf p xs)
+  unfolding indexOf numbered
+  index-next x xs passed e = rw (e, indexOf) (go (indexOf p xs))
+    where
+      go : (o : Option ℕ) → numbered passed (elim o [ none ↦ none | some i ↦ some (suc i) ]) ≡ numbered (passed + 1) o
+      go none = refl
+      go (some i) = omega arith
+
+  -- at first none is passed
+  pub none-passed : (s : List ℕ) (at n m : ℕ) → m ≡ n → numberFrom (indexOf p (rowsFrom s at n)) ≡ numbered 0 (indexOf p (rowsFrom s at m))
+  unfolding numbered
+  none-passed s at n m e = rw e (go (indexOf p (rowsFrom s at n)))
+    where
+      go : (o : Option ℕ) → numberFrom o ≡ numbered 0 o
+      go none = refl
+      go (some i) = omega arith
+
+  module _ (s : List ℕ) (at n number passed : ℕ) (left : number ≡ numbered passed (indexOf p (rowsFrom s at n))) where
+    -- no row is left
+    pub number-none : n ≤ 0 → 0 ≡ number
+    unfolding indexOf numbered
+    number-none h = sym (left ∙ rw (rows-done s at n h))
+
+    module _ (m : ℕ) (x : Row) (more : n ≡ m + 1) (read : x ≡ rowIn (take 18 (drop at s))) where
+      -- the next row is it
+      pub number-here : p x ≡ true → passed + 1 ≡ number
+      unfolding numbered
+      number-here e = sym (left ∙ rw (rows-step s at n m more, index-here (rowIn (take 18 (drop at s))) (rowsFrom s (at + 18) m) (rw (← read) e)) (omega arith))
+
+      -- the next row is passed
+      pub number-next : p x ≡ false → number ≡ numbered (passed + 1) (indexOf p (rowsFrom s (at + 18) m))
+      number-next e = left ∙ rw (rows-step s at n m more) (index-next _ (rowsFrom s (at + 18) m) passed (rw (← read) e))
+
+  -- a number found is that of a row
+  pub number-high : (rows : List Row) → numberFrom (indexOf p rows) ≤ length rows
+  number-high rows = go (indexOf p rows) refl
+    where
+      go : (o : Option ℕ) → indexOf p rows ≡ o → numberFrom o ≤ length rows
+      go none e = omega arith
+      go (some i) e = index-first p noRow rows i e .inside
+
+-- ---- the row that is named
+
+-- the hour that the confirmed row breaks is the one broken in the book as it would be
+pub broken-confirmed : (u : Setup) (rows : List Row) (n a : ℕ) → pending (nth rows n noRow) ≡ true → eqb (nth rows n noRow .proposer) a ≡ false
+    → brokenHour u (mark n 2 rows) a ≡ brokenBy u rows (withStatus 2 (nth rows n noRow)) a
+unfolding brokenHour brokenBy
+broken-confirmed u rows n a e o =
+    find-cong
+    (λ h. not (keepsMargins (accountAt u a) (accountHour (mark n 2 rows) a h)))
+    (λ h. not (keepsMargins (accountAt u a) (takes a h (accountHour rows a h) (withStatus 2 (nth rows n noRow)))))
+    (λ h. ap (λ x. not (keepsMargins (accountAt u a) x)) (hour-takes-confirmed rows n a h e o))
+    (counting (u .hours) 1)
+
+index-named : (o : Option ℕ) → 1 ≤ numberFrom o → (i : ℕ) × (o ≡ some i)
+index-named none l = absurd (omega arith)
+index-named (some i) l = (i, refl)
+
+module _ (b : Book) (q : Request) (number : ℕ) (first : b .phase ≡ 1) (same : number ≡ confirmedNumber b q) where
+  -- 16
+  pub names-no-row : number ≡ 0 → decided confirm b q ≡ some NoSuchRow
+  names-no-row e = no-row-to-confirm b q first (go (confirms (b .part .rows) q) (sym same ∙ e))
+    where
+      go : (o : Option ℕ) → numberFrom o ≡ 0 → o ≡ none
+      go none z = refl
+      go (some i) z = absurd (omega arith)
+
+  module _ (r : Row) (some-row : number ≡ 0 → ⊥) (row : r ≡ nth (b .part .rows) number noRow) where
+    -- 17
+    pub names-other-terms : mirrors q r ≡ false → decided confirm b q ≡ some NotMirrored
+    names-other-terms w =
+        let (i, named) = index-named (confirms (b .part .rows) q) (omega (arith, same)) in
+        terms-differ b q first i named (rw (← same, ← row) w)
+
+    pub names-its-terms : mirrors q r ≡ true → Confirming b q r
+    names-its-terms w =
+        record { in-registration = first; named = omega (arith, same); row = row ∙ ap (λ (n : ℕ). nth (b .part .rows) n noRow) same; terms = w }
+
+-- the number among rows that are the book's is the one that confirm names
+pub confirmed-among : (b : Book) (q : Request) {rows : List Row} → rows ≡ b .part .rows
+    → numberFrom (indexOf (alike (q .other) (q .account) (q .code)) rows) ≡ confirmedNumber b q
+unfolding confirms
+confirmed-among b q e = rw e
+
+pub confirmed-high : (b : Book) (q : Request) → confirmedNumber b q ≤ length (b .part .rows)
+unfolding confirms
+confirmed-high b q = number-high (alike (q .other) (q .account) (q .code)) (b .part .rows)
+
+module _ (s : List ℕ) (q : Request) (r : Row) (h : isBook s ≡ true) (w : Confirming (bookIn s) q r) where
+  -- it is a row of the book
+  named-sound : SoundRow (bookIn s .setup) r
+  named-sound =
+      rw (w .row) (each-nth noRow (confirmedNumber (bookIn s) q) (book-is-sound s h .part-sound .rows-sound) (w .named) (confirmed-high (bookIn s) q))
+
+  pub named-tabled : Tabled r
+  named-tabled = sound-tabled (bookIn s .setup) (book-is-sound s h .setup-sound) r named-sound
+
+  -- pending, with the other account as its proposer and the calling one as its counterparty
+  named-alike : Alike (q .other) (q .account) (q .code) r
+  unfolding confirms
+  named-alike =
+      let (i, e) = index-named (confirms (bookIn s .part .rows) q) (w .named) in
+      let f = index-first (alike (q .other) (q .account) (q .code)) noRow (bookIn s .part .rows) i e in
+      rw (w .row, e) (alike-true _ _ _ _ (f .passes))
+
+  pub named-pending : r .status ≡ 1
+  named-pending = eqb-true _ _ (named-alike .is-pending)
+
+  -- the calling account is one of the book's, and not the proposer
+  pub caller-in-book : (1 ≤ q .account) × (q .account ≤ accountCount (bookIn s .setup))
+  caller-in-book = let same = named-alike .counterparty in (omega (arith, same, named-sound .counterparty-low), omega (arith, same, named-sound .counterparty-high))
+
+  not-own : eqb (r .proposer) (q .account) ≡ false
+  not-own = ne-eqb _ _ (λ e. named-sound .two-accounts (e ∙ sym (named-alike .counterparty)))
+
+  broken-next : brokenHour (bookIn s .setup) (next confirm (bookIn s) q .part .rows) (q .account)
+      ≡ brokenBy (bookIn s .setup) (bookIn s .part .rows) (withStatus 2 r) (q .account)
+  unfolding next
+  broken-next =
+      let pend : pending (nth (bookIn s .part .rows) (confirmedNumber (bookIn s) q) noRow) ≡ true = rw (← w .row) (named-alike .is-pending) in
+      let other : eqb (nth (bookIn s .part .rows) (confirmedNumber (bookIn s) q) noRow .proposer) (q .account) ≡ false = rw (← w .row) not-own in
+      broken-confirmed (bookIn s .setup) (bookIn s .part .rows) (confirmedNumber (bookIn s) q) (q .account) pend other
+      ∙ ap (λ (x : Row). brokenBy (bookIn s .setup) (bookIn s .part .rows) (withStatus 2 x) (q .account)) (sym (w .row))
+
+  same-terms : mirrors q (nth (bookIn s .part .rows) (confirmedNumber (bookIn s) q) noRow) ≡ true
+  same-terms = rw (← w .row) (w .terms)
+
+  module _ (trade : Row) (e : trade ≡ withStatus 2 r) where
+    pub trade-energy : trade .quantity .0 ≤ mostEnergy
+    trade-energy = rw e (named-sound .quantity-high)
+
+    pub trade-tabled : Tabled trade
+    trade-tabled =
+        let t = named-tabled in
+        rw e (record {
+          proposer-low = t .proposer-low;
+          proposer-high = t .proposer-high;
+          counterparty-low = t .counterparty-low;
+          counterparty-high = t .counterparty-high;
+          first-low = t .first-low;
+          in-order = t .in-order;
+          last-high = t .last-high;
+          quantity-high = t .quantity-high;
+        })
+
+    -- ---- the table of sums
+
+    module _ (table : List ℕ) (sums : SumsOf (bookIn s .part .rows) table) where
+      pub named-held : Holds table r
+      named-held = sums-hold table (confirmedNumber (bookIn s) q) r sums (w .named) (confirmed-high (bookIn s) q) (w .row)
+
+      pub trade-room : (after : List ℕ) → Released table after r → Room after 0 (trade .quantity .0)
+      trade-room after f = released-room table after r (trade .quantity .0) f (book-room s h table (trade .quantity .0) sums trade-energy)
+
+      pub trade-sums : (middle after : List ℕ) → length after ≡ 3200 → Released table middle r → Taken middle after trade
+          → SumsOf (mark (confirmedNumber (bookIn s) q) 2 (bookIn s .part .rows)) after
+      trade-sums middle after n f t =
+          sums-marked table middle after (confirmedNumber (bookIn s) q) 2 r trade sums (w .named) (confirmed-high (bookIn s) q) (w .row) e
+          (book-room s h table (trade .quantity .0) sums trade-energy) n f t
+
+    -- ---- what the state decides
+
+    -- 18
+    pub trade-breaks : (k : ℕ) → Hour k ≡ broken (brokenBy (bookIn s .setup) (bookIn s .part .rows) trade (q .account))
+        → decided confirm (bookIn s) q ≡ some (MarginBroken k)
+    trade-breaks k f =
+        let (i, named) = index-named (confirms (bookIn s .part .rows) q) (w .named) in
+        confirm-breaks (bookIn s) q (w .in-registration) i named same-terms k (broken-next ∙ found-hour _ _ _ _ _ k e f)
+
+    module _ (kept : Nowhere ≡ broken (brokenBy (bookIn s .setup) (bookIn s .part .rows) trade (q .account))) (t : Bool)
+        (weight : t ≡ covered (bookIn s .setup) (record { guarantees = bookIn s .part .guarantees; rows = mark (confirmedNumber (bookIn s) q) 2 (bookIn s .part .rows) }) (operatorOf (bookIn s .setup) (q .account))) where
+      covered-next : covered (bookIn s .setup) (next confirm (bookIn s) q .part) (operatorOf (bookIn s .setup) (q .account)) ≡ t
+      unfolding next
+      covered-next = sym weight
+
+      -- 19
+      pub trade-uncovered : t ≡ false → decided confirm (bookIn s) q ≡ some Uncovered
+      trade-uncovered f =
+          let (i, named) = index-named (confirms (bookIn s .part .rows) q) (w .named) in
+          confirm-uncovered (bookIn s) q (w .in-registration) i named same-terms (broken-next ∙ found-nowhere _ _ _ _ _ e kept) (covered-next ∙ f)
+
+      pub trade-covered : t ≡ true → decided confirm (bookIn s) q ≡ none
+      trade-covered f =
+          let (i, named) = index-named (confirms (bookIn s .part .rows) q) (w .named) in
+          confirm-passes (bookIn s) q (w .in-registration) i named same-terms (broken-next ∙ found-nowhere _ _ _ _ _ e kept) (covered-next ∙ f)
+
+-- ---- what an accepted one writes
+
+module _ (s : List ℕ) (q : Request) (number : ℕ) (h : isBook s ≡ true) (free : decided confirm (bookIn s) q ≡ none)
+    (same : number ≡ confirmedNumber (bookIn s) q) where
+  pub accepted-number : (1 ≤ number) × (number ≤ length (bookIn s .part .rows))
+  accepted-number =
+      let w = passed-confirm (bookIn s) q (decided-clear confirm (bookIn s) q free) in
+      (omega (arith, same, w .low), omega (arith, same, w .high))
+
+  module _ (r : Row) (row : r ≡ nth (bookIn s .part .rows) number noRow) where
+    accepted-sound : SoundRow (bookIn s .setup) r
+    accepted-sound = rw row (each-nth noRow number (book-is-sound s h .part-sound .rows-sound) (accepted-number .0) (accepted-number .1))
+
+    pub accepted-tabled : Tabled r
+    accepted-tabled = sound-tabled (bookIn s .setup) (book-is-sound s h .setup-sound) r accepted-sound
+
+    pub accepted-energy : 1 ≤ r .quantity .0
+    accepted-energy = accepted-sound .quantity-low
+
+    pub trade-answered : (t : List ℕ)
+        → t
+        ≡ sweep (raised 4 (r .quantity .0)) 4
+        (sweep (raised 4 (256 ^ 4 - r .quantity .0)) 4 (splice s (presentAt + rowAt (number - 1) + statusIn) (le 1 2))
+        (presentAt + netAt mostHours (seller r) (r .first)) (r .last - r .first + 1))
+        (presentAt + netAt mostHours (buyer r) (r .first)) (r .last - r .first + 1)
+        → Answered confirm s q (accepted number) t
+    trade-answered t e =
+        let (i, named) = passed-16-confirm (bookIn s) q (decided-clear confirm (bookIn s) q free) in
+        let next-one : number ≡ suc i = same ∙ ap numberFrom named in
+        let here : r ≡ getD (bookIn s .part .rows) i noRow = row ∙ ap (λ (n : ℕ). nth (bookIn s .part .rows) n noRow) next-one in
+        let given : i + 1 ≡ number = omega (arith, next-one) in
+        let order = accepted-sound .in-order in
+        rw given at
+        (confirmed-answered s t h q i (r .last - r .first + 1) (presentAt + rowAt (number - 1) + statusIn) _ _ r free named here
+        (omega arith) (omega (arith, next-one)) refl refl e)

@@ -1,0 +1,60 @@
+-- The tests of confirm, in the order of their numbers.
+use mathlib.Core.Path.{sym, ap, _∙_}
+use Rattle.rules.specs.Requests.{confirm}
+use Rattle.rules.specs.Verdicts.{checked}
+use Rattle.registration.proofs.Decisions.{in-wrong-phase}
+use Rattle.registration.proofs.ConfirmationLaws.{names-no-row, names-other-terms, names-its-terms}
+use borrow.Author.Needs.{needs}
+use Rattle.registration.proofs.confirmation.confirm_fault.Statement.{statement}
+use Rattle.registration.proofs.confirmation.confirm_fault.Tie as tie
+
+phase-requires : tie.Need-phase-requires
+phase-requires c κs = search needs
+
+returns : tie.Need-returns
+returns c = ap checked (sym (in-wrong-phase _ _ confirm (λ e. c .if1 .taken (c .before .phase .ensures ∙ e))))
+
+confirmed-number-requires : tie.Need-confirmed-number-requires
+confirmed-number-requires c κs = search needs
+
+returns-2 : tie.Need-returns-2
+returns-2 c =
+    let first = sym (c .before .before .before .phase .ensures) ∙ c .before .before .if1 .left in
+    ap checked (sym (names-no-row _ _ _ first (c .before .confirmed-number .ensures .0) (c .if2 .taken)))
+
+numbered-row-requires : tie.Need-numbered-row-requires
+numbered-row-requires c κs = search needs
+
+is-mirrored-requires : tie.Need-is-mirrored-requires
+is-mirrored-requires c κs = search needs
+
+weighed-requires : tie.Need-weighed-requires
+weighed-requires c κs =
+    let row = c .before .before in
+    let number = row .before .before in
+    let first = sym (number .before .before .phase .ensures) ∙ number .before .if1 .left in
+    (number .before .before .before .before .pre, names-its-terms _ _ _ first (number .confirmed-number .ensures .0) _ (row .before .if2 .left) (row .numbered-row .ensures) (sym (c .before .is-mirrored .ensures) ∙ c .if3 .taken))
+
+returns-3 : tie.Need-returns-3
+returns-3 c = search needs
+
+returns-4 : tie.Need-returns-4
+returns-4 c =
+    let row = c .before .before in
+    let number = row .before .before in
+    let first = sym (number .before .before .phase .ensures) ∙ number .before .if1 .left in
+    ap checked (sym (names-other-terms _ _ _ first (number .confirmed-number .ensures .0) _ (row .before .if2 .left) (row .numbered-row .ensures) (sym (c .before .is-mirrored .ensures) ∙ c .if3 .left)))
+
+pub confirm-fault-spec : {M : Type 1} → statement M
+confirm-fault-spec =
+    tie.close
+    (tie.spec
+    phase-requires
+    returns
+    confirmed-number-requires
+    returns-2
+    numbered-row-requires
+    is-mirrored-requires
+    weighed-requires
+    returns-3
+    returns-4)

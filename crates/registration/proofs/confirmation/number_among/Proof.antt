@@ -1,0 +1,84 @@
+-- The number found among all rows is that found among the rows that are left, past those that were passed.
+use Prim.Native.Nat.{_+_, _-_, _*_, _≤_}
+use mathlib.Core.Path.{_≡_, sym, _∙_}
+use native.Mathlib.Omega.{arith}
+use lib.ListN.{length}
+use borrow.Author.Needs.{needs}
+use Rattle.rules.specs.Basics.{indexOf}
+use Rattle.rules.specs.Registration.{alike}
+use Rattle.rules.specs.Calls.{numberFrom}
+use Rattle.book.specs.Sums.{rowsFrom}
+use Rattle.registration.proofs.ConfirmationLaws.{numbered, none-passed, number-none, number-here, number-next}
+use Rattle.registration.proofs.confirmation.number_among.Statement.{statement}
+use Rattle.registration.proofs.confirmation.number_among.Tie as tie
+
+abbrev Inv-loop : tie.InvT-loop
+Inv-loop book at n request k₀ passed₀ k passed =
+    (k + 18 * (n - passed) ≤ length book)
+    × (passed ≤ n)
+    × (numberFrom (indexOf (alike (request .other) (request .account) (request .code)) (rowsFrom book at n))
+    ≡ numbered passed (indexOf (alike (request .other) (request .account) (request .code)) (rowsFrom book k (n - passed))))
+
+abbrev μ-loop : tie.MeasureT-loop
+μ-loop book at n request k₀ passed₀ k passed = n - passed
+
+loop-holds : tie.Need-loop-holds Inv-loop μ-loop
+loop-holds c = (search needs, search needs, none-passed _ _ _ _ _ (omega arith))
+
+row-at-requires : tie.Need-row-at-requires Inv-loop μ-loop
+row-at-requires c κs = search needs
+
+is-alike-requires : tie.Need-is-alike-requires Inv-loop μ-loop
+is-alike-requires c κs = search needs
+
+add-result : tie.Need-add-result Inv-loop μ-loop
+add-result c = search needs
+
+returns : tie.Need-returns Inv-loop μ-loop
+returns c =
+    let l = c .before .before .before .before .loop in
+    let start = c .before .before .before .before .before .before in
+    number-here _ (start .args .book .now) (l .k) (start .args .n - l .passed) _ (l .passed) (l .inv .2) (start .args .n - l .passed - 1) _ (omega arith)
+    (c .before .before .row-at .ensures) (sym (c .before .is-alike .ensures) ∙ c .if1 .taken)
+
+add-k : tie.Need-add-k Inv-loop μ-loop
+add-k c = search needs
+
+add-passed : tie.Need-add-passed Inv-loop μ-loop
+add-passed c = search needs
+
+loop-less : tie.Need-loop-less Inv-loop μ-loop
+loop-less c = search needs
+
+loop-again : tie.Need-loop-again Inv-loop μ-loop
+loop-again c =
+    let l = c .before .before .before .before .loop in
+    let start = c .before .before .before .before .before .before in (
+      search needs,
+      search needs,
+      number-next _ (start .args .book .now) (l .k) (start .args .n - l .passed) _ (l .passed) (l .inv .2) (start .args .n - (l .passed + 1)) _ (omega arith)
+          (c .before .before .row-at .ensures) (sym (c .before .is-alike .ensures) ∙ c .if1 .left),
+    )
+
+returns-2 : tie.Need-returns-2 Inv-loop μ-loop
+returns-2 c =
+    let l = c .before .loop in
+    let start = c .before .before .before in
+    number-none _ (start .args .book .now) (l .k) (start .args .n - l .passed) _ (l .passed) (l .inv .2) (omega arith)
+
+pub number-among-spec : {M : Type 1} → statement M
+number-among-spec =
+    tie.close
+    (tie.spec
+    Inv-loop
+    μ-loop
+    loop-holds
+    row-at-requires
+    is-alike-requires
+    add-result
+    returns
+    add-k
+    add-passed
+    loop-less
+    loop-again
+    returns-2)

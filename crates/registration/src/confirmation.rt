@@ -1,0 +1,175 @@
+// Confirm: a pending row becomes a trade, and moves the net positions of its seller and its buyer.
+ghost use mathlib.Core.Path.{_≡_};
+ghost use mathlib.Core.Bool.{true};
+ghost use Prim.Native.Nat.{_+_, _-_, _*_, _^_, _≤_};
+ghost use lib.ListN.{length};
+ghost use Rattle.wire.specs.Numbers.{le};
+ghost use Rattle.wire.specs.Regions.{splice};
+ghost use Rattle.wire.specs.Parts.{sweep};
+ghost use Rattle.rules.specs.Basics.{indexOf, nth};
+ghost use Rattle.rules.specs.Limits.{mostRows, mostHours, bookSize};
+ghost use Rattle.rules.specs.Books.{noRow};
+ghost use Rattle.rules.specs.Verdicts.{checked};
+ghost use Rattle.rules.specs.Requests.{confirm};
+ghost use Rattle.rules.specs.Registration.{seller, buyer, withStatus, alike, mirrors};
+ghost use Rattle.rules.specs.Calls.{numberFrom, confirmedNumber};
+ghost use Rattle.book.specs.Layout.{presentAt, rowAt, statusIn, netAt};
+ghost use Rattle.book.specs.Changes.{raised};
+ghost use Rattle.book.specs.Valid.{isBook, bookIn, bookBytes};
+ghost use Rattle.book.specs.Sums.{rowsFrom, Tabled};
+ghost use Rattle.registration.specs.Kinds.{decided, outcomeOn, bookAfter, Ready, Confirming};
+use crate::cover::caller_covered;
+use crate::margins::Broken;
+use crate::margins::broken_hour;
+use crate::positions::move_nets;
+use crate::proposal::is_alike;
+use book::layout::PRESENT_AT;
+use book::layout::ROW_WIDTH;
+use book::layout::ROWS_IN;
+use book::layout::STATUS_IN;
+use book::readings::sums_in;
+use book::rows::row_at;
+use book::state::CONFIRMED;
+use book::state::REGISTRATION;
+use book::state::phase;
+use book::state::row_count;
+use book::state::row_place;
+use book::sums::release_row;
+use book::sums::take_row;
+use rules::Checked;
+use rules::Outcome;
+use rules::Refusal;
+use rules::Request;
+use rules::Row;
+use rules::Verdict;
+use wire::numbers::put_u8;
+
+// Of the `n` rows from `at` on, the number of the first that the request confirms; 0 where there is none.
+fn number_among(book: &[u8], at: usize, n: u16, request: Request) -> u16
+    requires { ⌜ at + 18 * n ≤ length (now book) ⌝ }
+    ensures { λ r. ⌜ r ≡ numberFrom (indexOf (alike (request .other) (request .account) (request .code)) (rowsFrom (now (book .entry)) at n)) ⌝ }
+{
+    let mut k = at;
+    let mut passed: u16 = 0;
+    while passed < n {
+        let r = row_at(book, k);
+        if is_alike(r, request.other, request.account, request.code) {
+            return passed + 1;
+        }
+        k = k + ROW_WIDTH;
+        passed = passed + 1;
+    }
+    0
+}
+
+// The number of the row that the request confirms, or 0.
+fn confirmed_number(book: &[u8], request: Request) -> u16
+    requires { ⌜ isBook (now book) ≡ true ⌝ }
+    ensures { λ r. ⌜ r ≡ confirmedNumber (bookIn (now (book .entry))) request ⌝ }
+    ensures bound { λ r. ⌜ r ≤ length (bookIn (now (book .entry)) .part .rows) ⌝ }
+{
+    let n = row_count(book);
+    number_among(book, PRESENT_AT + ROWS_IN, n, request)
+}
+
+// The row of a number.
+fn numbered_row(book: &[u8], number: u16) -> Row
+    requires { ⌜ (isBook (now book) ≡ true) × (1 ≤ number) × (number ≤ length (bookIn (now book) .part .rows)) ⌝ }
+    ensures { λ r. ⌜ r ≡ nth (bookIn (now (book .entry)) .part .rows) number noRow ⌝ }
+{
+    row_at(book, row_place(number))
+}
+
+// The request has the row's terms from the other side.
+fn is_mirrored(r: Row, request: Request) -> bool
+    ensures { λ b. ⌜ b ≡ mirrors request r ⌝ }
+{
+    (r.side != request.side)
+        & (r.first == request.first)
+        & (r.last == request.last)
+        & (r.quantity.0 == request.quantity.0)
+}
+
+// The row once it is confirmed.
+fn confirmed_row(r: Row) -> Row
+    ensures { λ x. ⌜ x ≡ withStatus 2 r ⌝ }
+{
+    let quantity = r.quantity;
+    Row {
+        proposer: r.proposer,
+        counterparty: r.counterparty,
+        code: r.code,
+        side: r.side,
+        first: r.first,
+        last: r.last,
+        quantity,
+        status: CONFIRMED,
+    }
+}
+
+// What confirm is refused for where it mirrors the row that it names: margins and exposure as they would be.
+fn weighed(book: &[u8], request: Request, row: Row) -> Checked
+    requires { ⌜ (isBook (now book) ≡ true) × Confirming (bookIn (now book)) request row ⌝ }
+    ensures { λ r. ⌜ r ≡ checked (decided confirm (bookIn (now (book .entry))) request) ⌝ }
+{
+    let trade = confirmed_row(row);
+    let mut table = sums_in(book);
+    if let Broken::Hour(hour) = broken_hour(book, &table, trade, request.account) {
+        return Checked::Fails(Refusal::MarginBroken { hour });
+    }
+    release_row(&mut table, row);
+    take_row(&mut table, trade);
+    if caller_covered(book, &table, request.account) {
+        return Checked::Clear;
+    }
+    Checked::Fails(Refusal::Uncovered)
+}
+
+// What confirm is refused for.
+fn confirm_fault(book: &[u8], request: Request) -> Checked
+    requires { ⌜ isBook (now book) ≡ true ⌝ }
+    ensures { λ r. ⌜ r ≡ checked (decided confirm (bookIn (now (book .entry))) request) ⌝ }
+{
+    if phase(book) != REGISTRATION {
+        return Checked::Fails(Refusal::WrongPhase);
+    }
+    let number = confirmed_number(book, request);
+    if number == 0 {
+        return Checked::Fails(Refusal::NoSuchRow);
+    }
+    let row = numbered_row(book, number);
+    if is_mirrored(row, request) {
+        return weighed(book, request, row);
+    }
+    Checked::Fails(Refusal::NotMirrored)
+}
+
+// The row of that number becomes a trade: its status, then the net positions of its seller and its buyer.
+fn put_trade(book: &mut [u8], number: u16, row: Row)
+    requires { ⌜ (length (now book) ≡ bookSize) × (1 ≤ number) × (number ≤ mostRows) × Tabled row × (1 ≤ row .quantity .0) ⌝ }
+    ensures { λ _. ⌜ now (book .exit) ≡ sweep (raised 4 (row .quantity .0)) 4 (sweep (raised 4 (256 ^ 4 - row .quantity .0)) 4 (splice (now (book .entry)) (presentAt + rowAt (number - 1) + statusIn) (le 1 2)) (presentAt + netAt mostHours (seller row) (row .first)) (row .last - row .first + 1)) (presentAt + netAt mostHours (buyer row) (row .first)) (row .last - row .first + 1) ⌝ }
+{
+    put_u8(book, row_place(number) + STATUS_IN, CONFIRMED);
+    move_nets(book, row);
+}
+
+// Kind 2: the row that the request names and mirrors is confirmed, under its number.
+pub fn confirm(book: &mut [u8], request: Request) -> Outcome
+    requires { ⌜ isBook (now book) ≡ true ⌝ }
+    requires { ⌜ Ready confirm (bookIn (now book)) request ⌝ }
+    ensures answer { λ o. ⌜ o ≡ outcomeOn confirm (bookIn (now (book .entry))) request ⌝ }
+    ensures bytes { λ _. ⌜ now (book .exit) ≡ bookBytes (bookAfter confirm (bookIn (now (book .entry))) request) ⌝ }
+    ensures still { λ _. ⌜ isBook (now (book .exit)) ≡ true ⌝ }
+{
+    if let Checked::Fails(r) = confirm_fault(book, request) {
+        return Outcome {
+            verdict: Verdict::Refused(r),
+        };
+    }
+    let number = confirmed_number(book, request);
+    let row = numbered_row(book, number);
+    put_trade(book, number, row);
+    Outcome {
+        verdict: Verdict::Accepted { number },
+    }
+}
