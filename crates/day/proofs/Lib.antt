@@ -5,6 +5,10 @@ pub mod Images
 pub mod DoorLaws
 -- Stages: what a call is refused for, stage by stage.
 pub mod Stages
+-- RequestLaws: what a request of kinds 1 to 9 is answered on a book, whatever record says it.
+pub mod RequestLaws
+-- CallLaws: what a call on a book answers, by what its record reads as.
+pub mod CallLaws
 -- FigureLaws: signed figures in bytes, and their sum.
 pub mod FigureLaws
 -- SettleLaws: what an accepted settle writes, and that its figures are read back.

@@ -1,1 +1,3 @@
-// A day's calls on the bytes of a book.
+// A day's calls on the bytes of a book: the one door of the product.
+pub mod doors;
+mod kinds;
