@@ -20,21 +20,14 @@ pub fn open(setup: &[u8], book: &mut [u8]) -> Outcome
     book::opening::open(setup, book)
 }
 
-// The net position of an account in an hour, of any bytes.
+// The net position of an account in an hour, of any bytes: 1 where they are no book.
 pub fn net(book: &[u8], account: u8, hour: u8) -> NetReading
     ensures { λ r. ⌜ r ≡ netAnswer (now (book .entry)) account hour ⌝ }
 {
     book::readings::net(book, account, hour)
 }
 
-// The exposure of an operator, of any bytes.
-pub fn exposure(book: &[u8], operator: u8) -> ExposureReading
-    ensures { λ r. ⌜ r ≡ exposureAnswer (now (book .entry)) operator ⌝ }
-{
-    book::readings::exposure(book, operator)
-}
-
-// The same of bytes that are known to be a book.
+// As `net`, of bytes that are known to be a book.
 pub fn net_in(book: &[u8], account: u8, hour: u8) -> NetReading
     requires { ⌜ isBook (now book) ≡ true ⌝ }
     ensures { λ r. ⌜ r ≡ netReading (bookIn (now (book .entry))) account hour ⌝ }
@@ -42,7 +35,14 @@ pub fn net_in(book: &[u8], account: u8, hour: u8) -> NetReading
     book::readings::net_in(book, account, hour)
 }
 
-// The same of bytes that are known to be a book.
+// The exposure of an operator, of any bytes: 1 where they are no book.
+pub fn exposure(book: &[u8], operator: u8) -> ExposureReading
+    ensures { λ r. ⌜ r ≡ exposureAnswer (now (book .entry)) operator ⌝ }
+{
+    book::readings::exposure(book, operator)
+}
+
+// As `exposure`, of bytes that are known to be a book.
 pub fn exposure_in(book: &[u8], operator: u8) -> ExposureReading
     requires { ⌜ isBook (now book) ≡ true ⌝ }
     ensures { λ r. ⌜ r ≡ exposureReading (bookIn (now (book .entry))) operator ⌝ }
