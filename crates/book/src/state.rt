@@ -27,6 +27,8 @@ pub const REGISTRATION: u8 = 1;
 
 pub const SCHEDULES: u8 = 2;
 
+pub const SETTLED: u8 = 3;
+
 // The statuses of a row.
 pub const PENDING: u8 = 1;
 

@@ -45,7 +45,11 @@ pub mod CallLists
 pub mod Batches
 -- LedgerReadings: net, exposure, available and settlement are the ledger's wherever it agrees with the book.
 pub mod LedgerReadings
+-- PriorityLaws: one order of all schedules is the paper's order among those of any one account, hour and side.
+pub mod PriorityLaws
 -- SettledTotal: the balances total what the registered schedules are worth at the prices that they meet.
 pub mod SettledTotal
+-- SettledApart: the schedules of one account, hour and side are settled as if no others stood.
+pub mod SettledApart
 -- LedgerDay: after any list of calls on a day, readings and an accepted settle are the ledger's.
 pub mod LedgerDay

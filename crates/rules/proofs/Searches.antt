@@ -56,6 +56,16 @@ pub each-map {ℓ κ μ} : {A : Type ℓ} {P : A → Type κ} {Q : A → Type μ
 each-map f nil = nil
 each-map f (cons {x = x} p e) = cons (f x p) (each-map f e)
 
+-- what follows for each element from two facts
+pub each-both {ℓ κ μ ν} : {A : Type ℓ} {P : A → Type κ} {Q : A → Type μ} {R : A → Type ν} {xs : List A} → ((x : A) → P x → Q x → R x) → Each P xs → Each Q xs → Each R xs
+each-both f nil nil = nil
+each-both f (cons {x = x} p e) (cons q d) = cons (f x p q) (each-both f e d)
+
+-- what everything has, each element has
+pub each-any {ℓ κ} : {A : Type ℓ} {P : A → Type κ} (xs : List A) → ((x : A) → P x) → Each P xs
+each-any [] h = nil
+each-any (x ∷ xs) h = cons (h x) (each-any xs h)
+
 -- a number counted, and what each number counted has
 pub counted-has {κ} : {P : ℕ → Type κ} (n from k : ℕ) → Each P (counting n from) → from ≤ k → k < from + n → P k
 counted-has n from k e low high =

@@ -1,17 +1,27 @@
--- What Boolean tests say: two that hold together are one, a conjunction holds by its parts, a bound is two orders.
+-- What Boolean tests say: each holds or fails, two that hold together are one, a conjunction holds by its parts, a bound is two orders.
 use Prim.Native.Nat.{ℕ, _≤_}
-use mathlib.Core.Path.{_≡_, refl, sym}
-use mathlib.Core.Logic.{_↔_}
+use mathlib.Core.Path.{_≡_, refl, sym, _∙_}
+use mathlib.Core.Logic.{_↔_, _⊎_, inl, inr}
 use mathlib.Core.Bool.{Bool, true, false, _&&_, _||_, and-eq-true-iff}
 use lib.Dec.{leb}
 use borrow.Author.Tests.{leb-true, le-leb}
 use Rattle.rules.specs.Basics.{within}
+
+-- a test holds or fails
+pub true-or-false : (t : Bool) → (t ≡ true) ⊎ (t ≡ false)
+true-or-false true = inl refl
+true-or-false false = inr refl
 
 -- two tests of which each holds where the other does
 pub test-same : (s t : Bool) → (s ≡ true → t ≡ true) → (t ≡ true → s ≡ true) → s ≡ t
 test-same true t f g = sym (f refl)
 test-same false true f g = g refl
 test-same false false f g = refl
+
+-- what a test that fails would follow from fails too
+pub test-fails : (s t : Bool) → (s ≡ true → t ≡ true) → t ≡ false → s ≡ false
+test-fails true t f e = sym (f refl) ∙ e
+test-fails false t f e = refl
 
 pub and-both : (s t : Bool) → (s && t ≡ true) ↔ ((s ≡ true) × (t ≡ true))
 and-both = and-eq-true-iff

@@ -15,6 +15,9 @@ pub const THOUSAND: u16 = 1000;
 // Rows that may have numbers in a day, withdrawn ones too.
 pub const MOST_ROWS: u16 = 256;
 
+// Schedules that may stand.
+pub const MOST_SCHEDULES: usize = 256;
+
 // The counts of a set-up.
 pub const FEWEST_HOURS: u8 = 23;
 

@@ -1,3 +1,7 @@
 // Schedules and settlement on a book that is known to be one: kinds 9 and 10.
+pub mod balances;
+pub mod congruity;
+pub mod judging;
 pub mod prices;
 pub mod scheduling;
+pub mod settling;

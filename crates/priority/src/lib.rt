@@ -1,0 +1,3 @@
+// The schedules in order of priority.
+pub mod order;
+pub mod sorting;

@@ -1,0 +1,92 @@
+-- The first `k` of the order are judged, and the tables are those of them.
+use Prim.Native.Nat.{_-_, _≤_, _<_}
+use mathlib.Core.Path.{_≡_, sym, _∙_}
+use native.Mathlib.Omega.{arith}
+use lib.ListN.{length}
+use borrow.Author.Needs.{needs}
+use Rattle.book.specs.Valid.{bookIn}
+use Rattle.book.proofs.StateLaws.{schedule-count-high}
+use Rattle.settlement.specs.Judging.{TablesIn}
+use Rattle.settlement.proofs.TurnLaws.{judgedIn, length-unused, length-unjudged, in-turn, tables-begin, tables-end, next-ready, next-known, tables-follow}
+use Rattle.settlement.proofs.judging.judge_all.Statement.{statement}
+use Rattle.settlement.proofs.judging.judge_all.Tie as tie
+
+abbrev Inv-loop : tie.InvT-loop
+Inv-loop book sums prices n used₀ results₀ order all₀ k₀ used results all k =
+    (k ≤ n) × (n ≤ 256) × TablesIn book prices (judgedIn book prices k) used all results
+
+abbrev μ-loop : tie.MeasureT-loop
+μ-loop book sums prices n used₀ results₀ order all₀ k₀ used results all k = n - k
+
+accounts-worth-requires : tie.Need-accounts-worth-requires Inv-loop μ-loop
+accounts-worth-requires c κs = search needs
+
+loop-holds : tie.Need-loop-holds Inv-loop μ-loop
+loop-holds c =
+    let start = c .before .before .before .before .before .before in
+    let few = schedule-count-high _ (start .pre .0 .is-book) in
+    (search needs, omega (arith, start .pre .1 .0 .0, few), tables-begin _ _ _ _ _ (start .pre .1 .1 .0) (start .pre .1 .1 .1) (c .accounts-worth .ensures))
+
+mul-x : tie.Need-mul-x Inv-loop μ-loop
+mul-x c = search needs
+
+array-copy-out-x : tie.Need-array-copy-out-x Inv-loop μ-loop
+array-copy-out-x c = search needs
+
+judge-next-requires : tie.Need-judge-next-requires Inv-loop μ-loop
+judge-next-requires c κs =
+    let l = c .before .before .before .before .loop in
+    let start = c .before .before .before .before .before .before .before .before .before .before .before in
+    let here : l .k < start .args .n = omega arith in
+    next-ready _ _ _ (start .pre .0) (l .k) (omega (arith, here, start .pre .1 .0 .0)) _ (in-turn _ _ _ _ here (start .pre .1 .0 .1)) _ _ _ (l .inv .2)
+
+add-k : tie.Need-add-k Inv-loop μ-loop
+add-k c = search needs
+
+loop-less : tie.Need-loop-less Inv-loop μ-loop
+loop-less c = search needs
+
+loop-again : tie.Need-loop-again Inv-loop μ-loop
+loop-again c =
+    let l = c .before .before .before .before .before .before .before .before .before .loop in
+    let start = c .before .before .before .before .before .before .before .before .before .before .before .before .before .before .before .before in
+    let here : l .k < start .args .n = omega arith in
+    let h : l .k < length (bookIn (start .args .book .now) .schedules) = omega (arith, here, start .pre .1 .0 .0) in
+    let turn = in-turn _ _ _ _ here (start .pre .1 .0 .1) in
+    let known = next-known _ _ _ (start .pre .0) (l .k) h _ turn in
+    (search needs, search needs, tables-follow _ _ _ (start .pre .0) (l .k) h _ turn _ _ _ (c .before .before .before .before .judge-next .ensures _ (l .inv .2) known))
+
+same-length : tie.Need-same-length Inv-loop μ-loop
+same-length c =
+    let start = c .before .before .before .before .before .before .before .before in
+    c .before .loop .inv .2 .used-by .whole ∙ sym (length-unused _ (start .pre .1 .1 .0))
+
+same-length-2 : tie.Need-same-length-2 Inv-loop μ-loop
+same-length-2 c =
+    let start = c .before .before .before .before .before .before .before .before in
+    c .before .loop .inv .2 .results-of .whole ∙ sym (length-unjudged _ (start .pre .1 .1 .1))
+
+returns : tie.Need-returns Inv-loop μ-loop
+returns c =
+    let start = c .before .before .before .before .before .before .before .before in
+    let l = c .before .loop in
+    let done : l .k ≡ start .args .n = omega arith in
+    tables-end _ _ (l .k) _ _ _ (done ∙ start .pre .1 .0 .0) (l .inv .2)
+
+pub judge-all-spec : {M : Type 1} → statement M
+judge-all-spec =
+    tie.close
+    (tie.spec
+    Inv-loop
+    μ-loop
+    accounts-worth-requires
+    loop-holds
+    mul-x
+    array-copy-out-x
+    judge-next-requires
+    add-k
+    loop-less
+    loop-again
+    same-length
+    same-length-2
+    returns)

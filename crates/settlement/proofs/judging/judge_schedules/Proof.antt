@@ -1,0 +1,62 @@
+-- The order is that of the book's schedules with their places, and the tables begin with nothing used and no results.
+use mathlib.Core.Path.{ap, _∙_}
+use native.Mathlib.Omega.{arith}
+use Rattle.rules.specs.Settlement.{prioritised}
+use Rattle.book.proofs.StateLaws.{schedule-count-high}
+use Rattle.settlement.proofs.TurnLaws.{settling-at, settled-fits}
+use borrow.Author.Needs.{needs}
+use Rattle.settlement.proofs.judging.judge_schedules.Statement.{statement}
+use Rattle.settlement.proofs.judging.judge_schedules.Tie as tie
+
+sums-in-requires : tie.Need-sums-in-requires
+sums-in-requires c κs = search needs
+
+placed-in-requires : tie.Need-placed-in-requires
+placed-in-requires c κs = search needs
+
+in-order-requires : tie.Need-in-order-requires
+in-order-requires c κs =
+    let pre = c .before .before .before .before .before .pre in
+    omega (arith, pre .1, schedule-count-high _ (pre .0 .is-book))
+
+nothing-used-requires : tie.Need-nothing-used-requires
+nothing-used-requires c κs = search needs
+
+slice-aggregate-judge-all : tie.Need-slice-aggregate-judge-all
+slice-aggregate-judge-all c = search needs
+
+slice-aggregate-judge-all-2 : tie.Need-slice-aggregate-judge-all-2
+slice-aggregate-judge-all-2 c = search needs
+
+judge-all-requires : tie.Need-judge-all-requires
+judge-all-requires c κs =
+    let ordered = c .before .before .before .before in
+    let summed = ordered .before .before in
+    let pre = summed .before .before .before .before .pre in
+    let order = ordered .in-order .ensures ∙ ap prioritised (ordered .before .placed-in .ensures) in
+    (settling-at _ _ _ (pre .0) (summed .sums-in .ensures), ((pre .1, order), (c .before .before .before .nothing-used .ensures, pre .2)))
+
+same-length : tie.Need-same-length
+same-length c = search needs
+
+returns : tie.Need-returns
+returns c =
+    let all = c .before .before .before in
+    let summed = all .before .before .before .before .before .before .before in
+    let pre = summed .before .before .before .before .pre in
+    let tables = all .judge-all .ensures in
+    (tables .balances-of, (tables .results-of, settled-fits _ _ _ (settling-at _ _ _ (pre .0) (summed .sums-in .ensures)) _ (tables .balances-of)))
+
+pub judge-schedules-spec : {M : Type 1} → statement M
+judge-schedules-spec =
+    tie.close
+    (tie.spec
+    sums-in-requires
+    placed-in-requires
+    in-order-requires
+    nothing-used-requires
+    slice-aggregate-judge-all
+    slice-aggregate-judge-all-2
+    judge-all-requires
+    same-length
+    returns)

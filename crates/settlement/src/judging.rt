@@ -1,0 +1,129 @@
+// The schedules of a book judged in order of priority: the results by place, and the operators' balances.
+ghost use mathlib.Core.Path.{_≡_};
+ghost use mathlib.Core.List.{List, _∷_};
+ghost use mathlib.Core.Bool.{true};
+ghost use lib.ListN.{length, take};
+ghost use Rattle.rules.specs.Limits.{mostSchedules};
+ghost use Rattle.rules.specs.Settlement.{Judged, placed, prioritised, settled};
+ghost use Rattle.book.specs.Valid.{isBook, bookIn};
+ghost use Rattle.book.specs.Sums.{Room};
+ghost use Rattle.settlement.specs.Tables.{Settling, setupIn, netsIn, pricesOf, BalancesOf, ResultsOf};
+ghost use Rattle.settlement.specs.Congruity.{nothingUsed};
+ghost use Rattle.settlement.specs.Balances.{Fitting};
+ghost use Rattle.settlement.specs.Judging.{Priced, InPlace, nonePlaced, noResults, judgedAfter, Before, TablesIn};
+use crate::balances::OPERATORS;
+use crate::balances::accounts_worth;
+use crate::balances::credit_schedule;
+use crate::congruity::nothing_used;
+use crate::congruity::result_of;
+use crate::congruity::use_up;
+use book::layout::SCHEDULE_WIDTH;
+use book::layout::SCHEDULES_AT;
+use book::readings::sums_in;
+use book::schedules::schedule_at;
+use priority::order::in_order;
+use rules::Balance;
+use rules::Placed;
+use rules::Schedule;
+use rules::limits::MOST_SCHEDULES;
+use setup::entries::point;
+use units::CentsPerMwh;
+use units::Kwh;
+
+// No schedule has its place yet.
+fn none_placed() -> [Placed; MOST_SCHEDULES]
+    ensures { λ r. ⌜ r ≡ nonePlaced ⌝ }
+{
+    let schedule = Schedule {
+        point: 0,
+        side: 0,
+        hour: 0,
+        quantity: Kwh(0),
+        price: CentsPerMwh(0),
+    };
+    let nothing = Placed { place: 0, schedule };
+    [nothing; MOST_SCHEDULES]
+}
+
+// The `n` schedules of a book, each with its place.
+fn placed_in(book: &[u8], n: usize) -> [Placed; MOST_SCHEDULES]
+    requires { ⌜ (isBook (now book) ≡ true) × (n ≡ length (bookIn (now book) .schedules)) ⌝ }
+    ensures { λ r. ⌜ take n r ≡ placed 1 (bookIn (now (book .entry)) .schedules) ⌝ }
+{
+    let mut all = none_placed();
+    let mut k = 0;
+    while k < n {
+        let schedule = schedule_at(book, SCHEDULES_AT + SCHEDULE_WIDTH * k);
+        let place = k as u16 + 1;
+        all[k] = Placed { place, schedule };
+        k = k + 1;
+    }
+    all
+}
+
+// Judges the next schedule: its result, what it uses up of the limits, and its share of its operator's balance.
+fn judge_next(
+    book: &[u8],
+    sums: &[u32],
+    prices: &[u8],
+    used: &mut [u32],
+    results: &mut [u8],
+    all: [Balance; OPERATORS],
+    next: Placed,
+) -> [Balance; OPERATORS]
+    requires { ⌜ Settling (now book) (now sums) (now prices) × InPlace (setupIn (now book)) next ⌝ }
+    requires { ⌜ (length (now used) ≡ 4800) × Room (now used) 0 (next .schedule .quantity .0) × (length (now results) ≡ mostSchedules) × Fitting all ⌝ }
+    ensures { λ r. ⌜ ((before : List Judged) → TablesIn (now (book .entry)) (now (prices .entry)) before (now (used .entry)) all (now (results .entry)) → Before (setupIn (now (book .entry))) (netsIn (now (book .entry))) (pricesOf (now (book .entry)) (now (prices .entry))) before next → TablesIn (now (book .entry)) (now (prices .entry)) (judgedAfter (setupIn (now (book .entry))) (netsIn (now (book .entry))) (pricesOf (now (book .entry)) (now (prices .entry))) before next ∷ before) (now (used .exit)) r (now (results .exit))) ⌝ }
+{
+    let x = next.schedule;
+    let site = point(book, x.point);
+    let result = result_of(book, sums, prices, used, x);
+    use_up(used, site.account, x, result);
+    results[next.place as usize - 1] = result;
+    credit_schedule(all, book, prices, x, result)
+}
+
+// Judges the first `n` of an order, one after the other.
+fn judge_all(
+    book: &[u8],
+    sums: &[u32],
+    prices: &[u8],
+    order: [Placed; MOST_SCHEDULES],
+    n: usize,
+    used: &mut [u32],
+    results: &mut [u8],
+) -> [Balance; OPERATORS]
+    requires { ⌜ Settling (now book) (now sums) (now prices) ⌝ }
+    requires { ⌜ (n ≡ length (bookIn (now book) .schedules)) × (take n order ≡ prioritised (placed 1 (bookIn (now book) .schedules))) ⌝ }
+    requires { ⌜ (now used ≡ nothingUsed) × (now results ≡ noResults) ⌝ }
+    ensures { λ r. ⌜ TablesIn (now (book .entry)) (now (prices .entry)) (settled (setupIn (now (book .entry))) (netsIn (now (book .entry))) (pricesOf (now (book .entry)) (now (prices .entry))) (bookIn (now (book .entry)) .schedules)) (now (used .exit)) r (now (results .exit)) ⌝ }
+{
+    let mut all = accounts_worth(book, sums, prices);
+    let mut k = 0;
+    while k < n {
+        let x = order[k];
+        let next = judge_next(book, sums, prices, used, results, all, x);
+        all = next;
+        k = k + 1;
+    }
+    all
+}
+
+// Judges the `n` schedules of a book in order of priority.
+pub fn judge_schedules(
+    book: &[u8],
+    prices: &[u8],
+    n: usize,
+    results: &mut [u8],
+) -> [Balance; OPERATORS]
+    requires { ⌜ Priced (now book) (now prices) × (n ≡ length (bookIn (now book) .schedules)) × (now results ≡ noResults) ⌝ }
+    ensures balances { λ r. ⌜ BalancesOf (setupIn (now (book .entry))) (netsIn (now (book .entry))) (pricesOf (now (book .entry)) (now (prices .entry))) (settled (setupIn (now (book .entry))) (netsIn (now (book .entry))) (pricesOf (now (book .entry)) (now (prices .entry))) (bookIn (now (book .entry)) .schedules)) r ⌝ }
+    ensures results { λ _. ⌜ ResultsOf (setupIn (now (book .entry))) (netsIn (now (book .entry))) (pricesOf (now (book .entry)) (now (prices .entry))) (settled (setupIn (now (book .entry))) (netsIn (now (book .entry))) (pricesOf (now (book .entry)) (now (prices .entry))) (bookIn (now (book .entry)) .schedules)) (now (results .exit)) ⌝ }
+    ensures fits { λ r. ⌜ Fitting r ⌝ }
+{
+    let sums = sums_in(book);
+    let all = placed_in(book, n);
+    let order = in_order(all, n);
+    let mut used = nothing_used();
+    judge_all(book, &sums, prices, order, n, &mut used, results)
+}
