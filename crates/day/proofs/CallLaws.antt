@@ -1,0 +1,78 @@
+-- What a call on a book answers, by what its record reads as: refused where it says nothing, else as its request is. The record of a
+-- settle is always the same three bytes, so that the call is the settle of what it was lent.
+use Prim.Native.Nat.{ℕ}
+use mathlib.Core.Path.{_≡_, refl, sym, ap, _∙_}
+use mathlib.Core.List.{List}
+use mathlib.Core.Bool.{true, false}
+use Rattle.wire.specs.Numbers.{Bytes, le}
+use Rattle.rules.specs.declared.Request.{Request}
+use Rattle.rules.specs.declared.Outcome.{Outcome}
+use Rattle.rules.specs.declared.Refusal.{Refusal}
+use Rattle.rules.specs.declared.Refusal.the-variants.{NotABook}
+use Rattle.rules.specs.declared.Reading.the-variants.{Read, Unread}
+use Rattle.rules.specs.Basics.{bit}
+use Rattle.rules.specs.Verdicts.{refused}
+use Rattle.rules.specs.Requests.{room, reading, fieldBytes, write}
+use Rattle.rules.specs.Calls.{Call, step}
+use Rattle.rules.proofs.RoundTrip.{read-writes-back}
+use Rattle.book.specs.Valid.{isBook, bookIn}
+use Rattle.settlement.specs.Settling.{settleRecord, settleCall}
+use Rattle.day.specs.Doors.{Answered, inBytes, callAnswer, callWith}
+use Rattle.day.proofs.DoorLaws.{call-on-book, call-on-no-book}
+use Rattle.day.proofs.Stages.{record-refused, call-refused}
+use Rattle.day.proofs.RequestLaws.{unread-checks, buffers-stay, other-kind, AnsweredSaying}
+
+-- ---- settle
+
+-- the record of a settle
+settle-bytes : (q : Request) → q .kind ≡ 10 → write q ≡ settleRecord
+unfolding write fieldBytes room bit le
+settle-bytes q e = rw e
+
+-- bytes that read as a settle are its record
+pub settle-record : (s : List ℕ) (q : Request) → Bytes s → reading s ≡ Read q → q .kind ≡ 10 → s ≡ settleRecord
+settle-record s q b e k = sym (read-writes-back s q b e) ∙ settle-bytes q k
+
+-- so that the call is the settle of what it was lent
+settle-answered : (s bytes prices results balances : List ℕ) (q : Request) → isBook s ≡ true → Bytes bytes → reading bytes ≡ Read q → q .kind ≡ 10
+    → callAnswer s (callWith bytes prices results balances) ≡ inBytes (step (bookIn s) (settleCall prices results balances))
+settle-answered s bytes prices results balances q h b e k =
+    call-on-book s (callWith bytes prices results balances) h
+    ∙ ap (λ (x : List ℕ). inBytes (step (bookIn s) (callWith x prices results balances))) (settle-record bytes q b e k)
+
+-- ---- an answer in parts
+
+-- the outcome, and the bytes of the book and of the two buffers
+abbrev pub InParts : Answered → Outcome → List ℕ → List ℕ → List ℕ → Type 0
+InParts x o t results balances = (o ≡ x .outcome) × ((t ≡ x .book) × ((results ≡ x .results) × (balances ≡ x .balances)))
+
+-- the same, and the bytes are a book
+abbrev pub BookInParts : Answered → Outcome → List ℕ → List ℕ → List ℕ → Type 0
+BookInParts x o t results balances =
+    (o ≡ x .outcome) × ((t ≡ x .book) × ((results ≡ x .results) × ((balances ≡ x .balances) × (isBook t ≡ true))))
+
+-- of bytes that are no book
+pub no-book-parts : (s : List ℕ) (c : Call) → isBook s ≡ false → InParts (callAnswer s c) (refused NotABook) s (c .results) (c .balances)
+no-book-parts s c h = rw (call-on-no-book s c h) (refl, (refl, (refl, refl)))
+
+module _ (s : List ℕ) (c : Call) (h : isBook s ≡ true) where
+  -- of a record that says nothing
+  pub unread-parts : (r : Refusal) → reading (c .bytes) ≡ Unread r → BookInParts (callAnswer s c) (refused r) s (c .results) (c .balances)
+  unread-parts r e =
+      rw (call-refused s c h r (record-refused (bookIn s) c r (unread-checks (c .bytes) r e))) (refl, (refl, (refl, (refl, h))))
+
+  -- of a request of kinds 1 to 9
+  pub said-parts : (q : Request) → reading (c .bytes) ≡ Read q → (q .kind ≡ 10 → ⊥) → (o : Outcome) (t : List ℕ) → AnsweredSaying q s o t
+      → BookInParts (callAnswer s c) o t (c .results) (c .balances)
+  said-parts q e other o t x =
+      let n = other-kind (c .bytes) q e other in
+      let stay = buffers-stay s c h q e (n .0) (n .1) in
+      (x .0 c e, (x .1 .0 c e, (sym (stay .0), (sym (stay .1), x .1 .1))))
+
+-- of a settle
+pub settle-parts : (s bytes prices results balances : List ℕ) (q : Request) → isBook s ≡ true → Bytes bytes → reading bytes ≡ Read q → q .kind ≡ 10
+    → (o : Outcome) (t newResults newBalances : List ℕ)
+    → BookInParts (inBytes (step (bookIn s) (settleCall prices results balances))) o t newResults newBalances
+    → BookInParts (callAnswer s (callWith bytes prices results balances)) o t newResults newBalances
+settle-parts s bytes prices results balances q h b e k o t newResults newBalances x =
+    rw (settle-answered s bytes prices results balances q h b e k) x

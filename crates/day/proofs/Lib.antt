@@ -1,0 +1,21 @@
+-- Laws of a day's calls.
+-- Images: calls on the bytes of a valid book are those on the book.
+pub mod Images
+-- DoorLaws: a call on any bytes; a refused one changes no lent byte.
+pub mod DoorLaws
+-- Stages: what a call is refused for, stage by stage.
+pub mod Stages
+-- RequestLaws: what a request of kinds 1 to 9 is answered on a book, whatever record says it.
+pub mod RequestLaws
+-- CallLaws: what a call on a book answers, by what its record reads as.
+pub mod CallLaws
+-- FigureLaws: signed figures in bytes, and their sum.
+pub mod FigureLaws
+-- SettleLaws: what an accepted settle writes, and that its figures are read back.
+pub mod SettleLaws
+-- Readings: every reading of a book is its ledger's.
+pub mod Readings
+-- Refusals: the numbers of a call's checks, of which none is 1.
+pub mod Refusals
+-- Theorem: demand 3 whole, and that no call of such a list answers 1.
+pub mod Theorem

@@ -1,0 +1,44 @@
+-- Every reading of a book is that of a ledger that agrees with it: in range by the sums in which they agree, out of range by the set-up that
+-- they share.
+use Prim.Native.Nat.{ℕ}
+use mathlib.Core.Path.{_≡_, refl}
+use mathlib.Core.Bool.{Bool, true, false}
+use Rattle.rules.specs.Basics.{within}
+use Rattle.rules.specs.Verdicts.{lowest}
+use Rattle.rules.specs.Books.{Book, accountCount, operatorCount}
+use Rattle.rules.specs.Readings.{netReading, exposureReading}
+use Rattle.rules.specs.Ledger.{Ledger}
+use Rattle.rules.proofs.Agreement.{Agrees}
+use Rattle.rules.proofs.LedgerReadings.{net-read-is-the-ledgers, exposure-read-is-the-ledgers}
+use Rattle.book.specs.Valid.{valid, bookBytes}
+use Rattle.book.specs.Doors.{netAnswer, exposureAnswer}
+use Rattle.day.specs.Figures.{ledgerNetReading, ledgerExposureReading}
+use Rattle.day.proofs.Images.{image-says, image-stands}
+
+module _ (b : Book) (l : Ledger) (g : Agrees b l) where
+  net-reading-agrees : (a h : ℕ) → netReading b a h ≡ ledgerNetReading l a h
+  unfolding netReading lowest ledgerNetReading
+  net-reading-agrees a h = go (within 1 a (accountCount (l .setup))) (within 1 h (l .setup .hours)) refl refl
+    where
+      go : (s t : Bool) → within 1 a (accountCount (l .setup)) ≡ s → within 1 h (l .setup .hours) ≡ t → netReading b a h ≡ ledgerNetReading l a h
+      go true true e f = rw (e, f) (net-read-is-the-ledgers b l g a h e f)
+      go true false e f = rw (g .setup, e, f)
+      go false t e f = rw (g .setup, e)
+
+  exposure-reading-agrees : (o : ℕ) → exposureReading b o ≡ ledgerExposureReading l o
+  unfolding exposureReading lowest ledgerExposureReading
+  exposure-reading-agrees o = go (within 1 o (operatorCount (l .setup))) refl
+    where
+      go : (t : Bool) → within 1 o (operatorCount (l .setup)) ≡ t → exposureReading b o ≡ ledgerExposureReading l o
+      go true e = rw e (exposure-read-is-the-ledgers b l g o e)
+      go false e = rw (g .setup, e)
+
+  -- on the bytes of a valid book
+  module _ (v : valid b ≡ true) where
+    pub net-answer-agrees : (a h : ℕ) → netAnswer (bookBytes b) a h ≡ ledgerNetReading l a h
+    unfolding netAnswer
+    net-answer-agrees a h = rw (image-stands b v, image-says b v) (net-reading-agrees a h)
+
+    pub exposure-answer-agrees : (o : ℕ) → exposureAnswer (bookBytes b) o ≡ ledgerExposureReading l o
+    unfolding exposureAnswer
+    exposure-answer-agrees o = rw (image-stands b v, image-says b v) (exposure-reading-agrees o)

@@ -1,0 +1,170 @@
+-- What a request is answered on a book, whatever record says it: 6 and 7 first, then by its kind. Kinds 1 to 9 look at nothing that a call
+-- is lent beside its record.
+use Prim.Native.Nat.{ℕ, _^_, _≤_, _<_}
+use mathlib.Core.Path.{_≡_, refl, sym, ap, _∙_}
+use mathlib.Core.List.{List, [], _∷_}
+use mathlib.Core.Option.{Option, none, some}
+use mathlib.Core.Bool.{Bool, true, false}
+use native.Mathlib.Omega.{arith}
+use lib.Dec.{eqb}
+use borrow.Author.Tests.{ne-eqb}
+use Rattle.wire.specs.Numbers.{Bytes}
+use Rattle.rules.specs.declared.Checked.{Checked}
+use Rattle.rules.specs.declared.Counts.{Counts}
+use Rattle.rules.specs.declared.Request.{Request}
+use Rattle.rules.specs.declared.Outcome.{Outcome}
+use Rattle.rules.specs.declared.Refusal.{Refusal}
+use Rattle.rules.specs.declared.Refusal.the-variants.{WrongLength, OutOfRange, SameAccount, BufferShort}
+use Rattle.rules.specs.declared.Reading.the-variants.{Read, Unread}
+use Rattle.rules.specs.Verdicts.{_⇒_, _⇒↑_, lowest, checked, refused}
+use Rattle.rules.specs.Books.{Book, countsOf}
+use Rattle.rules.specs.Opening.{countsIn}
+use Rattle.rules.specs.Requests.{Kind, settle, kindNumber, kindOf, requestOf, readChecks, readingOf, reading, Fits, faultyBit, sameAccounts, rangeChecks}
+use Rattle.rules.specs.Calls.{Call, requestIn, kindIn, _∈_, inputChecks, refusal}
+use Rattle.rules.proofs.Tests.{within-true}
+use Rattle.rules.proofs.Clearing.{checked-same, clear, spared, spared↑}
+use Rattle.rules.proofs.Passed.{kind-number}
+use Rattle.rules.proofs.RoundTrip.{read-as, read-is-known, read-fits}
+use Rattle.book.specs.Valid.{isBook, bookIn, bookBytes}
+use Rattle.book.proofs.BookRows.{counts-in}
+use Rattle.registration.specs.Kinds.{decided, outcomeOn, bookAfter, Ready}
+use Rattle.registration.proofs.Answers.{Answered as KindAnswered}
+use Rattle.day.specs.Doors.{Answered, refusedOn, callAnswer}
+use Rattle.day.proofs.Stages.{input-refused, state-decides, call-refused, call-decided}
+
+-- ---- what a record reads as, and what its own checks find
+
+unread-finds : (o : Option Refusal) (q : Request) (r : Refusal) → readingOf o q ≡ Unread r → o ≡ some r
+unread-finds (some x) q r h = cc
+unread-finds none q r h = cc
+
+read-finds : (o : Option Refusal) (q p : Request) → readingOf o q ≡ Read p → o ≡ none
+read-finds (some x) q p h = cc
+read-finds none q p h = refl
+
+-- a record that says nothing is refused for what they find
+pub unread-checks : (s : List ℕ) (r : Refusal) → reading s ≡ Unread r → lowest (readChecks s) ≡ some r
+unfolding reading
+unread-checks s r h = unread-finds (lowest (readChecks s)) (requestOf s) r h
+
+-- one that says a request passed them
+read-checks : (s : List ℕ) (q : Request) → reading s ≡ Read q → lowest (readChecks s) ≡ none
+unfolding reading
+read-checks s q h = read-finds (lowest (readChecks s)) (requestOf s) q h
+
+-- ---- 6 and 7 are all that the input of another kind than settle is refused for
+
+sift : (f : Option ℕ) (same : Bool) (a b d : Refusal)
+    → lowest ((false ⇒ a) ∷ (f ⇒↑ OutOfRange) ∷ (false ⇒ b) ∷ (same ⇒ SameAccount) ∷ (false ⇒ d) ∷ [])
+    ≡ lowest ((f ⇒↑ OutOfRange) ∷ (same ⇒ SameAccount) ∷ [])
+unfolding lowest
+sift (some n) same a b d = refl
+sift none true a b d = refl
+sift none false a b d = refl
+
+input-is-ranges : (b : Book) (c : Call) (k : Kind) (q : Request) → k ∈ (settle ∷ []) ≡ false
+    → lowest (inputChecks b c k q) ≡ lowest (rangeChecks (countsOf (b .setup)) q)
+unfolding inputChecks
+input-is-ranges b c k q e = rw e (sift (faultyBit (countsOf (b .setup)) q) (sameAccounts q) WrongLength (OutOfRange 12) BufferShort)
+
+-- a kind of 1 to 9 is not settle
+others : (n : ℕ) → 1 ≤ n → n ≤ 9 → kindOf n ∈ (settle ∷ []) ≡ false
+others n low high =
+    let number : kindNumber (kindOf n) ≡ n = kind-number n (within-true 1 n 10 .1 (low, omega arith)) in
+    let other : eqb n 10 ≡ false = ne-eqb n 10 (λ e. omega arith) in
+    rw (number, other)
+
+-- ---- the answer on a book
+
+module _ (s : List ℕ) (c : Call) (h : isBook s ≡ true) (q : Request) (e : reading (c .bytes) ≡ Read q) where
+  says : requestIn c ≡ q
+  says = read-as (c .bytes) q e .1
+
+  module _ (low : 1 ≤ q .kind) (high : q .kind ≤ 9) where
+    other : kindIn c ∈ (settle ∷ []) ≡ false
+    other = rw says (others (q .kind) low high)
+
+    ranges : lowest (inputChecks (bookIn s) c (kindIn c) (requestIn c)) ≡ lowest (rangeChecks (countsOf (bookIn s .setup)) q)
+    ranges = input-is-ranges (bookIn s) c (kindIn c) (requestIn c) other ∙ ap (λ (p : Request). lowest (rangeChecks (countsOf (bookIn s .setup)) p)) says
+
+    -- out of range
+    range-answered : (r : Refusal) → lowest (rangeChecks (countsOf (bookIn s .setup)) q) ≡ some r → callAnswer s c ≡ refusedOn r s c
+    range-answered r f = call-refused s c h r (input-refused (bookIn s) c (read-checks (c .bytes) q e) r (ranges ∙ f))
+
+    -- in range: what the state decides
+    kind-answered : lowest (rangeChecks (countsOf (bookIn s .setup)) q) ≡ none
+        → callAnswer s c
+        ≡ record {
+          outcome = outcomeOn (kindOf (q .kind)) (bookIn s) q;
+          book = bookBytes (bookAfter (kindOf (q .kind)) (bookIn s) q);
+          results = c .results;
+          balances = c .balances;
+        }
+    unfolding outcomeOn bookAfter decided
+    kind-answered f =
+        call-decided s c h other _ (state-decides (bookIn s) c (read-checks (c .bytes) q e) (ranges ∙ f)) ∙ rw says
+
+    -- either way both buffers are as they were
+    pub buffers-stay : (callAnswer s c .results ≡ c .results) × (callAnswer s c .balances ≡ c .balances)
+    buffers-stay =
+        let x = call-decided s c h other (refusal (bookIn s) c) refl in
+        (ap (λ (x : Answered). x .results) x, ap (λ (x : Answered). x .balances) x)
+
+-- ---- a request that was read is ready where it is in range
+
+-- its kind is one of the ten, so where it is not settle it is one of the first nine
+pub other-kind : (s : List ℕ) (q : Request) → reading s ≡ Read q → (q .kind ≡ 10 → ⊥) → (1 ≤ q .kind) × (q .kind ≤ 9)
+other-kind s q e other = let n = within-true 1 (q .kind) 10 .0 (read-is-known s q e) in (n .0, omega arith)
+
+-- its code is a number of 8 bytes
+pub read-code : (s : List ℕ) (q : Request) → Bytes s → reading s ≡ Read q → q .code < 256 ^ 8
+unfolding Fits
+read-code s q b e = read-fits s q e b 3 (omega arith)
+
+-- what the range checks came to, on the counts that a book begins with
+pub ranges-found : (s : List ℕ) → isBook s ≡ true → (n : Counts) (q : Request) (x : Checked) (o : Option Refusal) → n ≡ countsIn s
+    → x ≡ checked (lowest (rangeChecks n q)) → x ≡ checked o → lowest (rangeChecks (countsOf (bookIn s .setup)) q) ≡ o
+ranges-found s h n q x o e f g =
+    ap (λ (m : Counts). lowest (rangeChecks m q)) (counts-in s h ∙ sym e) ∙ checked-same _ o (sym f ∙ g)
+
+pub in-range-ready : (b : Book) (q : Request) → 1 ≤ q .kind → q .kind ≤ 9 → q .code < 256 ^ 8 → lowest (rangeChecks (countsOf (b .setup)) q) ≡ none
+    → Ready (kindOf (q .kind)) b q
+in-range-ready b q low high code e =
+    let passed = clear (rangeChecks (countsOf (b .setup)) q) e in
+    record {
+      of-kind = sym (kind-number (q .kind) (within-true 1 (q .kind) 10 .1 (low, omega arith)));
+      in-range = spared↑ _ _ (passed .0);
+      two-accounts = spared _ _ (passed .1 .0);
+      code-fits = code;
+    }
+
+-- a kind by its number
+pub kind-numbered : (s : List ℕ) (q : Request) {n m : ℕ} {o : Outcome} {t : List ℕ} → n ≡ m → KindAnswered (kindOf m) s q o t → KindAnswered (kindOf n) s q o t
+kind-numbered s q e x = rw e x
+
+pub ready-numbered : (b : Book) (q : Request) {n m : ℕ} → n ≡ m → Ready (kindOf n) b q → Ready (kindOf m) b q
+ready-numbered b q e r = rw e at r
+
+-- ---- every call whose record says the request
+
+-- it is answered o and leaves the bytes t, a book
+abbrev pub AnsweredSaying : Request → List ℕ → Outcome → List ℕ → Type 0
+AnsweredSaying q s o t =
+    ((c : Call) → reading (c .bytes) ≡ Read q → o ≡ callAnswer s c .outcome)
+    × (((c : Call) → reading (c .bytes) ≡ Read q → t ≡ callAnswer s c .book) × (isBook t ≡ true))
+
+module _ (q : Request) (s : List ℕ) (h : isBook s ≡ true) (low : 1 ≤ q .kind) (high : q .kind ≤ 9) where
+  -- out of range
+  pub refused-saying : (r : Refusal) → lowest (rangeChecks (countsOf (bookIn s .setup)) q) ≡ some r → AnsweredSaying q s (refused r) s
+  refused-saying r f = (
+    (λ c e. ap (λ (x : Answered). x .outcome) (sym (range-answered s c h q e low high r f))),
+    ((λ c e. ap (λ (x : Answered). x .book) (sym (range-answered s c h q e low high r f))), h),
+  )
+
+  -- in range: as its kind is answered
+  pub kind-saying : lowest (rangeChecks (countsOf (bookIn s .setup)) q) ≡ none → (o : Outcome) (t : List ℕ)
+      → KindAnswered (kindOf (q .kind)) s q o t → AnsweredSaying q s o t
+  kind-saying f o t k = (
+    (λ c e. k .0 ∙ ap (λ (x : Answered). x .outcome) (sym (kind-answered s c h q e low high f))),
+    ((λ c e. k .1 .0 ∙ ap (λ (x : Answered). x .book) (sym (kind-answered s c h q e low high f))), k .1 .1),
+  )

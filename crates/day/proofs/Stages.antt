@@ -1,0 +1,101 @@
+-- What a call is refused for, stage by stage: first by its record, then by what else it was lent, then by the state of the book. The first
+-- stage that refuses decides, and where none does the call is accepted.
+use Prim.Native.Nat.{ℕ}
+use mathlib.Core.Path.{_≡_, refl, _∙_}
+use mathlib.Core.List.{List, [], _∷_, _++_}
+use mathlib.Core.Option.{Option, none, some}
+use mathlib.Core.Bool.{true, false}
+use Rattle.rules.specs.declared.Refusal.{Refusal}
+use Rattle.rules.specs.Limits.{mostHours, bookSize}
+use Rattle.rules.specs.Verdicts.{Check, applies, lowest, outcomeOf}
+use Rattle.rules.specs.Books.{Book}
+use Rattle.rules.specs.Requests.{Kind, register, confirm, withdraw, guarantee, openBatch, undo, keep, closeGate, schedule, settle, readChecks, unlessRefused}
+use Rattle.rules.specs.Calls.{Call, requestIn, kindIn, next, given, _∈_, inputChecks, stateChecks, checks, refusal, settles, answer, step}
+use Rattle.book.specs.Valid.{isBook, bookBytes, bookIn}
+use Rattle.book.proofs.Round.{book-is-image}
+use Rattle.day.specs.Doors.{inBytes, refusedOn, callAnswer}
+use Rattle.day.proofs.DoorLaws.{call-on-book}
+
+-- ---- checks in a row
+
+first-go : (c : Check) (cs ds : List Check) (r : Refusal) (o : Option Refusal) → applies c ≡ o → lowest (c ∷ cs) ≡ some r
+    → (lowest cs ≡ some r → lowest (cs ++ ds) ≡ some r) → lowest (c ∷ cs ++ ds) ≡ some r
+unfolding lowest
+first-go c cs ds r (some y) f e rest = rw (f, lowest) (rw (f, lowest) at e)
+first-go c cs ds r none f e rest = rw (f, lowest) (rest (rw (f, lowest) at e))
+
+-- what the first checks find is found
+lowest-first : (cs ds : List Check) (r : Refusal) → lowest cs ≡ some r → lowest (cs ++ ds) ≡ some r
+unfolding lowest
+lowest-first [] ds r e = cc
+lowest-first (c ∷ cs) ds r e = first-go c cs ds r (applies c) refl e (lowest-first cs ds r)
+
+later-go : (c : Check) (cs ds : List Check) (o : Option Refusal) → applies c ≡ o → lowest (c ∷ cs) ≡ none
+    → (lowest cs ≡ none → lowest (cs ++ ds) ≡ lowest ds) → lowest (c ∷ cs ++ ds) ≡ lowest ds
+unfolding lowest
+later-go c cs ds (some y) f e rest = let z : some y ≡ none = rw (f, lowest) at e in cc
+later-go c cs ds none f e rest = rw (f, lowest) (rest (rw (f, lowest) at e))
+
+-- where they find nothing, the later ones decide
+lowest-later : (cs ds : List Check) → lowest cs ≡ none → lowest (cs ++ ds) ≡ lowest ds
+unfolding lowest
+lowest-later [] ds e = refl
+lowest-later (c ∷ cs) ds e = later-go c cs ds (applies c) refl e (lowest-later cs ds)
+
+-- ---- a call on a plain book
+
+module _ (b : Book) (c : Call) where
+  -- 2 to 5, by the record
+  pub record-refused : (r : Refusal) → lowest (readChecks (c .bytes)) ≡ some r → refusal b c ≡ some r
+  unfolding refusal checks
+  record-refused r e =
+      lowest-first _ (stateChecks b (kindIn c) (requestIn c)) r (lowest-first _ (inputChecks b c (kindIn c) (requestIn c)) r e)
+
+  module _ (e : lowest (readChecks (c .bytes)) ≡ none) where
+    -- 5 to 10, by what else it was lent and the ranges of the book
+    pub input-refused : (r : Refusal) → lowest (inputChecks b c (kindIn c) (requestIn c)) ≡ some r → refusal b c ≡ some r
+    unfolding refusal checks
+    input-refused r f = lowest-first _ (stateChecks b (kindIn c) (requestIn c)) r (lowest-later _ _ e ∙ f)
+
+    -- 11 to 20, by the state
+    pub state-decides : lowest (inputChecks b c (kindIn c) (requestIn c)) ≡ none → refusal b c ≡ lowest (stateChecks b (kindIn c) (requestIn c))
+    unfolding refusal checks
+    state-decides f = lowest-later _ _ (lowest-later _ _ e ∙ f)
+
+-- ---- on the bytes of a book
+
+module _ (s : List ℕ) (c : Call) (h : isBook s ≡ true) where
+  pub call-refused : (r : Refusal) → refusal (bookIn s) c ≡ some r → callAnswer s c ≡ refusedOn r s c
+  unfolding step answer
+  call-refused r e = call-on-book s c h ∙ rw (e, ← book-is-image mostHours bookSize s h .0)
+
+  pub call-accepted : refusal (bookIn s) c ≡ none → callAnswer s c ≡ inBytes (answer (bookIn s) c none)
+  unfolding step
+  call-accepted e = call-on-book s c h ∙ rw e
+
+-- every kind but settle leaves both buffers as they were
+works-nothing : (k : Kind) (b : Book) (c : Call) → k ∈ (settle ∷ []) ≡ false → settles k b c ≡ none
+unfolding settles
+works-nothing register b c e = refl
+works-nothing confirm b c e = refl
+works-nothing withdraw b c e = refl
+works-nothing guarantee b c e = refl
+works-nothing openBatch b c e = refl
+works-nothing undo b c e = refl
+works-nothing keep b c e = refl
+works-nothing closeGate b c e = refl
+works-nothing schedule b c e = refl
+works-nothing settle b c e = cc
+
+-- what any other kind answers, by what it is refused for
+pub call-decided : (s : List ℕ) (c : Call) → isBook s ≡ true → kindIn c ∈ (settle ∷ []) ≡ false → (o : Option Refusal) → refusal (bookIn s) c ≡ o
+    → callAnswer s c
+    ≡ record {
+      outcome = outcomeOf o (given (kindIn c) (bookIn s) (requestIn c));
+      book = bookBytes (unlessRefused o (bookIn s) (next (kindIn c) (bookIn s) (requestIn c)));
+      results = c .results;
+      balances = c .balances;
+    }
+unfolding answer
+call-decided s c h k (some r) e = call-refused s c h r e ∙ rw (← book-is-image mostHours bookSize s h .0)
+call-decided s c h k none e = call-accepted s c h e ∙ rw (works-nothing (kindIn c) (bookIn s) c k)

@@ -1,0 +1,188 @@
+-- Demand 3 whole. From an accepted opening the book's bytes are those of a valid plain book after every call, and the ledger agrees with
+-- that book; each clause is a law of such a book, said on its bytes.
+use Prim.Native.Nat.{ℕ, zero, suc, _+_}
+use mathlib.Core.Path.{_≡_, refl, sym, ap, _∙_, fun-ext}
+use mathlib.Core.List.{List, [], _∷_, _++_, map}
+use mathlib.Core.Option.{none}
+use mathlib.Core.Bool.{true}
+use lib.ListN.{length, take, drop}
+use lib.IntN.{pos}
+use Rattle.rules.specs.declared.Net.{Net}
+use Rattle.rules.specs.Basics.{upTo, Each}
+use Rattle.rules.specs.Verdicts.{numbers}
+use Rattle.rules.specs.Books.{Setup, Book, accountCount, operatorCount}
+use Rattle.rules.specs.Opening.{setupOf, setupRefusal, openRefusal, opened}
+use Rattle.rules.specs.Requests.{settle}
+use Rattle.rules.specs.Registration.{netOf, figure}
+use Rattle.rules.specs.Settlement.{pricesIn, registeredTotal}
+use Rattle.rules.specs.Calls.{Call, step}
+use Rattle.rules.specs.Lists.{after, acceptsAs}
+use Rattle.rules.specs.Ledger.{newLedger, fedAll, ledgerNet}
+use Rattle.rules.proofs.Clearing.{clear, clear-lowest}
+use Rattle.rules.proofs.Balanced.{totalℤ}
+use Rattle.rules.proofs.Agreement.{day-agrees}
+use Rattle.rules.proofs.LedgerReadings.{net-is-the-ledgers, hour-is-the-ledgers, exposure-is-the-ledgers, available-is-the-ledgers}
+use Rattle.rules.proofs.LedgerDay.{dayBook, dayLedger, day-setup, day-settled}
+use Rattle.rules.proofs.SettledTotal.{Owned}
+use Rattle.rules.proofs.Searches.{each-map}
+use Rattle.rules.proofs.Batches.{undone-batch-cut-out}
+use Rattle.book.specs.Valid.{bookBytes}
+use Rattle.book.specs.Doors.{openBytes}
+use Rattle.book.proofs.SetupRanges.{each-split, each-join}
+use Rattle.book.proofs.SetupAgain.{accepted-in-range}
+use Rattle.book.proofs.Opened.{opened-valid}
+use Rattle.book.proofs.Reachable.{OfBytes, after-valid, reachable-valid, reachable-setup, reachable-nets-cancel, reachable-nets-within-margins, reachable-margins-kept, reachable-covered}
+use Rattle.day.specs.Doors.{Answered, inBytes, callAnswer}
+use Rattle.day.specs.Lists.{answersOn, bytesAfter, acceptsOnAs, ledgerOn, UndoneOn, CutOutOn}
+use Rattle.day.specs.Figures.{figuresIn, sum}
+use Rattle.day.specs.Promise.{Promise}
+use Rattle.day.proofs.Images.{call-on-image, accepts-as-on-image, answers-on-image, bytes-after-image, heard-on-image, undone-on-image}
+use Rattle.day.proofs.FigureLaws.{sum-of-map}
+use Rattle.day.proofs.SettleLaws.{settle-writes, written-total}
+use Rattle.day.proofs.Refusals.{runs-not-one}
+use Rattle.day.proofs.Readings.{net-answer-agrees, exposure-answer-agrees}
+
+-- ---- the first of changed elements, and those past them
+
+module _ {A B : Type 0} (f : A → B) where
+  take-map : (n : ℕ) (xs : List A) → take n (map f xs) ≡ map f (take n xs)
+  take-map zero xs = refl
+  take-map (suc n) [] = refl
+  take-map (suc n) (x ∷ xs) = ap (λ (ys : List B). f x ∷ ys) (take-map n xs)
+
+  drop-map : (n : ℕ) (xs : List A) → drop n (map f xs) ≡ map f (drop n xs)
+  drop-map zero xs = refl
+  drop-map (suc n) [] = refl
+  drop-map (suc n) (x ∷ xs) = drop-map n xs
+
+-- ---- a list from the bytes of the opened book
+
+module _ (setup : List ℕ) (h : setupRefusal setup ≡ none) where
+  -- the bytes that an accepted opening wrote
+  abbrev fresh : List ℕ
+  fresh = bookBytes (opened setup)
+
+  -- accounts are of the set-up's operators, points on its accounts
+  owned : Owned (setupOf setup)
+  owned =
+      let r = accepted-in-range setup h in
+      record {
+        accounts = each-map (λ x s. (s .operator-low, s .operator-high)) (r .accounts-sound);
+        points = each-map (λ x s. (s .account-low, s .account-high)) (r .points-sound);
+      }
+
+  module _ (cs : List Call) (bytes : OfBytes cs) where
+    bytes-are : bytesAfter fresh cs ≡ bookBytes (dayBook setup cs)
+    bytes-are = bytes-after-image (opened setup) (opened-valid setup h) cs bytes
+
+    ledger-is : ledgerOn setup fresh cs ≡ dayLedger setup cs
+    ledger-is = ap (fedAll (newLedger setup)) (heard-on-image (opened setup) (opened-valid setup h) cs bytes)
+
+    nets-are : netOf (dayBook setup cs .part .rows) ≡ ledgerNet (dayLedger setup cs)
+    nets-are = fun-ext (λ a. fun-ext (λ k. net-is-the-ledgers (dayBook setup cs) (dayLedger setup cs) (day-agrees setup cs) a k))
+
+    -- in each hour net positions sum to zero
+    nets-cancel : (k : ℕ) → sum (map (λ a. figure (ledgerNet (dayLedger setup cs) a k)) (upTo (accountCount (setupOf setup)))) ≡ pos 0
+    nets-cancel k =
+        sum-of-map _ _
+        ∙ ap (λ (net : ℕ → ℕ → Net). totalℤ (λ a. figure (net a k)) (upTo (accountCount (setupOf setup)))) (sym nets-are)
+        ∙ ap (λ (u : Setup). totalℤ (λ a. figure (netOf (dayBook setup cs .part .rows) a k)) (upTo (accountCount u))) (sym (reachable-setup setup h cs bytes))
+        ∙ reachable-nets-cancel setup h cs bytes k
+
+    -- an accepted settle on the bytes after the list
+    settle-total : (c : Call) → acceptsOnAs (settle ∷ []) (bytesAfter fresh cs) c ≡ true
+        → sum (figuresIn (operatorCount (setupOf setup)) (callAnswer (bytesAfter fresh cs) c .balances))
+        ≡ registeredTotal (setupOf setup) (ledgerNet (dayLedger setup cs)) (pricesIn (setupOf setup) (c .prices)) (dayLedger setup cs .page .schedules)
+    settle-total c e =
+        let b = dayBook setup cs in
+        let v = reachable-valid setup h cs bytes in
+        let accepted : acceptsAs (settle ∷ []) b c ≡ true = sym (accepts-as-on-image b v (settle ∷ []) c) ∙ (rw bytes-are at e) in
+        let answer = ap (λ (s : List ℕ). callAnswer s c) bytes-are ∙ call-on-image b v c in
+        let count : operatorCount (setupOf setup) ≡ operatorCount (b .setup) = ap (λ (u : Setup). operatorCount u) (sym (reachable-setup setup h cs bytes)) in
+        let l = dayLedger setup cs in
+        ap (λ (x : Answered). sum (figuresIn (operatorCount (setupOf setup)) (x .balances))) answer
+        ∙ ap (λ (n : ℕ). sum (figuresIn n (step b c .balances))) count
+        ∙ written-total b c accepted v
+        ∙ day-settled setup cs owned c _ (settle-writes b c accepted .0) .total
+        ∙ ap (λ (u : Setup). registeredTotal u (ledgerNet l) (pricesIn u (c .prices)) (l .page .schedules)) (day-setup setup cs)
+
+  -- an undone batch cut out of the list
+  batch-cut-out : (before : List Call) (opening : Call) (between : List Call) (undoing : Call) (rest : List Call)
+      → OfBytes (before ++ (opening ∷ between ++ undoing ∷ []) ++ rest)
+      → UndoneOn (bytesAfter fresh before) opening between undoing
+      → CutOutOn fresh before (opening ∷ between ++ undoing ∷ []) rest
+  batch-cut-out before opening between undoing rest bytes batch =
+      let b = opened setup in
+      let v = opened-valid setup h in
+      let out : List Call = opening ∷ between ++ undoing ∷ [] in
+      let all = each-split (before ++ out) rest bytes in
+      let parts = each-split before out (all .0) in
+      let opens = each-split (opening ∷ between) (undoing ∷ []) (parts .1) in
+      let fewer = each-join (parts .0) (all .1) in
+      let there = bytes-after-image b v before (parts .0) in
+      let undone = undone-on-image (after b before) (after-valid b before (parts .0) v) opening between undoing (opens .0) (rw there at batch) in
+      let cut = undone-batch-cut-out b before opening between undoing rest undone in
+      let long = answers-on-image b v (before ++ out ++ rest) bytes in
+      let short = answers-on-image b v (before ++ rest) fewer in
+      record {
+        same-before =
+            ap (take (length before)) long
+            ∙ take-map inBytes (length before) _
+            ∙ ap (map inBytes) (cut .same-before)
+            ∙ sym (ap (take (length before)) short ∙ take-map inBytes (length before) _);
+        same-after =
+            ap (drop (length before + length out)) long
+            ∙ drop-map inBytes (length before + length out) _
+            ∙ ap (map inBytes) (cut .same-after)
+            ∙ sym (ap (drop (length before)) short ∙ drop-map inBytes (length before) _);
+        same-bytes =
+            bytes-after-image b v (before ++ out ++ rest) bytes
+            ∙ ap (λ (x : Book). bookBytes x) (cut .same-book)
+            ∙ sym (bytes-after-image b v (before ++ rest) fewer);
+      }
+
+  fresh-promise : (cs : List Call) → OfBytes cs → Promise setup fresh cs
+  fresh-promise cs bytes =
+      let b = dayBook setup cs in
+      let l = dayLedger setup cs in
+      let g = day-agrees setup cs in
+      let v = reachable-valid setup h cs bytes in
+      let at = bytes-are cs bytes in
+      let is = ledger-is cs bytes in
+      let su = reachable-setup setup h cs bytes in
+      record {
+        net-readings = λ a k. rw (at, is) (net-answer-agrees b l g v a k);
+        exposure-readings = λ o. rw (at, is) (exposure-answer-agrees b l g v o);
+        nets-sum-to-zero = λ k. rw is (nets-cancel cs bytes k);
+        nets-within-margins = λ a k al ah kl kh.
+            rw (is, ← net-is-the-ledgers b l g a k, ← su) (reachable-nets-within-margins setup h cs bytes a k al (rw su ah) kl (rw su kh));
+        pending-within-margins = λ a k al ah kl kh.
+            rw (is, ← hour-is-the-ledgers b l g a k, ← su) (reachable-margins-kept setup h cs bytes a k al (rw su ah) kl (rw su kh));
+        exposures-covered = λ o low high.
+            rw (is, ← exposure-is-the-ledgers b l g o, ← available-is-the-ledgers b l g o) (reachable-covered setup h cs bytes o low (rw su high));
+        undone-batches-cut-out = λ before opening between undoing rest e batch.
+            batch-cut-out before opening between undoing rest (rw e at bytes) batch;
+        balances-total = λ before c rest e accepted.
+            let some = each-split before (c ∷ rest) (rw e at bytes) .0 in
+            rw (ledger-is before some) (settle-total before some c accepted);
+      }
+
+-- ---- the theorem
+
+module _ (setup book : List ℕ) (h : openRefusal setup book ≡ none) where
+  setup-accepted : setupRefusal setup ≡ none
+  unfolding openRefusal setupRefusal
+  setup-accepted = clear-lowest _ (clear _ h .1)
+
+  opened-bytes : openBytes setup book ≡ bookBytes (opened setup)
+  unfolding openBytes
+  opened-bytes = rw h
+
+  -- demand 3: any list of calls, each with bytes of its own, run from the bytes that an accepted opening wrote
+  pub whole-list : (cs : List Call) → OfBytes cs → Promise setup (openBytes setup book) cs
+  whole-list cs bytes = rw opened-bytes (fresh-promise setup setup-accepted cs bytes)
+
+  -- and no call of such a list answers 1
+  pub no-call-answers-1 : (cs : List Call) → OfBytes cs → Each (λ x. numbers (x .outcome) .0 ≡ 1 → ⊥) (answersOn (openBytes setup book) cs)
+  no-call-answers-1 cs bytes =
+      rw (opened-bytes, answers-on-image (opened setup) (opened-valid setup setup-accepted) cs bytes) (runs-not-one (opened setup) cs)

@@ -1,0 +1,43 @@
+-- Bytes that are a book are called as one, and others are refused with 1.
+use mathlib.Core.Path.{sym, _∙_}
+use Rattle.day.proofs.CallLaws.{no-book-parts}
+use borrow.Author.Needs.{needs}
+use Rattle.day.proofs.calls.call.Statement.{statement}
+use Rattle.day.proofs.calls.call.Tie as tie
+
+is-book-requires : tie.Need-is-book-requires
+is-book-requires c κs = search needs
+
+call-in-requires : tie.Need-call-in-requires
+call-in-requires c κs = sym (c .before .before .before .before .is-book .ensures) ∙ c .before .before .before .if1 .taken
+
+same-length : tie.Need-same-length
+same-length c = search needs
+
+same-length-2 : tie.Need-same-length-2
+same-length-2 c = search needs
+
+same-length-3 : tie.Need-same-length-3
+same-length-3 c = search needs
+
+returns : tie.Need-returns
+returns c = let e = c .before .before .before .before .before .before .call-in .ensures in (e .0, (e .1 .0, (e .1 .1 .0, e .1 .1 .1 .0)))
+
+same-length-4 : tie.Need-same-length-4
+same-length-4 c = search needs
+
+returns-2 : tie.Need-returns-2
+returns-2 c = no-book-parts _ _ (sym (c .before .is-book .ensures) ∙ c .if1 .left)
+
+pub call-spec : {M : Type 1} → statement M
+call-spec =
+    tie.close
+    (tie.spec
+    is-book-requires
+    call-in-requires
+    same-length
+    same-length-2
+    same-length-3
+    returns
+    same-length-4
+    returns-2)

@@ -1,0 +1,78 @@
+-- A record that says nothing is refused; of one that says a request the kind decides, and only settle is lent the rest.
+use mathlib.Core.Path.{_≡_, sym, _∙_}
+use native.Mathlib.Omega.{arith}
+use denote.Ref.{now}
+use Rattle.wire.specs.Numbers.{Bytes}
+use Rattle.wire.proofs.NumberLaws.{bytes-known}
+use Rattle.rules.specs.declared.Reading.the-variants.{Read}
+use Rattle.rules.specs.Requests.{reading}
+use Rattle.day.proofs.RequestLaws.{other-kind, read-code}
+use Rattle.day.proofs.CallLaws.{unread-parts, said-parts, settle-parts}
+use borrow.Author.Needs.{needs}
+use Rattle.day.proofs.calls.call_in.Statement.{statement}
+use Rattle.day.proofs.calls.call_in.Tie as tie
+
+-- the record says a request, and is of bytes
+says : (c : tie.After-said2) → reading (now (c .before .before .before .before .before .before .before .before .args .bytes)) ≡ Read (c .said2 .given .0 .0)
+says c = sym (c .before .before .read .ensures) ∙ c .said2 .given .1
+
+bytes : (c : tie.After-said2) → Bytes (now (c .before .before .before .before .before .before .before .before .args .bytes))
+bytes c = bytes-known _ (c .before .before .before .before .before .before .before .shared-slice-known .given)
+
+read-requires : tie.Need-read-requires
+read-requires c κs = search needs
+
+enum-known-said : tie.Need-enum-known-said
+enum-known-said c = search needs
+
+enum-known-said-2 : tie.Need-enum-known-said-2
+enum-known-said-2 c = search needs
+
+settle-requires : tie.Need-settle-requires
+settle-requires c κs = search needs
+
+same-length : tie.Need-same-length
+same-length c = search needs
+
+same-length-2 : tie.Need-same-length-2
+same-length-2 c = search needs
+
+same-length-3 : tie.Need-same-length-3
+same-length-3 c = search needs
+
+returns : tie.Need-returns
+returns c =
+    let said = c .before .before .before .before .before .before .before .before .before .before .before .before .before in
+    settle-parts _ _ _ _ _ _ (c .before .before .before .before .before .before .before .before .before .before .before .before .before .before .before .before .before .before .before .before .before .pre) (bytes said) (says said) (omega arith) _ _ _ _ (c .before .before .before .before .before .before .settle .ensures)
+
+answer-requires : tie.Need-answer-requires
+answer-requires c κs =
+    let said = c .before .before .before .before in
+    let n = other-kind _ _ (says said) (λ e. omega arith) in
+    (c .before .before .before .before .before .before .before .before .before .before .before .before .pre, (n .0, n .1, read-code _ _ (bytes said) (says said)))
+
+returns-2 : tie.Need-returns-2
+returns-2 c = unread-parts _ _ (c .before .before .before .before .before .before .before .before .before .pre) _ (sym (c .before .before .before .read .ensures) ∙ c .before .said .given .1)
+
+same-length-4 : tie.Need-same-length-4
+same-length-4 c = search needs
+
+returns-3 : tie.Need-returns-3
+returns-3 c = said-parts _ _ (c .before .before .before .before .before .before .before .before .before .before .before .before .before .before .before .pre) _ (says (c .before .before .before .before .before .before .before)) (λ e. omega arith) _ _ (c .before .before .answer .ensures)
+
+pub call-in-spec : {M : Type 1} → statement M
+call-in-spec =
+    tie.close
+    (tie.spec
+    read-requires
+    enum-known-said
+    enum-known-said-2
+    settle-requires
+    same-length
+    same-length-2
+    same-length-3
+    returns
+    answer-requires
+    returns-2
+    same-length-4
+    returns-3)

@@ -1,0 +1,68 @@
+-- The ranges are checked against the counts that the book begins with; a request that is in range is ready for its kind.
+use mathlib.Core.Path.{_≡_}
+use mathlib.Core.Option.{none, some}
+use native.Mathlib.Omega.{arith}
+use denote.Ref.{now}
+use Rattle.rules.specs.Verdicts.{lowest}
+use Rattle.rules.specs.Books.{countsOf}
+use Rattle.rules.specs.Requests.{rangeChecks}
+use Rattle.book.specs.Valid.{bookIn}
+use Rattle.book.proofs.StateLaws.{book-length}
+use Rattle.day.proofs.RequestLaws.{ranges-found, in-range-ready, refused-saying, kind-saying}
+use borrow.Author.Needs.{needs}
+use Rattle.day.proofs.kinds.answer.Statement.{statement}
+use Rattle.day.proofs.kinds.answer.Tie as tie
+
+-- past the check nothing is out of range
+in-range : (c : tie.After-enum-told) → lowest (rangeChecks (countsOf (bookIn (now (c .before .before .before .before .before .before .args .book)) .setup)) (c .before .before .before .before .before .before .args .request)) ≡ none
+in-range c =
+    let checks = c .before .before in
+    ranges-found _ (c .before .before .before .before .before .before .pre .0) _ _ _ none (checks .before .counts .ensures) (checks .check-ranges .ensures) (c .enum-told .given .1)
+
+counts-requires : tie.Need-counts-requires
+counts-requires c κs = let n = book-length _ (c .before .before .pre .0) in omega arith
+
+check-ranges-requires : tie.Need-check-ranges-requires
+check-ranges-requires c κs = search needs
+
+enum-known-r : tie.Need-enum-known-r
+enum-known-r c = search needs
+
+same-length : tie.Need-same-length
+same-length c = search needs
+
+returns : tie.Need-returns
+returns c =
+    let pre = c .before .before .before .before .before .before .before .pre in
+    let checks = c .before .before .before in
+    refused-saying _ _ (pre .0) (pre .1 .0) (pre .1 .1) _ (ranges-found _ (pre .0) _ _ _ (some _) (checks .before .counts .ensures) (checks .check-ranges .ensures) (c .before .r .given .1))
+
+enum-told : tie.Need-enum-told
+enum-told c = search needs
+
+by-kind-requires : tie.Need-by-kind-requires
+by-kind-requires c κs =
+    let pre = c .before .before .before .before .before .before .before .pre in
+    (pre .0, (pre .1 .0, pre .1 .1, in-range-ready _ _ (pre .1 .0) (pre .1 .1) (pre .1 .2) (in-range (c .before))))
+
+same-length-2 : tie.Need-same-length-2
+same-length-2 c = search needs
+
+returns-2 : tie.Need-returns-2
+returns-2 c =
+    let pre = c .before .before .before .before .before .before .before .before .before .before .pre in
+    kind-saying _ _ (pre .0) (pre .1 .0) (pre .1 .1) (in-range (c .before .before .before .before)) _ _ (c .before .before .by-kind .ensures)
+
+pub answer-spec : {M : Type 1} → statement M
+answer-spec =
+    tie.close
+    (tie.spec
+    counts-requires
+    check-ranges-requires
+    enum-known-r
+    same-length
+    returns
+    enum-told
+    by-kind-requires
+    same-length-2
+    returns-2)

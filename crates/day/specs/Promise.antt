@@ -1,0 +1,57 @@
+-- Demand 3 whole (document 01, "What demand 3 compares"): one claim about the whole list, clause by clause. The list starts from bytes
+-- that an accepted opening of the set-up wrote; the ledger is fed only the set-up's bytes, each record and whether it was accepted.
+use Prim.Native.Nat.{ℕ, _≤_}
+use mathlib.Core.Path.{_≡_}
+use mathlib.Core.List.{List, [], _∷_, _++_, map}
+use mathlib.Core.Bool.{true}
+use lib.IntN.{pos, negℤ}
+use lib.Signed.{_≤ℤ_}
+use Rattle.rules.specs.Basics.{upTo}
+use Rattle.rules.specs.Books.{accountAt, accountCount, operatorCount}
+use Rattle.rules.specs.Opening.{setupOf}
+use Rattle.rules.specs.Requests.{settle}
+use Rattle.rules.specs.Registration.{figure, low, high}
+use Rattle.rules.specs.Settlement.{pricesIn, registeredTotal}
+use Rattle.rules.specs.Calls.{Call}
+use Rattle.rules.specs.Ledger.{ledgerNet, ledgerHour, ledgerExposure, ledgerAvailable}
+use Rattle.book.specs.Doors.{netAnswer, exposureAnswer}
+use Rattle.day.specs.Doors.{callAnswer}
+use Rattle.day.specs.Lists.{bytesAfter, acceptsOnAs, ledgerOn, UndoneOn, CutOutOn}
+use Rattle.day.specs.Figures.{ledgerNetReading, ledgerExposureReading, figuresIn, sum}
+
+pub record Promise (setup start : List ℕ) (cs : List Call) : Type 0 where
+  -- after the list every reading of net equals the ledger's: the signed sum of the account's confirmed trades that no undo struck
+  pub net-readings : (a h : ℕ) → netAnswer (bytesAfter start cs) a h ≡ ledgerNetReading (ledgerOn setup start cs) a h
+  -- and every reading of exposure
+  pub exposure-readings : (o : ℕ) → exposureAnswer (bytesAfter start cs) o ≡ ledgerExposureReading (ledgerOn setup start cs) o
+  -- in each hour net positions sum to zero
+  pub nets-sum-to-zero : (h : ℕ)
+      → sum (map (λ a. figure (ledgerNet (ledgerOn setup start cs) a h)) (upTo (accountCount (setupOf setup)))) ≡ pos 0
+  -- each net position is within its margins
+  pub nets-within-margins : (a h : ℕ) → 1 ≤ a → a ≤ accountCount (setupOf setup) → 1 ≤ h → h ≤ setupOf setup .hours
+      → (negℤ (pos (accountAt (setupOf setup) a .lower .0)) ≤ℤ figure (ledgerNet (ledgerOn setup start cs) a h))
+      × (figure (ledgerNet (ledgerOn setup start cs) a h) ≤ℤ pos (accountAt (setupOf setup) a .upper .0))
+  -- with the account's own pending rows too: minus lower margin ≤ low, high ≤ upper margin
+  pub pending-within-margins : (a h : ℕ) → 1 ≤ a → a ≤ accountCount (setupOf setup) → 1 ≤ h → h ≤ setupOf setup .hours
+      → (negℤ (pos (accountAt (setupOf setup) a .lower .0)) ≤ℤ low (ledgerHour (ledgerOn setup start cs) a h))
+      × (high (ledgerHour (ledgerOn setup start cs) a h) ≤ℤ pos (accountAt (setupOf setup) a .upper .0))
+  -- no exposure is above the available guarantee
+  pub exposures-covered : (o : ℕ) → 1 ≤ o → o ≤ operatorCount (setupOf setup)
+      → ledgerExposure (ledgerOn setup start cs) o ≤ ledgerAvailable (ledgerOn setup start cs) o
+  -- with an undone batch cut out (an accepted open, the next accepted undo with no accepted keep between, and all between) the list
+  -- gives the same answers outside it and leaves the same book
+  pub undone-batches-cut-out : (before : List Call) (opening : Call) (between : List Call) (undoing : Call) (rest : List Call)
+      → cs ≡ before ++ (opening ∷ between ++ undoing ∷ []) ++ rest
+      → UndoneOn (bytesAfter start before) opening between undoing
+      → CutOutOn start before (opening ∷ between ++ undoing ∷ []) rest
+  -- the balances that an accepted settle wrote total the registered schedules at their prices, registered being what the rules give 0 on
+  -- the ledger's schedules and net: injections and mixed withdrawals at zone price, other withdrawals at PUN, withdrawals negative
+  pub balances-total : (before : List Call) (c : Call) (rest : List Call)
+      → cs ≡ before ++ c ∷ rest
+      → acceptsOnAs (settle ∷ []) (bytesAfter start before) c ≡ true
+      → sum (figuresIn (operatorCount (setupOf setup)) (callAnswer (bytesAfter start before) c .balances))
+      ≡ registeredTotal
+      (setupOf setup)
+      (ledgerNet (ledgerOn setup start before))
+      (pricesIn (setupOf setup) (c .prices))
+      (ledgerOn setup start before .page .schedules)

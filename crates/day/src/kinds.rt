@@ -1,0 +1,78 @@
+// Kinds 1 to 9 on a book that is known to be one: the kind decides which checks apply. None of them is lent a price table or a buffer.
+ghost use mathlib.Core.Path.{_≡_};
+ghost use mathlib.Core.Bool.{true};
+ghost use Prim.Native.Nat.{_^_, _≤_, _<_};
+ghost use Rattle.rules.specs.declared.Request.{Request};
+ghost use Rattle.rules.specs.declared.Reading.the-variants.{Read};
+ghost use Rattle.rules.specs.Requests.{kindOf, reading};
+ghost use Rattle.rules.specs.Calls.{Call};
+ghost use Rattle.book.specs.Valid.{isBook, bookIn, bookBytes};
+ghost use Rattle.registration.specs.Kinds.{outcomeOn, bookAfter, Ready};
+ghost use Rattle.day.specs.Doors.{callAnswer};
+use records::ranges::check_ranges;
+use registration::batches::keep;
+use registration::batches::open_batch;
+use registration::batches::undo;
+use registration::confirmation::confirm;
+use registration::gate::close_gate;
+use registration::lodging::guarantee;
+use registration::proposal::register;
+use registration::withdrawal::withdraw;
+use rules::Checked;
+use rules::Outcome;
+use rules::Request;
+use rules::Verdict;
+use settlement::scheduling::schedule;
+use setup::counts::counts;
+
+// Kinds 5 to 8, which have no field beside the kind.
+fn batch_or_gate(book: &mut [u8], kind: u8) -> Outcome
+    requires { ⌜ isBook (now book) ≡ true ⌝ }
+    requires { ⌜ (5 ≤ kind) × (kind ≤ 8) ⌝ }
+    ensures answer { λ o. ⌜ ((q : Request) → o ≡ outcomeOn (kindOf kind) (bookIn (now (book .entry))) q) ⌝ }
+    ensures bytes { λ _. ⌜ ((q : Request) → now (book .exit) ≡ bookBytes (bookAfter (kindOf kind) (bookIn (now (book .entry))) q)) ⌝ }
+    ensures still { λ _. ⌜ isBook (now (book .exit)) ≡ true ⌝ }
+{
+    match kind {
+        5 => open_batch(book),
+        6 => undo(book),
+        7 => keep(book),
+        _ => close_gate(book),
+    }
+}
+
+// Kinds 1 to 9, of a request whose fields are in range.
+fn by_kind(book: &mut [u8], request: Request) -> Outcome
+    requires { ⌜ isBook (now book) ≡ true ⌝ }
+    requires { ⌜ (1 ≤ request .kind) × (request .kind ≤ 9) × Ready (kindOf (request .kind)) (bookIn (now book)) request ⌝ }
+    ensures answer { λ o. ⌜ o ≡ outcomeOn (kindOf (request .kind)) (bookIn (now (book .entry))) request ⌝ }
+    ensures bytes { λ _. ⌜ now (book .exit) ≡ bookBytes (bookAfter (kindOf (request .kind)) (bookIn (now (book .entry))) request) ⌝ }
+    ensures still { λ _. ⌜ isBook (now (book .exit)) ≡ true ⌝ }
+{
+    let kind = request.kind;
+    match kind {
+        1 => register(book, request),
+        2 => confirm(book, request),
+        3 => withdraw(book, request),
+        4 => guarantee(book, request),
+        5..=8 => batch_or_gate(book, kind),
+        _ => schedule(book, request),
+    }
+}
+
+// Kinds 1 to 9: refused where a field is out of range of the book, else answered by kind.
+pub fn answer(book: &mut [u8], request: Request) -> Outcome
+    requires { ⌜ isBook (now book) ≡ true ⌝ }
+    requires { ⌜ (1 ≤ request .kind) × (request .kind ≤ 9) × (request .code < 256 ^ 8) ⌝ }
+    ensures answer { λ o. ⌜ ((c : Call) → reading (c .bytes) ≡ Read request → o ≡ callAnswer (now (book .entry)) c .outcome) ⌝ }
+    ensures bytes { λ _. ⌜ ((c : Call) → reading (c .bytes) ≡ Read request → now (book .exit) ≡ callAnswer (now (book .entry)) c .book) ⌝ }
+    ensures still { λ _. ⌜ isBook (now (book .exit)) ≡ true ⌝ }
+{
+    let n = counts(book);
+    if let Checked::Fails(r) = check_ranges(request, n) {
+        return Outcome {
+            verdict: Verdict::Refused(r),
+        };
+    }
+    by_kind(book, request)
+}
