@@ -4,13 +4,13 @@ ghost use mathlib.Core.List.{List, _∷_};
 ghost use mathlib.Core.Bool.{true};
 ghost use lib.ListN.{length, take};
 ghost use Rattle.rules.specs.Limits.{mostSchedules};
-ghost use Rattle.rules.specs.Settlement.{Judged, placed, prioritised, settled};
+ghost use Rattle.rules.specs.Settlement.{Judged, placed, prioritised};
 ghost use Rattle.book.specs.Valid.{isBook, bookIn};
 ghost use Rattle.book.specs.Sums.{Room};
-ghost use Rattle.settlement.specs.Tables.{Settling, setupIn, netsIn, pricesOf, BalancesOf, ResultsOf};
+ghost use Rattle.settlement.specs.Tables.{Settling, setupIn};
 ghost use Rattle.settlement.specs.Congruity.{nothingUsed};
 ghost use Rattle.settlement.specs.Balances.{Fitting};
-ghost use Rattle.settlement.specs.Judging.{Priced, InPlace, nonePlaced, noResults, judgedAfter, Before, TablesIn};
+ghost use Rattle.settlement.specs.Judging.{Priced, InPlace, nonePlaced, noResults, TablesIn, BeforeIn, judgedNext, settledIn, DrawnUp};
 use crate::balances::OPERATORS;
 use crate::balances::accounts_worth;
 use crate::balances::credit_schedule;
@@ -73,7 +73,7 @@ fn judge_next(
 ) -> [Balance; OPERATORS]
     requires { ⌜ Settling (now book) (now sums) (now prices) × InPlace (setupIn (now book)) next ⌝ }
     requires { ⌜ (length (now used) ≡ 4800) × Room (now used) 0 (next .schedule .quantity .0) × (length (now results) ≡ mostSchedules) × Fitting all ⌝ }
-    ensures { λ r. ⌜ ((before : List Judged) → TablesIn (now (book .entry)) (now (prices .entry)) before (now (used .entry)) all (now (results .entry)) → Before (setupIn (now (book .entry))) (netsIn (now (book .entry))) (pricesOf (now (book .entry)) (now (prices .entry))) before next → TablesIn (now (book .entry)) (now (prices .entry)) (judgedAfter (setupIn (now (book .entry))) (netsIn (now (book .entry))) (pricesOf (now (book .entry)) (now (prices .entry))) before next ∷ before) (now (used .exit)) r (now (results .exit))) ⌝ }
+    ensures { λ r. ⌜ ((before : List Judged) → TablesIn (now (book .entry)) (now (prices .entry)) before (now (used .entry)) all (now (results .entry)) → BeforeIn (now (book .entry)) (now (prices .entry)) before next → TablesIn (now (book .entry)) (now (prices .entry)) (judgedNext (now (book .entry)) (now (prices .entry)) before next ∷ before) (now (used .exit)) r (now (results .exit))) ⌝ }
 {
     let x = next.schedule;
     let site = point(book, x.point);
@@ -96,7 +96,7 @@ fn judge_all(
     requires { ⌜ Settling (now book) (now sums) (now prices) ⌝ }
     requires { ⌜ (n ≡ length (bookIn (now book) .schedules)) × (take n order ≡ prioritised (placed 1 (bookIn (now book) .schedules))) ⌝ }
     requires { ⌜ (now used ≡ nothingUsed) × (now results ≡ noResults) ⌝ }
-    ensures { λ r. ⌜ TablesIn (now (book .entry)) (now (prices .entry)) (settled (setupIn (now (book .entry))) (netsIn (now (book .entry))) (pricesOf (now (book .entry)) (now (prices .entry))) (bookIn (now (book .entry)) .schedules)) (now (used .exit)) r (now (results .exit)) ⌝ }
+    ensures { λ r. ⌜ TablesIn (now (book .entry)) (now (prices .entry)) (settledIn (now (book .entry)) (now (prices .entry))) (now (used .exit)) r (now (results .exit)) ⌝ }
 {
     let mut all = accounts_worth(book, sums, prices);
     let mut k = 0;
@@ -117,9 +117,7 @@ pub fn judge_schedules(
     results: &mut [u8],
 ) -> [Balance; OPERATORS]
     requires { ⌜ Priced (now book) (now prices) × (n ≡ length (bookIn (now book) .schedules)) × (now results ≡ noResults) ⌝ }
-    ensures balances { λ r. ⌜ BalancesOf (setupIn (now (book .entry))) (netsIn (now (book .entry))) (pricesOf (now (book .entry)) (now (prices .entry))) (settled (setupIn (now (book .entry))) (netsIn (now (book .entry))) (pricesOf (now (book .entry)) (now (prices .entry))) (bookIn (now (book .entry)) .schedules)) r ⌝ }
-    ensures results { λ _. ⌜ ResultsOf (setupIn (now (book .entry))) (netsIn (now (book .entry))) (pricesOf (now (book .entry)) (now (prices .entry))) (settled (setupIn (now (book .entry))) (netsIn (now (book .entry))) (pricesOf (now (book .entry)) (now (prices .entry))) (bookIn (now (book .entry)) .schedules)) (now (results .exit)) ⌝ }
-    ensures fits { λ r. ⌜ Fitting r ⌝ }
+    ensures { λ r. ⌜ DrawnUp (now (book .entry)) (now (prices .entry)) r (now (results .exit)) ⌝ }
 {
     let sums = sums_in(book);
     let all = placed_in(book, n);

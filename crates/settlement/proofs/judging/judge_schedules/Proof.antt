@@ -3,7 +3,7 @@ use mathlib.Core.Path.{ap, _∙_}
 use native.Mathlib.Omega.{arith}
 use Rattle.rules.specs.Settlement.{prioritised}
 use Rattle.book.proofs.StateLaws.{schedule-count-high}
-use Rattle.settlement.proofs.TurnLaws.{settling-at, settled-fits}
+use Rattle.settlement.proofs.TurnLaws.{settling-at, drawn-up}
 use borrow.Author.Needs.{needs}
 use Rattle.settlement.proofs.judging.judge_schedules.Statement.{statement}
 use Rattle.settlement.proofs.judging.judge_schedules.Tie as tie
@@ -44,8 +44,7 @@ returns c =
     let all = c .before .before .before in
     let summed = all .before .before .before .before .before .before .before in
     let pre = summed .before .before .before .before .pre in
-    let tables = all .judge-all .ensures in
-    (tables .balances-of, (tables .results-of, settled-fits _ _ _ (settling-at _ _ _ (pre .0) (summed .sums-in .ensures)) _ (tables .balances-of)))
+    drawn-up _ _ _ (settling-at _ _ _ (pre .0) (summed .sums-in .ensures)) _ _ _ (all .judge-all .ensures)
 
 pub judge-schedules-spec : {M : Type 1} → statement M
 judge-schedules-spec =
