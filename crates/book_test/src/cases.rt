@@ -3,16 +3,12 @@ use book::opening::open;
 use book::readings::exposure;
 use book::readings::net;
 use book::whole::is_book;
-use rules::ExposureReading;
-use rules::NetReading;
-use rules::Numbers;
-use rules::Position;
 use rules::verdicts::outcome_numbers;
-use rules::verdicts::refusal_numbers;
 use test_lines::begin;
 use test_lines::bytes;
 use test_lines::end;
-use test_lines::negative;
+use test_lines::exposure_line;
+use test_lines::net_line;
 use test_lines::number;
 use test_lines::small;
 use test_lines::verdict;
@@ -24,12 +20,6 @@ const HEAD: usize = 3;
 
 // The bytes of the room that are judged and read.
 const BOOK_SIZE: u16 = 49_152;
-
-const ACCEPTED: Numbers = Numbers {
-    number: 0,
-    first: 0,
-    second: 0,
-};
 
 // Opens a book in the first bytes of the room, as many as asked for.
 fn show_open(body: &[u8], room: &mut [u8]) {
@@ -106,31 +96,13 @@ fn show_damaged(body: &[u8], room: &mut [u8]) {
     exchange(room, offset as usize, old);
 }
 
-// A net position of a line, with its sign.
-fn position(p: Position) {
-    match p {
-        Position::Long(energy) => number(energy.0 as u64),
-        Position::Short(energy) => negative(energy.0 as u64),
-    }
-}
-
 // The net position of an account in an hour.
 fn show_net(body: &[u8], room: &[u8]) {
     if body.len() < 2 {
         return;
     }
-    begin(b'a');
-    small(body[0]);
-    small(body[1]);
     let n = io::count(BOOK_SIZE as isize, room);
-    match net(&room[..n], body[0], body[1]) {
-        NetReading::Unread(r) => verdict(refusal_numbers(r)),
-        NetReading::Stands(p) => {
-            verdict(ACCEPTED);
-            position(p);
-        }
-    }
-    end();
+    net_line(body[0], body[1], net(&room[..n], body[0], body[1]));
 }
 
 // The exposure of an operator.
@@ -138,17 +110,8 @@ fn show_exposure(body: &[u8], room: &[u8]) {
     if body.len() < 1 {
         return;
     }
-    begin(b'e');
-    small(body[0]);
     let n = io::count(BOOK_SIZE as isize, room);
-    match exposure(&room[..n], body[0]) {
-        ExposureReading::Unread(r) => verdict(refusal_numbers(r)),
-        ExposureReading::Stands(m) => {
-            verdict(ACCEPTED);
-            number(m.0);
-        }
-    }
-    end();
+    exposure_line(body[0], exposure(&room[..n], body[0]));
 }
 
 // Bytes of the room: from an offset on, as many as asked for.

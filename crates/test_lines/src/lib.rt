@@ -2,7 +2,11 @@
 ghost use Prim.Native.Nat.{_<_, _≤_};
 ghost use lib.ListN.{length};
 use libc::STDOUT_FILENO;
+use rules::ExposureReading;
+use rules::NetReading;
 use rules::Numbers;
+use rules::Position;
+use rules::verdicts::refusal_numbers;
 use wire::numbers::get_u16;
 
 // Where the case at `at` ends: a tag, a 2-byte length and that many bytes, or what is left of the input.
@@ -68,4 +72,47 @@ pub fn bytes(s: &[u8]) {
         byte(s[i]);
         i = i + 1;
     }
+}
+
+const ACCEPTED: Numbers = Numbers {
+    number: 0,
+    first: 0,
+    second: 0,
+};
+
+// A net position of a line, with its sign.
+fn position(p: Position) {
+    match p {
+        Position::Long(energy) => number(energy.0 as u64),
+        Position::Short(energy) => negative(energy.0 as u64),
+    }
+}
+
+// The line of a net position that was read.
+pub fn net_line(account: u8, hour: u8, reading: NetReading) {
+    begin(b'a');
+    small(account);
+    small(hour);
+    match reading {
+        NetReading::Unread(r) => verdict(refusal_numbers(r)),
+        NetReading::Stands(p) => {
+            verdict(ACCEPTED);
+            position(p);
+        }
+    }
+    end();
+}
+
+// The line of an exposure that was read.
+pub fn exposure_line(operator: u8, reading: ExposureReading) {
+    begin(b'e');
+    small(operator);
+    match reading {
+        ExposureReading::Unread(r) => verdict(refusal_numbers(r)),
+        ExposureReading::Stands(m) => {
+            verdict(ACCEPTED);
+            number(m.0);
+        }
+    }
+    end();
 }

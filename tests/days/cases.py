@@ -1,0 +1,121 @@
+"""Writes test cases and the lines they print."""
+import copy
+
+import reading
+from records import le, SETTLE
+
+SIZE = reading.BOOK_BYTES
+
+
+class Days:
+    """The tested program as the cases see it: one book buffer and a remembered copy.
+
+    The buffer is a book, or bytes that are surely none (`plain` names them: the zero
+    buffer or a buffer of one byte throughout). `damage` holds bytes put into places that
+    are zero in every book.
+    """
+
+    def __init__(self):
+        self.input = bytearray()
+        self.lines = []
+        self.book, self.plain, self.damage = None, 'zero', {}
+        self.remembered = self.state()
+
+    def state(self):
+        return (self.book.state() if self.book else self.plain), tuple(sorted(self.damage.items()))
+
+    def present(self):
+        return None if self.damage else self.book
+
+    def case(self, tag, body=b''):
+        self.input += tag.encode() + le(len(body), 2) + body
+
+    def say(self, *words):
+        self.lines.append(' '.join(str(word) for word in words))
+
+    def expect(self, verdict, want):
+        if want is not None:
+            want = (want, 0, 0) if isinstance(want, int) else (tuple(want) + (0, 0))[:3]
+            assert tuple(verdict[:3]) == want, (verdict, want, len(self.lines))
+
+    def o(self, setup, want=0):
+        self.case('o', setup)
+        verdict, book = reading.open_book(setup)
+        if book:
+            self.book, self.plain, self.damage = book, None, {}
+        self.expect(verdict, want)
+        self.say('o', *verdict)
+
+    def c(self, record, want=None, table=b'', results=0, balances=0):
+        """A call with two buffers of the given sizes, AA throughout before it."""
+        assert results <= 512 and balances <= 512
+        self.case('c', le(results, 2) + le(balances, 2) + le(len(record), 2) + record + table)
+        first, second = bytearray(b'\xaa' * results), bytearray(b'\xaa' * balances)
+        before = self.state()
+        verdict = reading.call(self.present(), record, table, first, second)
+        if verdict[0]:
+            assert self.state() == before and set(first + second) <= {0xAA}
+        self.expect(verdict, want)
+        self.say('c', *verdict)
+        if verdict[0] == 0 and record[2] == 10:
+            self.lines.append('r ' + first.hex())
+            self.lines.append('b ' + second.hex())
+        return verdict, bytes(first), bytes(second)
+
+    def settle(self, table, want=0, results=256, balances=128, values=None):
+        """Settles; `values` are expected results and balances."""
+        verdict, first, second = self.c(SETTLE, want, table, results, balances)
+        if values:
+            given, money = values
+            assert list(first[:len(given)]) == given, list(first[:len(given)])
+            got = [int.from_bytes(second[8 * i:8 * i + 8], 'little', signed=True) for i in range(len(money))]
+            assert got == money, got
+
+    def a(self, account, hour, want=None, value=None):
+        self.case('a', bytes([account, hour]))
+        verdict = reading.net_position(self.present(), account, hour)
+        self.expect(verdict, want)
+        assert value is None or verdict[3] == value, verdict
+        self.say('a', account, hour, *verdict)
+
+    def e(self, operator, want=None, value=None):
+        self.case('e', bytes([operator]))
+        verdict = reading.exposure(self.present(), operator)
+        self.expect(verdict, want)
+        assert value is None or verdict[3] == value, verdict
+        self.say('e', operator, *verdict)
+
+    def k(self):
+        self.case('k')
+        self.remembered = copy.deepcopy(self.state())
+
+    def same(self, want):
+        self.case('=')
+        equal = int(self.state() == self.remembered)
+        assert equal == want
+        self.say('=', equal)
+
+    def p(self, offset, data):
+        """Damage: the last 8 bytes of the buffer, or the whole buffer."""
+        self.case('p', le(offset, 2) + data)
+        if len(data) == SIZE and offset == 0:
+            self.book, self.plain, self.damage = None, data[:1].hex(), {}
+            return
+        assert offset >= SIZE - 8 and offset + len(data) <= SIZE
+        assert self.book is not None
+        for place, byte in enumerate(data, offset):
+            if byte:
+                self.damage[place] = byte
+            else:
+                self.damage.pop(place, None)
+
+    def read_all(self):
+        """Every account, hour and operator once."""
+        for account in range(1, len(self.book.accounts) + 1):
+            for hour in range(1, self.book.hours + 1):
+                self.a(account, hour, 0)
+        for operator in range(1, len(self.book.guarantees) + 1):
+            self.e(operator, 0)
+
+    def text(self):
+        return ''.join(line + '\n' for line in self.lines)

@@ -1,0 +1,216 @@
+"""Random days near limits, checked against the ledger and against the list without undone batches."""
+import random
+
+import reading
+import records as w
+
+SEEDS = range(301, 331)
+
+
+def opening(chance):
+    hours = chance.choice((23, 24, 25))
+    operators = chance.randrange(1, 5)
+    zones = chance.randrange(1, 4)
+    accounts = [(chance.randrange(1, operators + 1), chance.choice((1, 2)), chance.choice((40, 100, 200, 300)),
+                 chance.choice((0, 60, 200, 400))) for _ in range(chance.randrange(2, 7))]
+    points = []
+    for _ in range(chance.choice((0, 3, 5, 7, 9, 12))):
+        account = chance.randrange(len(accounts))
+        kind = chance.choice((accounts[account][1], 3))
+        points.append((account + 1, kind, chance.randrange(1, zones + 1), 0 if kind == 2 else chance.choice((0, 30, 90)),
+                       0 if kind == 1 else chance.choice((0, 25, 90))))
+    estimates = [chance.choice((0, 7, 10, 13)) for _ in range(hours)]
+    guarantees = [(chance.choice((0, 2, 10, 25, 10 ** 12)), chance.choice((0, 100, 333))) for _ in range(operators)]
+    return w.setup(estimates, guarantees, accounts, points, zones)
+
+
+def near(chance, value):
+    """The value, one beside it, or anything below."""
+    value += chance.choice((-1, 0, 0, 1, 1))
+    return max(1, value if chance.random() < 0.8 else chance.randrange(1, max(2, value + 1)))
+
+
+def hours_of(chance, hours):
+    first = chance.choice((1, 1, 2, hours - 1, hours, chance.randrange(1, hours + 1)))
+    last = chance.choice((first, min(first + 1, hours), hours))
+    return first, last
+
+
+def register(chance, book):
+    account, other = chance.sample(range(1, len(book.accounts) + 1), 2)
+    side = chance.choice((1, 2))
+    first, last = hours_of(chance, book.hours)
+    net, sales, buys = reading.position(book, book.rows, account)
+    has = book.accounts[account - 1]
+    part = slice(first - 1, last)
+    if side == 1:
+        room = min(n - s + has.lower for n, s in zip(net[part], sales[part]))
+        price = sum(book.estimates[part])
+        left = book.available(has.operator) - reading.exposure_of(book, book.rows, has.operator)
+        if price and chance.random() < 0.8:
+            room = min(room, left // price)
+    else:
+        room = min(has.upper - n - b for n, b in zip(net[part], buys[part]))
+    if chance.random() < 0.5:
+        room //= 2
+    return w.register(account, other, chance.randrange(4), side, first, last, near(chance, room))
+
+
+def confirm(chance, book):
+    pending = [row for row in book.rows if row.status == reading.PENDING]
+    if not pending:
+        return w.confirm(2, 1, 0, 2, 1, 1, 1)
+    row = chance.choice(pending)
+    terms = [row.other, row.account, row.code, 3 - row.side, row.first, row.last, row.quantity]
+    if chance.random() < 0.12:
+        place = chance.randrange(7)
+        if place == 2:
+            terms[2] = bytes(8)
+        elif place == 6:
+            terms[6] += 1
+        else:
+            terms[place] = max(0, terms[place] + chance.choice((-1, 1)))
+    return w.confirm(*terms)
+
+
+def withdraw(chance, book):
+    pending = [place for place, row in enumerate(book.rows, 1) if row.status == reading.PENDING]
+    if not pending or chance.random() < 0.15:
+        return w.withdraw(chance.randrange(1, len(book.accounts) + 1), chance.randrange(1, len(book.rows) + 2))
+    number = chance.choice(pending)
+    return w.withdraw(book.rows[number - 1].account, number)
+
+
+def guarantee(chance, book):
+    operator = chance.randrange(1, len(book.guarantees) + 1)
+    exposed = reading.exposure_of(book, book.rows, operator)
+    cents = -(-exposed // (1000 - book.maintenance[operator - 1]))
+    return w.guarantee(operator, max(0, cents + chance.choice((-1, -1, 0, 0, 0, 1, 2, 20))))
+
+
+def damaged(chance, record):
+    data = bytearray(record)
+    how = chance.randrange(4)
+    if how == 0:
+        data = data[:chance.randrange(len(data))]
+    elif how == 1:
+        data += bytes(chance.randrange(1, 4))
+    else:
+        data[chance.randrange(len(data))] ^= 1 << chance.randrange(8)
+    return bytes(data)
+
+
+def schedule(chance, book):
+    """Mostly on a point, hour and side that have room, in parts of it."""
+    point, side, hour = 1, chance.choice((1, 2)), chance.choice((1, 2, book.hours - 1, book.hours))
+    quantity = chance.randrange(1, 40)
+    if not book.points:
+        return w.schedule(side, hour, quantity, point, 50)
+    if chance.random() < 0.2:
+        point = chance.randrange(1, len(book.points) + 1)
+        return w.schedule(side, hour, quantity, point, chance.randrange(48, 53))
+    room = []
+    for place, has in enumerate(book.points, 1):
+        net = reading.position(book, book.rows, has.account)[0]
+        for at in (0, 1, 2, book.hours // 2, book.hours - 2, book.hours - 1):
+            most = min(-net[at], has.injection) if net[at] < 0 else min(net[at], has.withdrawal)
+            if most:
+                room.append((place, at + 1, 1 if net[at] < 0 else 2, most))
+    if room:
+        point, hour, side, most = chance.choice(room[:12])
+        quantity = near(chance, most // chance.choice((1, 2, 3, 5)))
+    return w.schedule(side, hour, quantity, point, chance.randrange(48, 53))
+
+
+def trade_record(chance, book):
+    turn = chance.random()
+    if turn < 0.42:
+        return register(chance, book)
+    if turn < 0.70:
+        return confirm(chance, book)
+    if turn < 0.80:
+        return withdraw(chance, book)
+    if turn < 0.88:
+        return guarantee(chance, book)
+    if turn < 0.93:
+        return w.OPEN
+    if turn < 0.965:
+        return w.UNDO
+    if turn < 0.98:
+        return w.KEEP
+    if turn < 0.983 and book.saved is not None:
+        return w.CLOSE
+    return chance.choice((w.schedule(1, 1, 1, 1, 1), w.SETTLE, register(chance, book)))
+
+
+def random_day(d, seed):
+    chance = random.Random(seed)
+    setup = opening(chance)
+    d.o(setup)
+    ledger = reading.Ledger(setup)
+    calls, verdicts = [], []
+
+    def do(record, table=b'', results=0, balances=0):
+        if chance.random() < 0.04:
+            record = damaged(chance, record)
+        if chance.random() < 0.03:
+            d.k()
+        verdict, first, second = d.c(record, None, table, results, balances)
+        if verdict[0] and chance.random() < 0.02:
+            d.same(int(d.state() == d.remembered))
+        ledger.feed(record, verdict[0] == 0)
+        calls.append((record, table, results, balances))
+        verdicts.append((verdict, first, second))
+        return verdict[0]
+
+    def look(times):
+        for _ in range(times):
+            d.a(chance.randrange(1, len(d.book.accounts) + 1), chance.randrange(1, d.book.hours + 1))
+            d.e(chance.randrange(1, len(d.book.guarantees) + 1))
+
+    for step in range(chance.randrange(150, 420)):
+        do(trade_record(chance, d.book))
+        if step % 60 == 30:
+            look(3)
+            ledger.check(d.book)
+        if d.book.phase != 1:
+            break
+    while d.book.phase == 1:
+        do(chance.choice((w.UNDO, w.KEEP, w.CLOSE, w.CLOSE)))
+    look(4)
+    for _ in range(chance.randrange(20, 90)):
+        do(schedule(chance, d.book))
+    prices = w.table(*[[chance.randrange(48, 53) for _ in range(d.book.hours)] for _ in range(1 + d.book.zones)])
+    while d.book.phase == 2:
+        full, owed = len(d.book.schedules), 8 * len(d.book.guarantees)
+        do(w.SETTLE, chance.choice((prices, prices, prices[4:])), max(0, full + chance.choice((-1, 0, 3))),
+           owed + chance.choice((-1, 0, 9)))
+    money = [int.from_bytes(verdicts[-1][2][at:at + 8], 'little', signed=True)
+             for at in range(0, 8 * len(d.book.guarantees), 8)]
+    ledger.check(d.book)
+    ledger.check_total(d.book, reading.read_prices(prices), money)
+    do(w.SETTLE, prices, 512, 512)
+    do(trade_record(chance, d.book))
+    if seed % 10 == 0:
+        d.read_all()
+    # with every undone batch cut out: the same answers outside it, the same book
+    stay = reading.without_undone([c[0] for c in calls], [v[0] for v in verdicts])
+    plain = reading.open_book(setup)[1]
+    for place in stay:
+        record, table, results, balances = calls[place]
+        first, second = bytearray(b'\xaa' * results), bytearray(b'\xaa' * balances)
+        verdict = reading.call(plain, record, table, first, second)
+        assert (verdict, bytes(first), bytes(second)) == verdicts[place]
+    assert plain.state() == d.book.state()
+    d.k()
+    if seed % 3 == 0:
+        # the same day in the cases without its undone batches
+        d.o(setup)
+        for place in stay:
+            record, table, results, balances = calls[place]
+            d.c(record, verdicts[place][0], table, results, balances)
+        d.same(1)
+    return setup, calls
+
+
+DAYS = tuple((lambda d, seed=seed: random_day(d, seed)) for seed in SEEDS)

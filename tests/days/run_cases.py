@@ -1,0 +1,74 @@
+"""Runs the cases of day_test.stdin and replay_test.stdin on the reading; prints what they print.
+
+Usage: run_cases.py FILE
+"""
+import sys
+
+import reading
+
+SIZE = reading.BOOK_BYTES
+
+
+def hexed(tag, data):
+    return tag + ' ' + data.hex()
+
+
+def run(data):
+    lines, at, day = [], 0, 0
+    book, none, put = None, 'zero', {}
+
+    def state():
+        return (book.state() if book else none), {k: v for k, v in put.items() if v}
+
+    kept = state()
+    while at < len(data):
+        tag = chr(data[at])
+        if tag == 'd':
+            length = reading.number(data[at + 1:at + 5])
+            day += 1
+            lines.append('day %d' % day)
+            lines += reading.replay(data[at + 5:at + 5 + length]).split('\n')[:-1]
+            at += 5 + length
+            continue
+        length = reading.number(data[at + 1:at + 3])
+        body = data[at + 3:at + 3 + length]
+        assert len(body) == length
+        at += 3 + length
+        seen = None if any(put.values()) else book
+        if tag == 'o':
+            verdict, opened = reading.open_book(body)
+            if opened:
+                book, put = opened, {}
+            lines.append('o %d %d %d' % verdict)
+        elif tag == 'c':
+            results = bytearray(b'\xaa' * reading.number(body[:2]))
+            balances = bytearray(b'\xaa' * reading.number(body[2:4]))
+            end = 6 + reading.number(body[4:6])
+            before = state()
+            verdict = reading.call(seen, body[6:end], body[end:], results, balances)
+            lines.append('c %d %d %d' % verdict)
+            if verdict[0] and (state() != before or set(results + balances) - {0xAA}):
+                lines.append('changed')
+            if verdict[0] == 0 and body[8] == 10:
+                lines += [hexed('r', results), hexed('b', balances)]
+        elif tag == 'a':
+            lines.append(' '.join(map(str, ('a', *body, *reading.net_position(seen, *body)))))
+        elif tag == 'e':
+            lines.append(' '.join(map(str, ('e', *body, *reading.exposure(seen, *body)))))
+        elif tag == 'k':
+            kept = state()
+        elif tag == '=':
+            lines.append('= %d' % (state() == kept))
+        elif tag == 'p' and length == SIZE + 2:
+            book, none, put = None, body[2], {}
+        elif tag == 'p':
+            for place, byte in enumerate(body[2:], reading.number(body[:2])):
+                put[place] = byte
+        else:
+            raise ValueError(tag)
+    return ''.join(line + '\n' for line in lines)
+
+
+if __name__ == '__main__':
+    with open(sys.argv[1], 'rb') as given:
+        sys.stdout.write(run(given.read()))

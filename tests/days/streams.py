@@ -1,0 +1,218 @@
+"""Named streams of a day and the text that their replay prints."""
+import random_days
+from cases import Days
+from reading import STREAM_BYTES, replay
+from records import (CLOSE, KEEP, OPEN, SETTLE, UNDO, bare, confirm, flat, guarantee, le, register, schedule, setup,
+                     stream, table, withdraw)
+
+AMPLE = 10 ** 12
+STREAMS = []
+
+
+def add(name, data, text=None):
+    """Adds a stream; a text given must be the one printed."""
+    printed = replay(data)
+    assert text is None or printed == text, (name, printed, text)
+    STREAMS.append((name, data, printed))
+
+
+def small(hours=24, cents=100000, m=100, points=((1, 1, 1, 15000, 0),), price=5000):
+    """The set-up of the whole case."""
+    return setup([price] * hours, [(cents, m), (0, 0)], [(1, 1, 20000, 0), (2, 2, 0, 20000)], list(points))
+
+
+def first_hour(hours, *prices):
+    return table(*([price] + [0] * (hours - 1) for price in prices))
+
+
+def lines(*each):
+    return ''.join(line + '\n' for line in each)
+
+
+SELL = register(1, 2, 0, 1, 1, 1, 18000)
+TAKE = confirm(2, 1, 0, 2, 1, 1, 18000)
+WHOLE = [small(), SELL, TAKE, CLOSE, schedule(1, 1, 15000, 1, 3000), SETTLE + first_hour(24, 6000, 5500)]
+WHOLE_TEXT = """0 0 0 0
+1 0 1 0
+2 0 1 0
+3 0 0 0
+4 0 1 0
+5 0 0 0
+s 1 0
+o 1 -25500000
+o 2 108000000
+t 82500000
+"""
+
+
+def edges():
+    add('whole case', stream(*WHOLE), WHOLE_TEXT)
+    add('selling 18,001 is 19', stream(small(), register(1, 2, 0, 1, 1, 1, 18001)), lines('0 0 0 0', '1 19 0 0'))
+    ample = small(24, AMPLE, 100)
+    add('20,000 with ample guarantee', stream(ample, register(1, 2, 0, 1, 1, 1, 20000)), lines('0 0 0 0', '1 0 1 0'))
+    add('20,001 is 18 hour 1', stream(ample, register(1, 2, 0, 1, 1, 1, 20001)), lines('0 0 0 0', '1 18 1 0'))
+    add('last hour 24 of 23', stream(small(23), register(1, 2, 0, 1, 1, 24, 1)), lines('0 0 0 0', '1 6 6 0'))
+    add('quantity 0', stream(small(), register(1, 2, 0, 1, 1, 1, 0)), lines('0 0 0 0', '1 6 7 0'))
+    add('undo unopened', stream(small(), UNDO), lines('0 0 0 0', '1 13 0 0'))
+    add('keep unopened', stream(small(), KEEP), lines('0 0 0 0', '1 13 0 0'))
+    add('code reused after withdrawal', stream(small(), SELL, SELL, withdraw(1, 1), SELL),
+        lines('0 0 0 0', '1 0 1 0', '2 14 0 0', '3 0 0 0', '4 0 2 0'))
+    rows = []
+    text = ['0 0 0 0']
+    for row in range(1, 257):
+        rows += [SELL, withdraw(1, row)]
+        text += ['%d 0 %d 0' % (2 * row - 1, row), '%d 0 0 0' % (2 * row)]
+    add('row 256 passes, 257 is 15, withdrawn', stream(small(), *rows, SELL), lines(*text, '513 15 0 0'))
+    rows = [register(1, 2, row, 1, 1, 1, 1) for row in range(257)]
+    text = ['%d 0 %d 0' % (row, row) for row in range(1, 257)]
+    add('row 256 passes, 257 is 15, pending', stream(small(), *rows), lines('0 0 0 0', *text, '257 15 0 0'))
+    for price, result in ((5499, 0), (5500, 0), (5501, 3)):
+        day = WHOLE[:4] + [schedule(1, 1, 15000, 1, price)] + WHOLE[5:]
+        balances = ('o 1 -25500000', 'o 2 108000000', 't 82500000') if result == 0 else (
+            'o 1 -108000000', 'o 2 108000000', 't 0')
+        add('injection at %d, zone price 5500' % price, stream(*day),
+            lines(*WHOLE_TEXT.split('\n')[:6], 's 1 %d' % result, *balances))
+
+
+def forms():
+    add('empty', b'', '')
+    add('set-up alone', stream(small()), '0 0 0 0\n')
+    add('one byte', b'\x00', 'cut 0\n')
+    add('item 0 of no bytes', stream(b''), '0 8 0 0\n')
+    add('item 0 of no bytes ends it', stream(b'', small(), UNDO), '0 8 0 0\n')
+    add('refused counts end it', stream(b'\x16' + small()[1:], SELL), '0 8 0 0\n')
+    add('refused length ends it', stream(small() + b'\x00', SELL), '0 8 0 0\n')
+    add('refused value ends it', stream(small(24, AMPLE + 1), SELL, CLOSE), '0 9 101 0\n')
+    add('refused kind mismatch ends it', stream(small(points=((2, 1, 1, 5, 0),)), SELL), '0 9 142 0\n')
+    add('refused set-up, then a cut', stream(small()[:-1]) + b'\x05', '0 8 0 0\n')
+    short = stream(small(23, points=()), SELL, SETTLE + flat(23, 1, 1)[:5], UNDO)
+    for length in range(len(short) + 1):
+        add('cut at %d' % length, short[:length])
+    whole = stream(*WHOLE)
+    for length in range(len(whole) - 196, len(whole), 7):
+        add('whole case cut at %d' % length, whole[:length], lines(*WHOLE_TEXT.split('\n')[:5], 'cut 5'))
+    add('whole case and a byte', whole + b'\x07', WHOLE_TEXT + 'cut 6\n')
+    add('whole case and a length', whole + b'\x01\x00', WHOLE_TEXT + 'cut 6\n')
+    add('whole case and an empty item', whole + b'\x00\x00', WHOLE_TEXT + '6 2 0 0\n')
+    add('length ff ff', stream(small()) + b'\xff\xff' + bytes(1000), lines('0 0 0 0', 'cut 1'))
+    # an item whose third byte is 10 is split whatever its map says
+    prices = first_hour(24, 6000, 5500)
+    for head, want in ((b'\x01\x00', (11, 0, 0)), (b'\x03\x01', (4, 0, 2)), (b'\x00\x00', (2, 0, 0)),
+                       (b'\x01\x20', (2, 0, 0)), (b'\xff\x00', (4, 0, 7))):
+        add('split with map %s' % head.hex(), stream(small(), head + b'\x0a' + prices),
+            lines('0 0 0 0', '1 %d %d %d' % want))
+    add('settle without prices', stream(small(), CLOSE, SETTLE), lines('0 0 0 0', '1 0 0 0', '2 5 0 0'))
+    add('settle with a byte less or more', stream(small(), CLOSE, SETTLE + prices[:-1], SETTLE + prices + b'\x00'),
+        lines('0 0 0 0', '1 0 0 0', '2 5 0 0', '3 5 0 0'))
+    add('settle with no schedule, then again', stream(small(), SELL, CLOSE, SETTLE + prices, SETTLE + prices, CLOSE),
+        lines('0 0 0 0', '1 0 1 0', '2 0 0 0', '3 0 0 0', 'o 1 0', 'o 2 0', 't 0', '4 11 0 0', '5 11 0 0'))
+    add('longest item', le(65534, 2) + bytes(65534), '0 8 0 0\n')
+    add('over 65,536 bytes', stream(small()) + bytes(STREAM_BYTES + 1 - len(stream(small()))), 'long\n')
+    add('over 65,536 bytes, whole case first', whole + bytes(STREAM_BYTES), 'long\n')
+
+
+def verdicts():
+    """Each number that a stream can show, in one day; 1 and 10 cannot be shown."""
+    mixed = setup([10] * 24, [(10 ** 6, 0), (5, 0)], [(1, 1, 900, 900), (2, 2, 900, 900), (2, 1, 900, 900)],
+                  [(1, 1, 1, 100, 0), (2, 2, 1, 0, 90), (2, 3, 1, 50, 50)])
+    items = [mixed, b'', b'\x01\x00', b'\x00\x00\x05', b'\x01\x80\x05', bare(0), bare(11), b'\xff\x1f\x05', b'\x01\x00\x01',
+             OPEN + b'\x00', SELL[:-1], register(4, 2, 1, 1, 1, 1, 1), register(1, 2, 1, 1, 5, 4, 1), register(1, 1, 1, 1, 1, 1, 1),
+             SETTLE + flat(24, 400001, 0), SETTLE + flat(24, 0, 0), schedule(1, 1, 1, 1, 1), KEEP, UNDO, OPEN, OPEN, CLOSE,
+             register(1, 2, 1, 1, 1, 3, 500), register(1, 2, 1, 2, 1, 3, 5), withdraw(2, 1), confirm(1, 2, 1, 1, 1, 3, 500),
+             confirm(2, 1, 1, 1, 1, 3, 500), confirm(2, 1, 1, 2, 1, 3, 500), register(1, 2, 1, 1, 3, 4, 401),
+             register(2, 1, 1, 1, 1, 3, 167), register(2, 1, 1, 1, 1, 3, 166), guarantee(2, 4), guarantee(2, 6), withdraw(2, 2), UNDO,
+             register(2, 1, 1, 1, 1, 1, 501), register(2, 1, 1, 1, 1, 1, 500), confirm(1, 2, 1, 2, 1, 1, 500), CLOSE, UNDO]
+    items += [schedule(1 + place % 3 // 2, 1 + place % 2, 1 + place % 3, 2 + place % 2, place % 5) for place in range(257)]
+    items += [SETTLE + flat(24, 3, 2), SETTLE + flat(24, 3, 2)]
+    data = stream(*items)
+    seen = {int(line.split()[1]) for line in replay(data).split('\n') if line and line[0].isdigit()}
+    assert seen >= {0, 2, 3, 4, 5, 6, 7, 11, 12, 13, 14, 16, 17, 18, 19, 20}, seen
+    add('every verdict of a day', data)
+
+
+def undone():
+    """Undone batches close to a limit: nothing in them weighs afterwards."""
+    day = setup([10] * 24, [(10, 0), (10, 0)], [(1, 1, 900, 900), (2, 2, 900, 900)])
+    add('undone purchase has no weight',
+        stream(day, OPEN, register(2, 1, 1, 2, 1, 24, 900), register(2, 1, 2, 2, 3, 3, 1), UNDO,
+               register(2, 1, 2, 2, 3, 3, 901), register(2, 1, 2, 2, 3, 3, 900)),
+        lines('0 0 0 0', '1 0 0 0', '2 0 1 0', '3 18 3 0', '4 0 1 0', '5 18 3 0', '6 0 1 0'))
+    add('undone guarantee is put back',
+        stream(day, OPEN, guarantee(1, 4), register(1, 2, 1, 1, 1, 1, 401), guarantee(1, 900), UNDO,
+               register(1, 2, 1, 1, 1, 2, 501), register(1, 2, 1, 1, 1, 2, 500)),
+        lines('0 0 0 0', '1 0 0 0', '2 0 0 0', '3 19 0 0', '4 0 0 0', '5 0 0 0', '6 19 0 0', '7 0 1 0'))
+    add('undone confirm and withdrawal',
+        stream(day, register(1, 2, 1, 1, 1, 1, 600), register(2, 1, 1, 2, 9, 9, 5), OPEN, confirm(2, 1, 1, 2, 1, 1, 600),
+               withdraw(2, 2), register(2, 1, 1, 2, 9, 9, 7), OPEN, register(2, 1, 7, 2, 9, 9, 7), withdraw(2, 3), UNDO,
+               register(2, 1, 1, 2, 9, 9, 7), confirm(1, 2, 1, 1, 9, 9, 5), confirm(2, 1, 1, 2, 1, 1, 600),
+               register(1, 2, 4, 1, 1, 1, 300), register(1, 2, 5, 1, 2, 2, 96),
+               register(1, 2, 5, 1, 2, 2, 95), UNDO),
+        lines('0 0 0 0', '1 0 1 0', '2 0 2 0', '3 0 0 0', '4 0 1 0', '5 0 0 0', '6 0 3 0', '7 12 0 0', '8 0 4 0', '9 0 0 0',
+              '10 0 2 0', '11 14 0 0', '12 0 2 0', '13 0 1 0', '14 0 3 0', '15 19 0 0', '16 0 4 0', '17 13 0 0'))
+    add('kept batch stays', stream(day, OPEN, register(1, 2, 1, 1, 1, 1, 900), KEEP, UNDO, register(1, 2, 2, 1, 1, 1, 1), CLOSE),
+        lines('0 0 0 0', '1 0 0 0', '2 0 1 0', '3 0 0 0', '4 13 0 0', '5 18 1 0', '6 0 0 0'))
+    add('batch open at the end', stream(day, OPEN, CLOSE, OPEN), lines('0 0 0 0', '1 0 0 0', '2 12 0 0', '3 12 0 0'))
+
+
+def full_day():
+    """256 rows, then 256 schedules, settled."""
+    market = setup([0] * 25, [(0, 0), (0, 0), (0, 1000)], [(1, 1, 5000, 0), (2, 2, 0, 5000), (3, 2, 0, 5000)],
+                   [(1, 1, 1, 300, 0), (2, 2, 2, 0, 100), (3, 3, 2, 10, 120), (1, 3, 2, 50, 10)], 2)
+    items = [market]
+    for row in range(128):
+        buyer, hour = 2 + row % 2, 1 + row % 25
+        items += [register(1, buyer, row, 1, hour, 25, 1 + row % 4), confirm(buyer, 1, row, 2, hour, 25, 1 + row % 4)]
+        items += [register(buyer, 1, row, 2, hour, hour, 5)]
+    items += [register(2, 1, 999, 2, 1, 1, 1), CLOSE]
+    for place in range(257):
+        point = 1 + place % 4
+        side = 1 if point in (1, 4) else 2
+        items.append(schedule(side, 1 + place * 7 % 25, 1 + place % 40, point, 40 + place % 13))
+    items.append(SETTLE + table(*[[44 + (hour * zone) % 9 for hour in range(25)] for zone in range(1, 4)]))
+    text = replay(stream(*items))
+    assert '384 0 256 0\n' in text and '385 15 0 0\n386 0 0 0\n' in text and '642 0 256 0\n643 20 0 0\n644 0 0 0\n' in text
+    assert {line[-1] for line in text.split('\n') if line.startswith('s ')} == set('0123')
+    add('256 rows and 256 schedules', stream(*items))
+
+
+def long_day():
+    """65,536 bytes exactly, thousands of items."""
+    items = [small()]
+    size = len(stream(*items))
+    turn = 0
+    parts = (OPEN, SELL, UNDO, b'', KEEP, bare(0), withdraw(1, 1), OPEN, b'\x01\x00', OPEN, KEEP, guarantee(2, 7))
+    while True:
+        item = parts[turn % len(parts)]
+        rest = STREAM_BYTES - size - 2 - len(item)
+        if rest < 40:
+            break
+        items.append(item)
+        size += 2 + len(item)
+        turn += 1
+    items.append(bytes(STREAM_BYTES - size - 2))
+    data = stream(*items)
+    assert len(data) == STREAM_BYTES and len(items) > 5000
+    add('65,536 bytes', data)
+    add('65,537 bytes', data + b'\x00', 'long\n')
+
+
+def random_streams():
+    for seed in range(401, 413):
+        opening, calls = random_days.random_day(Days(), seed)
+        add('random day %d' % seed, stream(opening, *(call[0] + call[1] for call in calls)))
+
+
+for part in (edges, forms, verdicts, undone, full_day, long_day, random_streams):
+    part()
+
+
+def write():
+    with open('replay_test.stdin', 'wb') as given, open('replay_test.stdout', 'wb') as printed:
+        for place, (_, data, text) in enumerate(STREAMS, 1):
+            given.write(b'd' + le(len(data), 4) + data)
+            printed.write(('day %d\n' % place + text).encode())
+
+
+if __name__ == '__main__':
+    write()
+    print(len(STREAMS), 'streams,', sum(len(data) + 5 for _, data, _ in STREAMS), 'bytes')
