@@ -13,7 +13,7 @@ use Rattle.rules.specs.Limits.{mostSchedules, mostOperators}
 use Rattle.rules.specs.Replay.{Item, whole, cutShort, itemsWithin, items, callOf}
 use Rattle.items.specs.declared.Found.{Found}
 use Rattle.items.specs.declared.Found.the-variants.{Whole, Cut, End}
-use Rattle.items.specs.Stream.{foundAt, recordLength}
+use Rattle.items.specs.Stream.{foundAt, pastFound, recordLength}
 
 -- ---- items
 
@@ -149,6 +149,12 @@ module _ (s : List ℕ) (at : ℕ) where
           let h = leb-false (length s) at e in
           let k = leb-false _ (length s) f in
           rw (found-cut s at h k) (items-short s at h k)
+
+  -- past a whole item the walk goes on with the items behind it
+  pub items-past : (from end : ℕ) → foundAt s at ≡ Whole from end
+      → items (drop at s) ≡ whole (take (end - from) (drop from s)) ∷ items (drop (pastFound (foundAt s at) at) s)
+  unfolding itemsOf pastFound
+  items-past from end w = rw w (items-found ∙ ap (itemsOf s) w)
 
   -- a whole item lies within the stream
   pub found-within : (from end : ℕ) → foundAt s at ≡ Whole from end → Within s at from end

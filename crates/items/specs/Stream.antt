@@ -16,6 +16,12 @@ foundAt s at =
     else if leb (at + 2 + numberAt s at 2) (length s) then Whole (at + 2) (at + 2 + numberAt s at 2)
     else Cut
 
+-- where the walk stands past what it found: behind a whole item, else where it was
+unfoldable pub pastFound : Found → ℕ → ℕ
+pastFound (Whole from end) at = end
+pastFound Cut at = at
+pastFound End at = at
+
 -- an item with third byte 10 is 3 record bytes, then prices
 unfoldable pub recordLength : List ℕ → ℕ
 recordLength s = if eqb (getD s 2 0) 10 then 3 else length s

@@ -2,6 +2,7 @@
 pub mod figures;
 pub mod lines;
 pub mod lists;
+pub mod reader;
 pub mod stream;
 pub mod text;
 

@@ -1,6 +1,6 @@
 // The items of a stream: a 2-byte length, then that many bytes. An item is a record, and prices where its kind is 10.
 ghost use mathlib.Core.Path.{_≡_};
-ghost use Rattle.items.specs.Stream.{foundAt, recordLength};
+ghost use Rattle.items.specs.Stream.{foundAt, pastFound, recordLength};
 use crate::Found;
 use wire::numbers::get_u16;
 
@@ -29,6 +29,17 @@ pub fn item_at(stream: &[u8], at: usize) -> Found
         }
     } else {
         Found::Cut
+    }
+}
+
+// Where the walk stands past what it found at `at`.
+pub fn past_found(found: Found, at: usize) -> usize
+    ensures { λ r. ⌜ r ≡ pastFound found at ⌝ }
+{
+    match found {
+        Found::Whole { from: _, end } => end,
+        Found::Cut => at,
+        Found::End => at,
     }
 }
 
