@@ -1,8 +1,8 @@
 -- What an accepted call of each kind writes: the bytes are the image of the book, so that the write laws of images apply, and the
 -- checks that it passed keep the book sound.
-use Prim.Native.Nat.{ℕ, suc, _+_, _-_, _*_, _^_}
+use Prim.Native.Nat.{ℕ, suc, _+_, _-_, _^_}
 use mathlib.Core.Path.{_≡_, refl, sym, ap, _∙_}
-use mathlib.Core.List.{List, []}
+use mathlib.Core.List.{List}
 use mathlib.Core.Option.{none, some}
 use mathlib.Core.Bool.{true}
 use native.Mathlib.Numerals.{add-one}
@@ -17,45 +17,25 @@ use Rattle.rules.specs.Limits.{mostHours, bookSize}
 use Rattle.rules.specs.Verdicts.{accepted}
 use Rattle.rules.specs.Basics.{nth}
 use Rattle.rules.specs.Books.{Book, noRow}
-use Rattle.rules.specs.Registration.{pending, seller, buyer, proposed, confirms}
-use Rattle.rules.specs.Requests.{register, confirm, withdraw, guarantee, openBatch, undo, keep, closeGate}
-use Rattle.rules.specs.Calls.{Call, confirmedNumber, restored, given}
-use Rattle.rules.proofs.Passed.{passed-13, passed-15}
+use Rattle.rules.specs.Registration.{pending, seller, buyer, confirms}
+use Rattle.rules.specs.Requests.{confirm, withdraw, openBatch, undo, keep, closeGate}
+use Rattle.rules.specs.Calls.{confirmedNumber, restored, given}
+use Rattle.rules.proofs.Passed.{passed-13}
 use Rattle.rules.proofs.RowTests.{passed-confirm, passed-withdraw}
 use Rattle.rules.proofs.AccountHours.{pending-inside}
-use Rattle.book.specs.Layout.{rowWidth, partSize, phaseAt, flagAt, presentAt, savedAt, guaranteesAt, rowCountAt, rowAt, netAt, statusIn}
-use Rattle.book.specs.Image.{rowBytes}
+use Rattle.book.specs.Layout.{rowWidth, partSize, phaseAt, flagAt, presentAt, savedAt, rowAt, netAt, statusIn}
 use Rattle.book.specs.Valid.{isBook, bookIn}
 use Rattle.book.specs.Changes.{raised, ended}
 use Rattle.book.proofs.Sizes.{RowFits, row-fits-of, statuses-small}
 use Rattle.rules.proofs.Searches.{each-nth}
-use Rattle.book.proofs.BookWrites.{write-register, write-confirm, write-withdraw, write-guarantee, write-open, write-undo, write-keep, write-close}
-use Rattle.book.proofs.KeepsKinds.{register-keeps, confirm-keeps, withdraw-keeps, guarantee-keeps, open-keeps, undo-keeps, keep-keeps, close-keeps}
+use Rattle.book.proofs.BookWrites.{write-confirm, write-withdraw, write-open, write-undo, write-keep, write-close}
+use Rattle.book.proofs.KeepsKinds.{confirm-keeps, withdraw-keeps, open-keeps, undo-keeps, keep-keeps, close-keeps}
 use Rattle.book.proofs.StateLaws.{book-image, book-fits, book-is-sound}
-use Rattle.registration.specs.Kinds.{decided, Ready}
+use Rattle.registration.specs.Kinds.{decided}
 use Rattle.registration.proofs.Decisions.{decided-clear}
-use Rattle.registration.proofs.Readiness.{ready-input, ready-operator}
 use Rattle.registration.proofs.Answers.{Answered, AnsweredAll, accepted-answered, answered-all}
 
--- a call with nothing lent: only settle looks at more than the request
-noCall : Call
-noCall = record { bytes = []; prices = []; results = []; balances = [] }
-
 module _ (s t : List ℕ) (h : isBook s ≡ true) where
-  -- 1: the row, and the count
-  pub registered-answered : (q : Request) (n at : ℕ) → Ready register (bookIn s) q → decided register (bookIn s) q ≡ none
-      → n ≡ length (bookIn s .part .rows) → at ≡ presentAt + rowAt n
-      → t ≡ splice (splice s at (rowBytes (proposed q))) (presentAt + rowCountAt) (le 2 (n + 1)) → Answered register s q (accepted (n + 1)) t
-  unfolding given
-  registered-answered q n at r d count place e =
-      let clear = decided-clear register (bookIn s) q d in
-      accepted-answered register s q h t (n + 1) d (add-one n ∙ ap suc count)
-      (e
-      ∙ ap (λ (x : List ℕ). splice (splice x at (rowBytes (proposed q))) (presentAt + rowCountAt) (le 2 (n + 1))) (book-image s h)
-      ∙ write-register mostHours bookSize (bookIn s) (book-fits s h) q n at count (omega (arith, passed-15 (bookIn s) q clear)) place)
-      (register-keeps (bookIn s) q (book-is-sound s h) noCall (sym (r .of-kind)) (r .code-fits)
-      (ready-input register (bookIn s) q r noCall refl) clear)
-
   -- 2: the row's status, the hours of its seller, those of its buyer
   pub confirmed-answered : (q : Request) (i n at low high : ℕ) (r : Row) → decided confirm (bookIn s) q ≡ none
       → confirms (bookIn s .part .rows) q ≡ some i → r ≡ getD (bookIn s .part .rows) i noRow → r .first + n ≡ suc (r .last)
@@ -96,23 +76,6 @@ module _ (s t : List ℕ) (h : isBook s ≡ true) where
       ∙ ap (λ (x : List ℕ). splice x at (le 1 3)) (book-image s h)
       ∙ write-withdraw mostHours bookSize (bookIn s) (book-fits s h) q (q .number - 1) at (omega arith) pend place)
       (withdraw-keeps (bookIn s) q (book-is-sound s h) clear)
-
-  -- 4: the guarantee of the operator
-  pub guaranteed-answered : (q : Request) (at : ℕ) → Ready guarantee (bookIn s) q → decided guarantee (bookIn s) q ≡ none
-      → at ≡ presentAt + guaranteesAt + 8 * (q .operator - 1)
-      → t ≡ splice s at (le 8 (q .guarantee .0)) → Answered guarantee s q (accepted 0) t
-  unfolding given
-  guaranteed-answered q at r d place e =
-      let b : Book = bookIn s in
-      let sound = book-is-sound s h in
-      let clear = decided-clear guarantee b q d in
-      let all = sound .part-sound .guarantees-all in
-      let w = ready-operator b q r in
-      accepted-answered guarantee s q h t 0 d refl
-      (e
-      ∙ ap (λ (x : List ℕ). splice x at (le 8 (q .guarantee .0))) (book-image s h)
-      ∙ write-guarantee mostHours bookSize b (book-fits s h) q (q .operator - 1) at (omega arith) (omega arith) place)
-      (guarantee-keeps b q sound noCall (sym (r .of-kind)) (ready-input guarantee b q r noCall refl) clear)
 
   -- 5: the present part copied over the saved one, and the flag
   pub opened-answered : ((q : Request) → decided openBatch (bookIn s) q ≡ none)

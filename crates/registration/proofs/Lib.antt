@@ -15,8 +15,6 @@ pub mod SearchLaws
 pub mod MarginLaws
 -- CoverLaws: what stands in a book of an operator, of an account its operator, and what covers its exposure.
 pub mod CoverLaws
--- ReadyLaws: a request that is ready passed what the input is refused for.
-pub mod ReadyLaws
 -- LodgingLaws: what the state refuses a guarantee for, and what an accepted one writes.
 pub mod LodgingLaws
 -- ProposalLaws: what the state refuses a register for, and what an accepted one writes.

@@ -1,22 +1,21 @@
 -- A guarantee replaced: the rows stand, so that the exposure is that of the present rows, and only the 8 bytes of the guarantee change.
 use Prim.Native.Nat.{ℕ, zero, suc, _+_, _-_, _*_, _≤_}
 use mathlib.Core.Path.{_≡_, refl, sym, ap, _∙_}
-use mathlib.Core.List.{List, []}
-use mathlib.Core.Option.{Option, none, some}
-use mathlib.Core.Bool.{Bool, true, false, not}
+use mathlib.Core.List.{List}
+use mathlib.Core.Option.{none, some}
+use mathlib.Core.Bool.{Bool, true, false}
 use native.Mathlib.Omega.{arith}
-use lib.ListN.{length, set, getD}
+use lib.ListN.{length}
 use lib.Seq.{getD-set-same}
-use lib.Dec.{eqb, leb}
+use lib.Dec.{leb}
 use borrow.Author.Tests.{eq-eqb, leb-true}
 use Rattle.wire.specs.Numbers.{le}
 use Rattle.wire.specs.Regions.{splice}
 use Rattle.units.specs.Units.{cents}
 use Rattle.units.specs.declared.Cents.{Cents}
 use Rattle.rules.specs.declared.Request.{Request}
-use Rattle.rules.specs.declared.Refusal.{Refusal}
 use Rattle.rules.specs.declared.Refusal.the-variants.{Uncovered}
-use Rattle.rules.specs.Basics.{bit, put, nth}
+use Rattle.rules.specs.Basics.{bit, put}
 use Rattle.rules.specs.Limits.{mostHours, mostGuarantee, thousand, bookSize}
 use Rattle.rules.specs.Verdicts.{lowest, accepted}
 use Rattle.rules.specs.Books.{Book, countsOf, maintenanceAt, guaranteeAt, operatorCount}
@@ -25,14 +24,14 @@ use Rattle.rules.specs.Registration.{exposure, covered}
 use Rattle.rules.specs.Calls.{next, given, stateChecks}
 use Rattle.rules.proofs.Tests.{within-true}
 use Rattle.rules.proofs.Passed.{field-in-range}
-use Rattle.book.specs.Layout.{presentAt, guaranteesAt}
+use Rattle.book.specs.Layout.{presentAt}
 use Rattle.book.specs.Valid.{isBook, bookIn}
 use Rattle.book.proofs.BookWrites.{write-guarantee}
 use Rattle.book.proofs.KeepsKinds.{guarantee-keeps}
 use Rattle.book.proofs.StateLaws.{book-image, book-fits, book-is-sound}
 use Rattle.registration.specs.Kinds.{decided, Ready}
 use Rattle.registration.proofs.Decisions.{decided-clear}
-use Rattle.registration.proofs.ReadyLaws.{bare, ready-input}
+use Rattle.registration.proofs.Readiness.{bare, ready-input}
 use Rattle.registration.proofs.Answers.{Answered, accepted-answered}
 use Rattle.registration.proofs.CoverLaws.{covered-by}
 
@@ -89,4 +88,4 @@ lodged-answered s t h q at r d place e =
     (e
     ∙ ap (λ (x : List ℕ). splice x at (le 8 (q .guarantee .0))) (book-image s h)
     ∙ write-guarantee mostHours bookSize (bookIn s) (book-fits s h) q (q .operator - 1) at (omega arith) (omega arith) (omega arith))
-    (guarantee-keeps (bookIn s) q (book-is-sound s h) bare (sym (r .of-kind)) (ready-input (bookIn s) q guarantee refl r) (decided-clear guarantee (bookIn s) q d))
+    (guarantee-keeps (bookIn s) q (book-is-sound s h) bare (sym (r .of-kind)) (ready-input guarantee (bookIn s) q r bare refl) (decided-clear guarantee (bookIn s) q d))

@@ -38,7 +38,7 @@ use Rattle.registration.specs.Kinds.{decided, Ready}
 use Rattle.registration.specs.Margins.{brokenBy, broken}
 use Rattle.registration.proofs.Decisions.{decided-clear}
 use Rattle.registration.proofs.Answers.{Answered, accepted-answered}
-use Rattle.registration.proofs.ReadyLaws.{bare, ready-input}
+use Rattle.registration.proofs.Readiness.{bare, ready-input}
 use Rattle.registration.proofs.SearchLaws.{find-cong}
 
 -- ---- a search over rows
@@ -72,7 +72,7 @@ any-step found p s at n m d r h e =
 -- ---- a request that is ready
 
 pub ready-row : (b : Book) (q : Request) → Ready register b q → SoundRow (b .setup) (proposed q)
-ready-row b q r = proposed-sound b bare q (sym (r .of-kind)) (r .code-fits) (ready-input b q register refl r)
+ready-row b q r = proposed-sound b bare q (sym (r .of-kind)) (r .code-fits) (ready-input register b q r bare refl)
 
 pub ready-tabled : (s : List ℕ) (q : Request) → isBook s ≡ true → Ready register (bookIn s) q → Tabled (proposed q)
 ready-tabled s q h r = sound-tabled (bookIn s .setup) (book-is-sound s h .setup-sound) (proposed q) (ready-row (bookIn s) q r)
@@ -190,4 +190,4 @@ registered-answered s t h q n r d e few w =
     (w
     ∙ ap (λ (x : List ℕ). splice (splice x (presentAt + rowAt n) (rowBytes (proposed q))) (presentAt + rowCountAt) (le 2 (n + 1))) (book-image s h)
     ∙ write-register mostHours bookSize (bookIn s) (book-fits s h) q n (presentAt + rowAt n) e few refl)
-    (register-keeps (bookIn s) q (book-is-sound s h) bare (sym (r .of-kind)) (r .code-fits) (ready-input (bookIn s) q register refl r) (decided-clear register (bookIn s) q d))
+    (register-keeps (bookIn s) q (book-is-sound s h) bare (sym (r .of-kind)) (r .code-fits) (ready-input register (bookIn s) q r bare refl) (decided-clear register (bookIn s) q d))

@@ -16,6 +16,10 @@ use Rattle.rules.proofs.Clearing.{Clear}
 use Rattle.rules.proofs.Passed.{field-in-range}
 use Rattle.registration.specs.Kinds.{Ready}
 
+-- a call that lends nothing: only settle looks at more than the request
+abbrev pub bare : Call
+bare = record { bytes = []; prices = []; results = []; balances = [] }
+
 module _ (k : Kind) (b : Book) (q : Request) (r : Ready k b q) where
   -- each field of the kind is in range
   pub ready-field : (i : ℕ) → i < fieldCount → bit (wantedMap (kindNumber k)) i ≡ true → getD (inRange (countsOf (b .setup)) q) i true ≡ true
