@@ -1,4 +1,6 @@
 """Named streams of a day and the text that their replay prints."""
+import pathlib
+
 import random_days
 from cases import Days
 from reading import STREAM_BYTES, replay
@@ -207,12 +209,13 @@ for part in (edges, forms, verdicts, undone, full_day, long_day, random_streams)
 
 
 def write():
-    with open('replay_test.stdin', 'wb') as given, open('replay_test.stdout', 'wb') as printed:
-        for place, (_, data, text) in enumerate(STREAMS, 1):
-            given.write(b'd' + le(len(data), 4) + data)
-            printed.write(('day %d\n' % place + text).encode())
+    program = pathlib.Path(__file__).parents[2] / 'crates' / 'replay_test'
+    given = b''.join(b'd' + le(len(data), 4) + data for _, data, _ in STREAMS)
+    printed = ''.join('day %d\n' % place + text for place, (_, _, text) in enumerate(STREAMS, 1))
+    (program / 'stdin').write_bytes(given)
+    (program / 'stdout').write_bytes(printed.encode())
 
 
 if __name__ == '__main__':
     write()
-    print(len(STREAMS), 'streams,', sum(len(data) + 5 for _, data, _ in STREAMS), 'bytes')
+    print(len(STREAMS), 'streams')

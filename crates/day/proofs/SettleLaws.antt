@@ -30,7 +30,7 @@ use Rattle.book.proofs.MoneyLaws.{settled-gained-most, settled-lost-most}
 use Rattle.day.specs.Figures.{figuresIn, sum}
 use Rattle.day.proofs.FigureLaws.{SmallBalance, figures-back, sum-of-balances}
 
-each-made : {A B : Type 0} {P : B → Type 0} (f : A → B) (xs : List A) → ((x : A) → P (f x)) → Each P (map f xs)
+pub each-made : {A B : Type 0} {P : B → Type 0} (f : A → B) (xs : List A) → ((x : A) → P (f x)) → Each P (map f xs)
 each-made f [] h = nil
 each-made f (x ∷ xs) h = cons (h x) (each-made f xs h)
 

@@ -25,7 +25,7 @@ use Rattle.book.proofs.StateLaws.{book-image, book-fits, book-is-sound}
 use Rattle.registration.specs.Kinds.{decided, Ready}
 use Rattle.registration.proofs.Decisions.{decided-clear}
 use Rattle.registration.proofs.Answers.{Answered, accepted-answered}
-use Rattle.registration.proofs.ReadyLaws.{bare, ready-input}
+use Rattle.registration.proofs.Readiness.{bare, ready-input}
 use Rattle.registration.proofs.ProposalLaws.{byte}
 use Rattle.settlement.proofs.Decisions.{few-schedules}
 
@@ -34,7 +34,7 @@ pub ready-fits : (s : List ℕ) (q : Request) (x : Schedule) → isBook s ≡ tr
     → Small scheduleWidths (scheduleValues x)
 ready-fits s q x h r e =
     rw e (schedule-small (bookIn s .setup) (scheduled q) (book-is-sound s h .setup-sound)
-    (scheduled-sound (bookIn s) bare q (sym (r .of-kind)) (ready-input (bookIn s) q schedule refl r)))
+    (scheduled-sound (bookIn s) bare q (sym (r .of-kind)) (ready-input schedule (bookIn s) q r bare refl)))
 
 -- the 11 bytes of a schedule whose values fit them
 pub schedule-literal : (x : Schedule) → Small scheduleWidths (scheduleValues x)
@@ -66,4 +66,4 @@ scheduled-answered s t h q n r d e w =
     (w
     ∙ ap (λ (x : List ℕ). splice (splice x (schedulesAt + scheduleWidth * n) (scheduleBytes (scheduled q))) scheduleCountAt (le 2 (n + 1))) (book-image s h)
     ∙ write-schedule mostHours bookSize (bookIn s) (book-fits s h) q n (schedulesAt + scheduleWidth * n) e (omega (arith, e, few)) refl)
-    (schedule-keeps (bookIn s) q (book-is-sound s h) bare (sym (r .of-kind)) (ready-input (bookIn s) q schedule refl r) (decided-clear schedule (bookIn s) q d))
+    (schedule-keeps (bookIn s) q (book-is-sound s h) bare (sym (r .of-kind)) (ready-input schedule (bookIn s) q r bare refl) (decided-clear schedule (bookIn s) q d))

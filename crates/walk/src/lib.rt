@@ -1,0 +1,10 @@
+// A day's stream walked item by item on the bytes of a book, and the lines that each item prints.
+pub mod answers;
+pub mod steps;
+
+// What a step did: whether the walk goes on, where the next item begins, and where the lines in the buffer end.
+pub struct Walked {
+    pub goes_on: bool,
+    pub next: usize,
+    pub end: usize,
+}
