@@ -1,0 +1,59 @@
+-- The ways out of a lent buffer, and the signed word of a position.
+use Prim.Native.Nat.{ℕ, zero, suc, _-_, _^_, _≤_, _<_}
+use mathlib.Core.Path.{_≡_, refl, sym, ap, _∙_}
+use mathlib.Core.List.{List}
+use native.Mathlib.Nat.{zero-add}
+use native.Mathlib.Omega.{arith}
+use lib.ListN.{length}
+use lib.IntN.{pos, negℤ, subℕ}
+use borrow.Author.Tests.{lt-ltb, le-ltb}
+use Rattle.wire.specs.Numbers.{le, signed}
+use Rattle.wire.specs.Regions.{splice}
+use Rattle.wire.proofs.NumberLaws.{signed-minus}
+use Rattle.wire.proofs.RegionLaws.{splice-take-drop}
+use Rattle.rules.specs.declared.Position.{Position}
+use Rattle.rules.specs.declared.Position.the-variants.{Long, Short}
+use Rattle.rules.specs.declared.Refusal.the-variants.{BufferShort}
+use Rattle.rules.specs.Verdicts.{accepted, refused, lowest}
+use Rattle.rules.specs.Readings.{positionFigure}
+use Rattle.day.specs.Figures.{figureIn}
+use Rattle.day.proofs.FigureLaws.{figure-back}
+use Rattle.abi.specs.Lending.{lentRefusal, lentOutcome, lentBytes}
+
+-- ---- a lent buffer
+
+module _ (said buffer : List ℕ) where
+  pub no-room : length buffer < length said → (refused BufferShort ≡ lentOutcome said buffer) × (buffer ≡ lentBytes said buffer)
+  unfolding lentOutcome lentBytes lentRefusal lowest
+  no-room h = let t = lt-ltb (length buffer) (length said) h in (rw t, rw t)
+
+  pub room : length said ≤ length buffer → (accepted 0 ≡ lentOutcome said buffer) × (splice buffer 0 said ≡ lentBytes said buffer)
+  unfolding lentOutcome lentBytes lentRefusal lowest
+  room h =
+      let t = le-ltb (length buffer) (length said) h in
+      (rw t, splice-take-drop buffer 0 said ∙ rw (t, zero-add (length said)))
+
+-- ---- minus a number, in two's complement
+
+pub minus-word : (v : ℕ) → 0 < v → v < 2 ^ 32 → le 8 (18_446_744_073_709_551_615 - (v - 1)) ≡ signed 8 (negℤ (pos v))
+minus-word zero h f = absurd (omega arith)
+minus-word (suc n) h f =
+    let e : 18_446_744_073_709_551_615 - (suc n - 1) ≡ 256 ^ 8 - suc n = omega arith in
+    ap (le 8) e ∙ sym (signed-minus 8 n (omega arith))
+
+-- ---- the figure of a position reads back
+
+less-none : (n : ℕ) → subℕ n 0 ≡ pos n
+less-none n = let e : n - 0 ≡ n = omega arith in rw (le-ltb n 0 (omega arith), e)
+
+from-none : (n : ℕ) → subℕ 0 n ≡ negℤ (pos n)
+from-none zero = refl
+from-none (suc n) = let e : suc n - 1 ≡ n = omega arith in rw (lt-ltb 0 (suc n) (omega arith), e)
+
+abbrev pub energyOf : Position → ℕ
+energyOf (Long x) = x .0
+energyOf (Short x) = x .0
+
+pub position-back : (p : Position) → energyOf p < 2 ^ 63 → figureIn (signed 8 (positionFigure p)) ≡ positionFigure p
+position-back (Long x) h = rw (← less-none (x .0)) (figure-back (x .0) 0 h (omega arith))
+position-back (Short x) h = rw (← from-none (x .0)) (figure-back 0 (x .0) (omega arith) h)

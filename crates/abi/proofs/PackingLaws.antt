@@ -1,0 +1,24 @@
+-- An outcome's one number taken apart gives the three numbers back.
+use Prim.Native.Nat.{ℕ, _+_, _*_, _/_, _%_, _<_}
+use mathlib.Core.Path.{_≡_, ap, _∙_}
+use native.Mathlib.Omega.{arith}
+use Rattle.rules.specs.Verdicts.{Numbers}
+use Rattle.abi.specs.Packing.{packed, unpacked}
+
+pub apart : (number first second : ℕ) → number < 256 → first < 65_536 → second < 65_536
+    → _≡_ {A = Numbers} (unpacked (packed (number, first, second))) (number, first, second)
+unfolding packed unpacked
+apart number first second a b c =
+    let p : ℕ = number + 256 * (first + 65_536 * second) in
+    let e : p % 256 ≡ number = omega arith in
+    let f : p / 256 ≡ first + 65_536 * second = omega arith in
+    let g : (first + 65_536 * second) % 65_536 ≡ first = omega arith in
+    let h : (first + 65_536 * second) / 65_536 ≡ second = omega arith in
+    let i : second % 65_536 ≡ second = omega arith in
+    rw (e, f, g, h, i)
+
+-- the sum that the code makes of them is their one number
+pub packs : (number first second : ℕ) (x : Numbers) → number < 256 → first < 65_536 → second < 65_536 → _≡_ {A = Numbers} (number, first, second) x
+    → (number + 256 * (first + 65_536 * second) ≡ packed x) × (unpacked (number + 256 * (first + 65_536 * second)) ≡ x)
+unfolding packed
+packs number first second x a b c e = (ap packed e, apart number first second a b c ∙ e)

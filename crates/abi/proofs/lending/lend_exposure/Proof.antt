@@ -1,0 +1,42 @@
+-- By cases on the reading.
+use mathlib.Core.Path.{refl}
+use borrow.Author.Needs.{needs}
+use Rattle.abi.proofs.lending.lend_exposure.Statement.{statement}
+use Rattle.abi.proofs.lending.lend_exposure.Tie as tie
+
+enum-known-reading : tie.Need-enum-known-reading
+enum-known-reading c = search needs
+
+enum-known-reading-2 : tie.Need-enum-known-reading-2
+enum-known-reading-2 c = search needs
+
+word-bytes-requires : tie.Need-word-bytes-requires
+word-bytes-requires c κs = search needs
+
+slice-aggregate-lend : tie.Need-slice-aggregate-lend
+slice-aggregate-lend c = search needs
+
+lend-requires : tie.Need-lend-requires
+lend-requires c κs = search needs
+
+returns : tie.Need-returns
+returns c = rw (c .before .reading .given .1) (refl, refl)
+
+same-length : tie.Need-same-length
+same-length c = search needs
+
+returns-2 : tie.Need-returns-2
+returns-2 c = rw (c .before .before .before .before .before .before .before .reading2 .given .1, ← c .before .before .before .before .before .word-bytes .ensures) (c .before .before .lend .ensures)
+
+pub lend-exposure-spec : {M : Type 1} → statement M
+lend-exposure-spec =
+    tie.close
+    (tie.spec
+    enum-known-reading
+    enum-known-reading-2
+    word-bytes-requires
+    slice-aggregate-lend
+    lend-requires
+    returns
+    same-length
+    returns-2)

@@ -1,0 +1,118 @@
+// Readings told to a buffer that the caller lends: its first bytes are filled, or the reading is refused and it stays as it was.
+ghost use mathlib.Core.Path.{_≡_};
+ghost use Rattle.wire.specs.Numbers.{le, signed};
+ghost use lib.IntN.{pos, negℤ};
+ghost use Rattle.rules.specs.Readings.{positionFigure};
+ghost use Rattle.abi.specs.Lending.{lentOutcome, lentBytes, netOutcome, netBytes, exposureOutcome, exposureBytes, readOutcome, readBytes};
+use crate::fields::request_bytes;
+use rules::ExposureReading;
+use rules::NetReading;
+use rules::Outcome;
+use rules::Position;
+use rules::Reading;
+use rules::Refusal;
+use rules::Verdict;
+use wire::regions::copy_in;
+
+// The greatest number of 8 bytes.
+const ALL_ONES: u64 = 18_446_744_073_709_551_615;
+
+// Fills the first bytes of the buffer, or refuses by 10.
+fn lend(said: &[u8], buffer: &mut [u8]) -> Outcome
+    ensures answer { λ o. ⌜ o ≡ lentOutcome (now (said .entry)) (now (buffer .entry)) ⌝ }
+    ensures filled { λ _. ⌜ now (buffer .exit) ≡ lentBytes (now (said .entry)) (now (buffer .entry)) ⌝ }
+{
+    if buffer.len() < said.len() {
+        return Outcome {
+            verdict: Verdict::Refused(Refusal::BufferShort),
+        };
+    }
+    copy_in(buffer, 0, said);
+    Outcome {
+        verdict: Verdict::Accepted { number: 0 },
+    }
+}
+
+// The 8 bytes of a number.
+fn word_bytes(v: u64) -> [u8; 8]
+    ensures { λ r. ⌜ r ≡ le 8 v ⌝ }
+{
+    [
+        (v % 256) as u8,
+        (v / 256 % 256) as u8,
+        (v / 256 / 256 % 256) as u8,
+        (v / 256 / 256 / 256 % 256) as u8,
+        (v / 256 / 256 / 256 / 256 % 256) as u8,
+        (v / 256 / 256 / 256 / 256 / 256 % 256) as u8,
+        (v / 256 / 256 / 256 / 256 / 256 / 256 % 256) as u8,
+        (v / 256 / 256 / 256 / 256 / 256 / 256 / 256 % 256) as u8,
+    ]
+}
+
+// Minus `v` in two's complement.
+fn minus(v: u32) -> u64
+    ensures { λ r. ⌜ le 8 r ≡ signed 8 (negℤ (pos v)) ⌝ }
+{
+    if v == 0 {
+        return 0;
+    }
+    ALL_ONES - ((v - 1) as u64)
+}
+
+// A position as a signed word.
+fn position_word(p: Position) -> u64
+    ensures { λ r. ⌜ le 8 r ≡ signed 8 (positionFigure p) ⌝ }
+{
+    match p {
+        Position::Long(x) => x.0 as u64,
+        Position::Short(x) => minus(x.0),
+    }
+}
+
+// A net position: 8 bytes, signed.
+pub fn lend_net(reading: NetReading, figure: &mut [u8]) -> Outcome
+    ensures answer { λ o. ⌜ o ≡ netOutcome reading (now (figure .entry)) ⌝ }
+    ensures filled { λ _. ⌜ now (figure .exit) ≡ netBytes reading (now (figure .entry)) ⌝ }
+{
+    match reading {
+        NetReading::Unread(r) => Outcome {
+            verdict: Verdict::Refused(r),
+        },
+        NetReading::Stands(p) => {
+            let said = word_bytes(position_word(p));
+            lend(&said, figure)
+        }
+    }
+}
+
+// An exposure: 8 bytes.
+pub fn lend_exposure(reading: ExposureReading, figure: &mut [u8]) -> Outcome
+    ensures answer { λ o. ⌜ o ≡ exposureOutcome reading (now (figure .entry)) ⌝ }
+    ensures filled { λ _. ⌜ now (figure .exit) ≡ exposureBytes reading (now (figure .entry)) ⌝ }
+{
+    match reading {
+        ExposureReading::Unread(r) => Outcome {
+            verdict: Verdict::Refused(r),
+        },
+        ExposureReading::Stands(x) => {
+            let said = word_bytes(x.0);
+            lend(&said, figure)
+        }
+    }
+}
+
+// A request: its fields in 34 bytes.
+pub fn lend_request(reading: Reading, fields: &mut [u8]) -> Outcome
+    ensures answer { λ o. ⌜ o ≡ readOutcome reading (now (fields .entry)) ⌝ }
+    ensures filled { λ _. ⌜ now (fields .exit) ≡ readBytes reading (now (fields .entry)) ⌝ }
+{
+    match reading {
+        Reading::Unread(r) => Outcome {
+            verdict: Verdict::Refused(r),
+        },
+        Reading::Read(q) => {
+            let said = request_bytes(q);
+            lend(&said, fields)
+        }
+    }
+}

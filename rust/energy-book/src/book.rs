@@ -1,0 +1,115 @@
+//! A book that this crate owns.
+
+use std::fmt;
+
+use crate::{raw, Refusal, Request, Verdict, BALANCES_MOST, BOOK_SIZE, FIGURE_SIZE, RESULTS_MOST};
+
+/// Where the bytes of a book say how many operators it has and how many schedules stand (docs/LAYOUT.md).
+const OPERATORS_AT: usize = 1;
+const SCHEDULES_AT: usize = 8_194;
+
+/// A book of one day. Its bytes are those of a book at all times.
+#[derive(Clone, PartialEq, Eq)]
+pub struct Book {
+    bytes: Box<[u8; BOOK_SIZE]>,
+}
+
+/// What an accepted settle gives.
+#[derive(Clone, Debug, PartialEq, Eq)]
+pub struct Settlement {
+    /// By place: 0 registered, 1 over the point's greatest amount, 2 over the account's, 3 not at its price.
+    pub results: Vec<u8>,
+    /// By operator, in thousandths of a cent.
+    pub balances: Vec<i64>,
+}
+
+/// The price table of a settle: PUN for each hour, then each zone's prices, zone by zone, in cents per MWh.
+pub fn price_table(pun: &[u32], zones: &[&[u32]]) -> Vec<u8> {
+    let zones = zones.iter().flat_map(|prices| prices.iter());
+    pun.iter().chain(zones).flat_map(|price| price.to_le_bytes()).collect()
+}
+
+impl Book {
+    /// Opens a book from the bytes of a set-up, or is refused by 8 or 9.
+    ///
+    /// ```
+    /// use energy_book::{Book, Refusal};
+    ///
+    /// assert_eq!(Book::open(&[24, 1, 1, 0]), Err(Refusal::SetupShape));
+    /// ```
+    pub fn open(setup: &[u8]) -> Result<Book, Refusal> {
+        let mut bytes = zeros();
+        raw::open(setup, &mut bytes[..]).ok()?;
+        Ok(Book { bytes })
+    }
+
+    /// The book that these bytes are, or 1.
+    pub fn from_bytes(bytes: &[u8]) -> Result<Book, Refusal> {
+        if !raw::is_book(bytes) {
+            return Err(Refusal::NotABook);
+        }
+        let mut own = zeros();
+        own.copy_from_slice(bytes);
+        Ok(Book { bytes: own })
+    }
+
+    /// All bytes of the book, to be stored or sent; [`Book::from_bytes`] takes them back.
+    pub fn as_bytes(&self) -> &[u8; BOOK_SIZE] {
+        &self.bytes
+    }
+
+    /// A request of any kind but settle: lent no price table and no buffers, so that a settle is refused.
+    pub fn submit(&mut self, request: &Request) -> Verdict {
+        match request.to_record() {
+            Ok(record) => self.call(&record, &[], &mut [], &mut []),
+            Err(refusal) => Verdict::Refused(refusal),
+        }
+    }
+
+    /// The request that a record says. Only settle looks at the price table and fills the two buffers.
+    pub fn call(&mut self, record: &[u8], prices: &[u8], results: &mut [u8], balances: &mut [u8]) -> Verdict {
+        raw::call(record, &mut self.bytes[..], prices, results, balances)
+    }
+
+    /// Settles the day at a price table ([`price_table`]).
+    pub fn settle(&mut self, prices: &[u8]) -> Result<Settlement, Refusal> {
+        let record = Request::settle().to_record()?;
+        let mut results = [0; RESULTS_MOST];
+        let mut balances = [0; BALANCES_MOST];
+        self.call(&record, prices, &mut results, &mut balances).ok()?;
+        let schedules = u16::from_le_bytes([self.bytes[SCHEDULES_AT], self.bytes[SCHEDULES_AT + 1]]);
+        let operators = usize::from(self.bytes[OPERATORS_AT]);
+        Ok(Settlement {
+            results: results[..usize::from(schedules)].to_vec(),
+            balances: balances.chunks_exact(FIGURE_SIZE).take(operators).map(figure).collect(),
+        })
+    }
+
+    /// The net position of an account in an hour, in kWh, bought less sold; or 6.
+    pub fn net(&self, account: u8, hour: u8) -> Result<i64, Refusal> {
+        let mut bytes = [0; FIGURE_SIZE];
+        raw::net(&self.bytes[..], account, hour, &mut bytes).ok()?;
+        Ok(i64::from_le_bytes(bytes))
+    }
+
+    /// The exposure of an operator, in thousandths of a cent; or 6.
+    pub fn exposure(&self, operator: u8) -> Result<u64, Refusal> {
+        let mut bytes = [0; FIGURE_SIZE];
+        raw::exposure(&self.bytes[..], operator, &mut bytes).ok()?;
+        Ok(u64::from_le_bytes(bytes))
+    }
+}
+
+impl fmt::Debug for Book {
+    fn fmt(&self, f: &mut fmt::Formatter<'_>) -> fmt::Result {
+        f.debug_struct("Book").finish_non_exhaustive()
+    }
+}
+
+fn zeros() -> Box<[u8; BOOK_SIZE]> {
+    vec![0; BOOK_SIZE].into_boxed_slice().try_into().expect("as many bytes as a book has")
+}
+
+fn figure(bytes: &[u8]) -> i64 {
+    i64::from_le_bytes(bytes.try_into().expect("8 bytes"))
+}

@@ -1,0 +1,229 @@
+//! The boundary: buffers of every length, any bytes, unaligned books, threads. A refusal changes no byte that was lent.
+
+mod common;
+
+use common::{sale, setup, Numbers};
+use energy_book::{raw, Book, Refusal, Request, Side, Terms, Verdict, BOOK_SIZE, FIELDS_SIZE, FIGURE_SIZE, RECORD_MOST};
+
+const MARK: u8 = 0xA5;
+
+fn opened() -> Vec<u8> {
+    Book::open(&setup(1_000_000).to_bytes()).unwrap().as_bytes().to_vec()
+}
+
+/// A book with a confirmed and a pending row, in a batch.
+fn traded() -> Book {
+    let mut book = Book::open(&setup(1_000_000).to_bytes()).unwrap();
+    for request in [
+        Request::register(1, 2, sale(u64::MAX, 7)),
+        Request::confirm(2, 1, sale(u64::MAX, 7).mirrored()),
+        Request::open_batch(),
+        Request::register(1, 2, sale(2, 9)),
+    ] {
+        book.submit(&request).ok().unwrap();
+    }
+    book
+}
+
+#[test]
+fn books_of_every_length_near_the_right_one() {
+    let bytes = setup(1).to_bytes();
+    for length in [0, 1, BOOK_SIZE - 1, BOOK_SIZE + 1, 2 * BOOK_SIZE] {
+        let mut book = vec![MARK; length];
+        let mut figure = [MARK; FIGURE_SIZE];
+        assert_eq!(raw::open(&bytes, &mut book), Verdict::Refused(Refusal::NotABook));
+        assert_eq!(raw::call(&[1, 0, 5], &mut book, &[], &mut [], &mut []), Verdict::Refused(Refusal::NotABook));
+        assert_eq!(raw::net(&book, 1, 1, &mut figure), Verdict::Refused(Refusal::NotABook));
+        assert_eq!(raw::exposure(&book, 1, &mut figure), Verdict::Refused(Refusal::NotABook));
+        assert!(!raw::is_book(&book));
+        assert!(book.iter().chain(&figure).all(|byte| *byte == MARK));
+    }
+}
+
+#[test]
+fn opening_fills_the_whole_buffer() {
+    let mut book = vec![MARK; BOOK_SIZE];
+    assert_eq!(raw::open(&setup(1_000_000).to_bytes(), &mut book), Verdict::Accepted { number: 0 });
+    assert!(book == opened());
+}
+
+#[test]
+fn figures_into_buffers_of_every_length() {
+    let book = traded();
+    for length in 0..=2 * FIGURE_SIZE {
+        let mut net = vec![MARK; length];
+        let mut exposure = vec![MARK; length];
+        let verdicts = (raw::net(book.as_bytes(), 1, 1, &mut net), raw::exposure(book.as_bytes(), 1, &mut exposure));
+        if length < FIGURE_SIZE {
+            let short = Verdict::Refused(Refusal::BufferShort);
+            assert_eq!(verdicts, (short, short));
+            assert!(net.iter().chain(&exposure).all(|byte| *byte == MARK));
+        } else {
+            assert_eq!(verdicts, (Verdict::Accepted { number: 0 }, Verdict::Accepted { number: 0 }));
+            assert_eq!(net[..FIGURE_SIZE], (-7i64).to_le_bytes());
+            assert_eq!(exposure[..FIGURE_SIZE], (16 * 5_000u64).to_le_bytes());
+            assert!(net[FIGURE_SIZE..].iter().chain(&exposure[FIGURE_SIZE..]).all(|byte| *byte == MARK));
+        }
+    }
+    // 1 and 6 come before 10.
+    assert_eq!(raw::net(&[], 1, 1, &mut []), Verdict::Refused(Refusal::NotABook));
+    assert_eq!(raw::exposure(book.as_bytes(), 3, &mut []), Verdict::Refused(Refusal::OutOfRange { bit: 9 }));
+}
+
+#[test]
+fn records_and_fields_of_every_length() {
+    let request = Request::register(1, 2, sale(0x0102_0304_0506_0708, 0x0A0B_0C0D));
+    let record = request.to_record().unwrap();
+    for length in 0..=2 * FIELDS_SIZE {
+        let mut fields = vec![MARK; length];
+        let read = raw::read(&record, &mut fields);
+        let mut written = vec![MARK; length];
+        let wrote = raw::write(&request.to_fields(), &mut written);
+        let enough =
+            |most: usize| if length < most { Verdict::Refused(Refusal::BufferShort) } else { Verdict::Accepted { number: 0 } };
+        assert_eq!((read, wrote), (enough(FIELDS_SIZE), enough(RECORD_MOST)));
+        let filled = |most: usize| if length < most { 0 } else { most };
+        assert_eq!(fields[..filled(FIELDS_SIZE)], request.to_fields()[..filled(FIELDS_SIZE)]);
+        assert_eq!(written[..filled(RECORD_MOST)], record[..filled(RECORD_MOST)]);
+        let rest = fields[filled(FIELDS_SIZE)..].iter().chain(&written[filled(RECORD_MOST)..]);
+        assert!(rest.into_iter().all(|byte| *byte == MARK));
+        let mut buffer = [MARK; RECORD_MOST];
+        let from = raw::write(&vec![1; length], &mut buffer);
+        assert_eq!(from == Verdict::Refused(Refusal::WrongLength), length != FIELDS_SIZE);
+    }
+}
+
+#[test]
+fn requests_and_records_there_and_back() {
+    let requests = [
+        Request::register(1, 2, sale(u64::MAX, u32::MAX)),
+        Request::confirm(255, 254, sale(1, 2).mirrored()),
+        Request::withdraw(3, u16::MAX),
+        Request::guarantee(4, u64::MAX),
+        Request::open_batch(),
+        Request::undo(),
+        Request::keep(),
+        Request::close_gate(),
+        Request::schedule(5, Side::Buys, 6, 7, u32::MAX),
+        Request::settle(),
+    ];
+    for request in requests {
+        assert_eq!(Request::from_fields(&request.to_fields()), request);
+        assert_eq!(Request::from_record(&request.to_record().unwrap()), Ok(request));
+    }
+    assert_eq!(Request::default().to_record(), Err(Refusal::UnknownKind));
+    assert_eq!(Request::from_record(&[3, 0, 6]), Err(Refusal::WrongMap { missing: 0, unwanted: 1 }));
+    assert_eq!(Request::from_record(&[1, 0, 1]), Err(Refusal::WrongMap { missing: 7, unwanted: 0 }));
+}
+
+/// A request with small numbers, so that many are accepted.
+fn small_request(numbers: &mut Numbers) -> Request {
+    let mut small = |n: u64| 1 + numbers.below(n) as u8;
+    let (account, other, first) = (small(2), small(2), small(2));
+    let side = if small(2) == 1 { Side::Sells } else { Side::Buys };
+    let terms = Terms { code: small(2).into(), side, first, last: 2, quantity: small(2).into() };
+    match small(16) {
+        1..=4 => Request::register(account, other, terms),
+        5..=8 => Request::confirm(account, other, terms),
+        9 => Request::withdraw(account, small(8).into()),
+        10 => Request::guarantee(account, u64::from(small(200)) * 10_000),
+        11 => Request::open_batch(),
+        12 => Request::undo(),
+        13 => Request::keep(),
+        14 => [Request::close_gate(), Request::open_batch()][usize::from(small(8) > 1)],
+        15 => Request::schedule(1, side, first, small(2).into(), 0),
+        _ => Request::settle(),
+    }
+}
+
+/// The record of a request, or one that is damaged: cut, longer, or with another byte.
+fn some_record(numbers: &mut Numbers) -> Vec<u8> {
+    let mut record = small_request(numbers).to_record().unwrap();
+    let at = numbers.below(record.len() as u64) as usize;
+    match numbers.below(16) {
+        0 => record.truncate(at),
+        1 => record.push(at as u8),
+        2 => record[at] = numbers.below(256) as u8,
+        _ => {}
+    }
+    record
+}
+
+#[test]
+fn any_record_leaves_a_book_and_a_refusal_leaves_all() {
+    let mut numbers = Numbers(88_172_645_463_325_252);
+    let mut book = traded().as_bytes().to_vec();
+    let mut accepted = [0; 11];
+    for _ in 0..20_000 {
+        let record = some_record(&mut numbers);
+        let before = book.clone();
+        let mut results = vec![MARK; numbers.below(300) as usize];
+        let mut balances = vec![MARK; numbers.below(200) as usize];
+        let verdict = raw::call(&record, &mut book, &[0; 192], &mut results, &mut balances);
+        assert!(raw::is_book(&book), "{record:?}");
+        match verdict {
+            Verdict::Accepted { .. } => accepted[usize::from(record[2])] += 1,
+            Verdict::Refused(_) => {
+                assert!(book == before, "{record:?}");
+                assert!(results.iter().chain(&balances).all(|byte| *byte == MARK), "{record:?}");
+            }
+        }
+        // Days end, and others begin.
+        if numbers.below(200) == 0 {
+            book = traded().as_bytes().to_vec();
+        }
+    }
+    assert!(accepted[1..].iter().all(|times| *times > 20), "accepted by kind: {accepted:?}");
+}
+
+#[test]
+fn a_damaged_book_is_refused_or_still_a_book() {
+    let mut numbers = Numbers(1_234_567);
+    let whole = traded().as_bytes().to_vec();
+    let mut refused = 0;
+    for _ in 0..3_000 {
+        let mut book = whole.clone();
+        let within = if numbers.below(4) == 0 { BOOK_SIZE as u64 } else { 20_000 };
+        let at = numbers.below(within) as usize;
+        book[at] ^= 1 << numbers.below(8);
+        let damaged = book.clone();
+        let stands = raw::is_book(&book);
+        let verdict = raw::call(&Request::undo().to_record().unwrap(), &mut book, &[], &mut [], &mut []);
+        assert_eq!(stands, verdict != Verdict::Refused(Refusal::NotABook), "{at}");
+        assert_eq!(stands, Book::from_bytes(&damaged).is_ok());
+        assert!(stands || book == damaged);
+        refused += u32::from(!stands);
+    }
+    assert!(refused > 2_000);
+}
+
+#[test]
+fn a_book_at_any_address() {
+    let whole = traded();
+    let mut room = vec![MARK; BOOK_SIZE + 16];
+    for at in 0..16 {
+        room[at..at + BOOK_SIZE].copy_from_slice(whole.as_bytes());
+        let book = &mut room[at..at + BOOK_SIZE];
+        assert!(raw::is_book(book));
+        assert_eq!(raw::call(&[1, 0, 6], book, &[], &mut [], &mut []), Verdict::Accepted { number: 1 });
+    }
+}
+
+#[test]
+fn readings_from_several_threads() {
+    let book = traded();
+    std::thread::scope(|scope| {
+        for _ in 0..4 {
+            scope.spawn(|| {
+                for _ in 0..200 {
+                    assert_eq!((book.net(1, 1), book.net(2, 1), book.exposure(1)), (Ok(-7), Ok(7), Ok(80_000)));
+                }
+            });
+        }
+    });
+    let moved = std::thread::spawn(move || {
+        let mut book = book;
+        book.submit(&Request::undo()).ok()
+    });
+    assert_eq!(moved.join().unwrap(), Ok(1));
+}
