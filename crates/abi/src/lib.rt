@@ -1,5 +1,5 @@
 // The book for programs in other languages: the doors of `day` on numbers and byte slices.
 pub mod doors;
 mod fields;
-mod lending;
-mod packing;
+pub mod lending;
+pub mod packing;

@@ -2,13 +2,14 @@
 
 use std::fmt;
 
-use crate::{raw, Refusal, Request, Verdict, BALANCES_MOST, BOOK_SIZE, FIGURE_SIZE, RESULTS_MOST};
+use crate::{inner, raw, Refusal, Request, Verdict, BALANCES_MOST, BOOK_SIZE, FIGURE_SIZE, RESULTS_MOST};
 
 /// Where the bytes of a book say how many operators it has and how many schedules stand (docs/LAYOUT.md).
 const OPERATORS_AT: usize = 1;
 const SCHEDULES_AT: usize = 8_194;
 
-/// A book of one day. Its bytes are those of a book at all times.
+/// A book of one day. Its bytes are those of a book at all times: it is opened or checked, nobody else can write them, and the contract
+/// of the inner call says that it leaves a book. So calls and readings go by the inner doors, which do not check the bytes again.
 #[derive(Clone, PartialEq, Eq)]
 pub struct Book {
     bytes: Box<[u8; BOOK_SIZE]>,
@@ -68,7 +69,8 @@ impl Book {
 
     /// The request that a record says. Only settle looks at the price table and fills the two buffers.
     pub fn call(&mut self, record: &[u8], prices: &[u8], results: &mut [u8], balances: &mut [u8]) -> Verdict {
-        raw::call(record, &mut self.bytes[..], prices, results, balances)
+        // SAFETY: the bytes are a book.
+        unsafe { inner::call(record, &mut self.bytes, prices, results, balances) }
     }
 
     /// Settles the day at a price table ([`price_table`]).
@@ -88,14 +90,16 @@ impl Book {
     /// The net position of an account in an hour, in kWh, bought less sold; or 6.
     pub fn net(&self, account: u8, hour: u8) -> Result<i64, Refusal> {
         let mut bytes = [0; FIGURE_SIZE];
-        raw::net(&self.bytes[..], account, hour, &mut bytes).ok()?;
+        // SAFETY: the bytes are a book.
+        unsafe { inner::net(&self.bytes, account, hour, &mut bytes) }.ok()?;
         Ok(i64::from_le_bytes(bytes))
     }
 
     /// The exposure of an operator, in thousandths of a cent; or 6.
     pub fn exposure(&self, operator: u8) -> Result<u64, Refusal> {
         let mut bytes = [0; FIGURE_SIZE];
-        raw::exposure(&self.bytes[..], operator, &mut bytes).ok()?;
+        // SAFETY: the bytes are a book.
+        unsafe { inner::exposure(&self.bytes, operator, &mut bytes) }.ok()?;
         Ok(u64::from_le_bytes(bytes))
     }
 }

@@ -36,6 +36,7 @@
 //! A [`Book`] always is a book: it is opened or checked, and every call leaves one. [`raw`] has the same functions on any bytes.
 
 mod book;
+mod inner;
 pub mod raw;
 mod request;
 mod setup;

@@ -29,8 +29,8 @@ fn types(list: &str) -> Vec<String> {
     parts(list).iter().map(|part| part.split_once(':').unwrap().1.trim().to_string()).collect()
 }
 
-fn exported() -> Declared {
-    let source = text("crates/abi/src/doors.rt");
+fn exported(path: &str) -> Declared {
+    let source = text(path);
     let functions = source.split("#[no_mangle]\npub extern \"C\" fn ").skip(1);
     functions
         .map(|function| {
@@ -46,8 +46,8 @@ fn exported() -> Declared {
         .collect()
 }
 
-fn declared_in_rust() -> Declared {
-    let source = text("rust/energy-book/src/raw.rs");
+fn declared_in_rust(path: &str) -> Declared {
+    let source = text(path);
     let functions = source.split("pub fn energy_book_").skip(1);
     functions
         .map(|function| {
@@ -83,10 +83,17 @@ fn declared_in_c() -> Declared {
 
 #[test]
 fn declarations_are_those_of_the_exported_functions() {
-    let exported = exported();
+    let exported = exported("crates/abi/src/doors.rt");
     assert_eq!(exported.len(), 7);
-    assert_eq!(declared_in_rust(), exported);
+    assert_eq!(declared_in_rust("rust/energy-book/src/raw.rs"), exported);
     assert_eq!(declared_in_c(), exported);
+}
+
+#[test]
+fn inner_declarations_are_those_of_the_exported_functions() {
+    let exported = exported("crates/abi_inner/src/doors.rt");
+    assert_eq!(exported.len(), 3);
+    assert_eq!(declared_in_rust("rust/energy-book/src/inner.rs"), exported);
 }
 
 #[test]

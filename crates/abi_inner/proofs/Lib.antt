@@ -1,0 +1,1 @@
+-- `abi_inner` has no laws of its own.

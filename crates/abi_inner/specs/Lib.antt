@@ -1,0 +1,1 @@
+-- The contracts of `abi_inner` rest on the definitions of `abi` and of the doors.

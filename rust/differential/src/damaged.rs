@@ -1,0 +1,53 @@
+//! Every byte of a set-up and of a record, put to values beside its own.
+
+use crate::directed::{day, paper_setup};
+use crate::made::*;
+use crate::Day;
+use reference::days::Step;
+use reference::*;
+
+/// Each byte of each kind's record put to values beside its own, in registration and among schedules.
+pub(crate) fn records() -> Day {
+    let sale = trade(1, 2, 1, (1, 2), 10, 7);
+    let requests = [sale, mirror(&sale), withdrawal(1, 1), guarantee(1, 7), simple(kind::UNDO), schedule(1, 1, 1, 5, 5)];
+    let mut calls = Vec::new();
+    for phase in 0..2 {
+        for request in &requests {
+            let whole = call(request);
+            for at in 0..whole.record.len() {
+                calls.extend(beside(&whole.record, at).into_iter().map(|record| Step { record, ..whole.clone() }));
+                calls.push(Step { record: whole.record[..at].to_vec(), ..whole.clone() });
+            }
+        }
+        if phase == 0 {
+            calls.push(call(&simple(kind::KEEP)));
+            calls.push(call(&simple(kind::CLOSE_GATE)));
+        }
+    }
+    day(&largest_setup(), calls)
+}
+
+/// A set-up cut short at each length, and with each byte put to values beside its own.
+pub(crate) fn setups() -> Vec<Vec<u8>> {
+    let mut setup = paper_setup(100_000, 20_000);
+    setup.points.push(Point { account: 2, kind: PointKind::Mixed, zone: 1, greatest_injection: 1, greatest_withdrawal: 2 });
+    let whole = setup.to_bytes();
+    let mut setups = vec![whole.clone(), [whole.as_slice(), &[0]].concat()];
+    for at in 0..whole.len() {
+        setups.push(whole[..at].to_vec());
+        setups.extend(beside(&whole, at));
+    }
+    setups
+}
+
+/// Bytes with one of them put to other values.
+fn beside(bytes: &[u8], at: usize) -> Vec<Vec<u8>> {
+    let byte = bytes[at];
+    let values = [0, 1, 2, 3, byte.wrapping_sub(1), byte.wrapping_add(1), byte ^ 0x80, 255];
+    let put = |&value: &u8| {
+        let mut other = bytes.to_vec();
+        other[at] = value;
+        other
+    };
+    values.iter().filter(|&&value| value != byte).map(put).collect()
+}

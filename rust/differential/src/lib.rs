@@ -1,0 +1,19 @@
+//! The proved book and the reference implementation, held against each other.
+//!
+//! A day is played on both ([`play`]): after every call the verdict, its details and both lent buffers are equal, and so are the
+//! readings. A day on which they differ is cut down to the calls that it takes ([`shrink`]) and stored ([`Day`]).
+
+#![forbid(unsafe_code)]
+
+mod damaged;
+mod day;
+pub mod directed;
+pub mod made;
+mod ours;
+mod play;
+pub mod replay;
+mod shrink;
+
+pub use day::Day;
+pub use play::{play, Counts};
+pub use shrink::shrink;

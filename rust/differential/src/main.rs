@@ -1,0 +1,117 @@
+//! Holds the proved book against the reference implementation.
+//!
+//!     cargo run --release                    the directed days, then days of seeds from 1 on until a million calls; then replays
+//!     cargo run --release -- FIRST DAYS      the days of so many seeds, from FIRST on
+//!     cargo run --release -- FILE            a stored day
+
+#![forbid(unsafe_code)]
+
+use differential::{directed, play, replay, shrink, Counts, Day};
+use std::path::Path;
+use std::process::ExitCode;
+use std::{env, fs};
+
+/// How many calls the default run makes at the least.
+const CALLS: u64 = 1_000_000;
+/// The days of so many seeds are replayed.
+const REPLAYS: u64 = 2_000;
+
+fn main() -> ExitCode {
+    let words: Vec<String> = env::args().skip(1).collect();
+    let words: Vec<&str> = words.iter().map(String::as_str).collect();
+    let done = match words[..] {
+        [] => default_run(),
+        [file] => stored(file),
+        [first, days] => match (first.parse(), days.parse()) {
+            (Ok(first), Ok(days)) => seeds(first, days, u64::MAX).map(|counts| report(&counts)),
+            _ => Err(String::from("FIRST and DAYS are numbers")),
+        },
+        _ => Err(String::from("usage: differential [FILE | FIRST DAYS]")),
+    };
+    match done {
+        Ok(()) => ExitCode::SUCCESS,
+        Err(why) => {
+            println!("{why}");
+            ExitCode::FAILURE
+        }
+    }
+}
+
+fn default_run() -> Result<(), String> {
+    let mut counts = Counts::default();
+    for (name, day) in directed::days() {
+        counts += &tried(&name, &day)?;
+    }
+    println!("directed days: {}, calls: {}", counts.days, counts.calls);
+    let most = CALLS.saturating_sub(counts.calls);
+    counts += &seeds(1, u64::MAX, most)?;
+    report(&counts);
+    replays()
+}
+
+/// Streams replayed by the program, some of them cut short or too long.
+fn replays() -> Result<(), String> {
+    let Some(program) = replay::program() else {
+        println!("replays: none, since the program is not built (rt check replay)");
+        return Ok(());
+    };
+    for seed in 1..=REPLAYS {
+        let stream = replay::stream(&Day::of_seed(seed), seed);
+        replay::compare(&program, &stream).map_err(|why| format!("replay of seed {seed} fails. {why}"))?;
+    }
+    println!("replays: seeds 1 to {REPLAYS}, no difference");
+    Ok(())
+}
+
+/// Days of seeds, until there were so many days or so many calls.
+fn seeds(first: u64, days: u64, calls: u64) -> Result<Counts, String> {
+    let mut counts = Counts::default();
+    let mut seed = first;
+    while counts.days < days && counts.calls < calls {
+        counts += &tried(&format!("seed-{seed}"), &Day::of_seed(seed))?;
+        seed += 1;
+    }
+    println!("seeds: {first} to {}", seed - 1);
+    Ok(counts)
+}
+
+/// A stored day. Its comments say where it came from.
+fn stored(file: &str) -> Result<(), String> {
+    let text = fs::read_to_string(file).map_err(|why| format!("{file}: {why}"))?;
+    let day = Day::from_text(&text).map_err(|line| format!("{file}: line {line} is not understood"))?;
+    let counts = play(&day).map_err(|why| format!("{file} fails. {why}"))?;
+    report(&counts);
+    Ok(())
+}
+
+/// Plays a day; one that fails is shrunk and stored.
+fn tried(name: &str, day: &Day) -> Result<Counts, String> {
+    play(day).map_err(|why| {
+        let least = shrink(day, |day| play(day).is_err());
+        let left = play(&least).err().unwrap_or_default();
+        let file = format!("failures/{name}.day");
+        let comment =
+            format!("{name}, {} of its {} calls: {left}\ncargo run --release -- {file}", least.calls.len(), day.calls.len());
+        let path = Path::new(env!("CARGO_MANIFEST_DIR")).join(&file);
+        let kept = match fs::write(path, least.to_text(&comment)) {
+            Ok(()) => format!("Stored; again by: cargo run --release -- {file}"),
+            Err(why) => format!("Not stored ({why}):\n{}", least.to_text(&comment)),
+        };
+        format!("{name} fails. {why}\nCut down to calls: {}. {left}\n{kept}", least.calls.len())
+    })
+}
+
+fn report(counts: &Counts) {
+    println!("days: {}, calls: {}", counts.days, counts.calls);
+    println!("openings by verdict:{}", by_verdict(&counts.openings));
+    println!("calls by verdict:{}", by_verdict(&counts.verdicts));
+    println!("readings: {}", counts.readings);
+    println!("batches undone: {}, calls of the lists without them: {}", counts.undone, counts.without);
+    println!("calls on a changed byte: no book {}, still a book {}", counts.damaged, counts.undamaged);
+    println!("no difference");
+}
+
+fn by_verdict(counts: &[u64]) -> String {
+    let seen = counts.iter().enumerate().filter(|(_, &count)| count > 0);
+    seen.map(|(number, count)| format!("  {number}: {count}")).collect()
+}

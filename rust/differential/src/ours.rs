@@ -1,0 +1,180 @@
+//! The proved book by both of its doors, which are to agree on everything.
+
+use energy_book::{raw, Book, Refusal, BOOK_SIZE, FIELDS_SIZE, FIGURE_SIZE};
+use reference::days::Step;
+use reference::{Request, Verdict};
+
+/// What lent bytes hold before a call.
+pub const UNWRITTEN: u8 = 0xA5;
+
+/// The answer to a call: the verdict, and the buffers for results and balances thereafter.
+#[derive(Clone, Debug, PartialEq, Eq)]
+pub struct Answer {
+    pub verdict: Verdict,
+    pub results: Vec<u8>,
+    pub balances: Vec<u8>,
+}
+
+impl Answer {
+    /// What stands before a call: the lent buffers.
+    pub fn lent(call: &Step) -> Self {
+        Self { verdict: Verdict::accepted(0), results: vec![UNWRITTEN; call.results], balances: vec![UNWRITTEN; call.balances] }
+    }
+}
+
+/// Refused by 1.
+const NO_BOOK: energy_book::Verdict = energy_book::Verdict::Refused(Refusal::NotABook);
+
+/// A book as bytes that are called by the public door, and again by the inner one, which the owner of a book goes by.
+pub struct Ours {
+    public: Vec<u8>,
+    owned: Book,
+}
+
+impl Ours {
+    /// Opens a day; or the verdict of its refusal. The outer error says in what the doors differ.
+    pub fn open(setup: &[u8]) -> Result<Result<Self, Verdict>, String> {
+        let mut public = vec![UNWRITTEN; BOOK_SIZE];
+        let verdict = verdict(raw::open(setup, &mut public));
+        if !verdict.is_accepted() && public.iter().any(|&byte| byte != UNWRITTEN) {
+            return Err(String::from("a refused opening changed the book"));
+        }
+        let mut short = vec![UNWRITTEN; BOOK_SIZE - 1];
+        let refused = raw::open(setup, &mut short);
+        if refused != NO_BOOK || short.iter().any(|&byte| byte != UNWRITTEN) {
+            return Err(String::from("opening in too few bytes is not 1, or changed them"));
+        }
+        match Book::open(setup) {
+            Ok(owned) if verdict.is_accepted() && owned.as_bytes()[..] == public[..] => Ok(Ok(Self { public, owned })),
+            Err(_) if !verdict.is_accepted() => Ok(Err(verdict)),
+            _ => Err(String::from("opening depends on what the bytes were")),
+        }
+    }
+
+    pub fn bytes(&self) -> &[u8] {
+        &self.public
+    }
+
+    /// A call by both doors. A refused one changes no lent byte.
+    pub fn call(&mut self, call: &Step) -> Result<Answer, String> {
+        let before = self.public.clone();
+        let (mut public, mut inner) = (Answer::lent(call), Answer::lent(call));
+        let outcome = raw::call(&call.record, &mut self.public, &call.prices, &mut public.results, &mut public.balances);
+        public.verdict = verdict(outcome);
+        let outcome = self.owned.call(&call.record, &call.prices, &mut inner.results, &mut inner.balances);
+        inner.verdict = verdict(outcome);
+        if public != inner {
+            return Err(format!("the public door answers {public:?}, the inner one {inner:?}"));
+        }
+        if self.public[..] != self.owned.as_bytes()[..] {
+            return Err(String::from("the two doors leave different books"));
+        }
+        if !public.verdict.is_accepted() {
+            if self.public != before {
+                return Err(String::from("a refused call changed the book"));
+            }
+            let mut unchanged = Answer::lent(call);
+            unchanged.verdict = public.verdict;
+            if public != unchanged {
+                return Err(String::from("a refused call changed a buffer"));
+            }
+        }
+        Ok(public)
+    }
+
+    /// A net position by both doors.
+    pub fn net(&self, account: u8, hour: u8) -> Result<Result<i64, Verdict>, String> {
+        let mut figure = [UNWRITTEN; FIGURE_SIZE];
+        let outcome = raw::net(&self.public, account, hour, &mut figure);
+        let public = read_figure(outcome, figure)?;
+        if self.owned.net(account, hour).map_err(refusal) != public {
+            return Err(String::from("the two doors read different net positions"));
+        }
+        Ok(public)
+    }
+
+    /// An exposure by both doors.
+    pub fn exposure(&self, operator: u8) -> Result<Result<u64, Verdict>, String> {
+        let mut figure = [UNWRITTEN; FIGURE_SIZE];
+        let outcome = raw::exposure(&self.public, operator, &mut figure);
+        let public = read_figure(outcome, figure)?.map(|figure| figure as u64);
+        if self.owned.exposure(operator).map_err(refusal) != public {
+            return Err(String::from("the two doors read different exposures"));
+        }
+        Ok(public)
+    }
+
+    /// The call on this book with a byte changed: where the bytes are no book it is 1, as are the readings, and changes nothing;
+    /// where they still are one, both doors agree. Says whether they are one.
+    pub fn damaged(&self, call: &Step, at: usize, change: u8) -> Result<bool, String> {
+        let mut bytes = self.public.clone();
+        bytes[at] ^= change;
+        if let Ok(owned) = Book::from_bytes(&bytes) {
+            let mut other = Self { public: bytes, owned };
+            other.call(call)?;
+            return Ok(true);
+        }
+        let before = bytes.clone();
+        let mut answer = Answer::lent(call);
+        let outcome = raw::call(&call.record, &mut bytes, &call.prices, &mut answer.results, &mut answer.balances);
+        let mut figure = [UNWRITTEN; FIGURE_SIZE];
+        let outcomes = [outcome, raw::net(&bytes, 1, 1, &mut figure), raw::exposure(&bytes, 1, &mut figure)];
+        if outcomes != [NO_BOOK; 3] || answer != Answer::lent(call) || bytes != before || figure != [UNWRITTEN; FIGURE_SIZE] {
+            return Err(format!("byte {at} changed by {change}: no book, but not refused by 1 with all as it was"));
+        }
+        Ok(false)
+    }
+}
+
+/// The figure of a reading, or its refusal, which leaves the buffer as it was.
+fn read_figure(outcome: energy_book::Verdict, figure: [u8; FIGURE_SIZE]) -> Result<Result<i64, Verdict>, String> {
+    match outcome.ok() {
+        Ok(_) => Ok(Ok(i64::from_le_bytes(figure))),
+        Err(refused) if figure == [UNWRITTEN; FIGURE_SIZE] => Ok(Err(refusal(refused))),
+        Err(_) => Err(String::from("a refused reading changed its buffer")),
+    }
+}
+
+/// The record reader's answer.
+pub fn read(record: &[u8]) -> Result<[u8; FIELDS_SIZE], Verdict> {
+    let mut fields = [UNWRITTEN; FIELDS_SIZE];
+    match raw::read(record, &mut fields).ok() {
+        Ok(_) => Ok(fields),
+        Err(refused) => Err(refusal(refused)),
+    }
+}
+
+/// The record writer's answer, and its buffer thereafter.
+pub fn write(fields: &[u8], length: usize) -> (Verdict, Vec<u8>) {
+    let mut buffer = vec![UNWRITTEN; length];
+    let outcome = raw::write(fields, &mut buffer);
+    (verdict(outcome), buffer)
+}
+
+/// A request's fields in 34 bytes.
+pub fn fields(request: &Request) -> [u8; FIELDS_SIZE] {
+    let mut fields = [0; FIELDS_SIZE];
+    fields[0] = request.kind;
+    fields[1] = request.account;
+    fields[2] = request.other;
+    fields[3..11].copy_from_slice(&request.code.to_le_bytes());
+    fields[11] = request.side;
+    fields[12] = request.first;
+    fields[13] = request.last;
+    fields[14..18].copy_from_slice(&request.quantity.to_le_bytes());
+    fields[18..20].copy_from_slice(&request.number.to_le_bytes());
+    fields[20] = request.operator;
+    fields[21..29].copy_from_slice(&request.guarantee.to_le_bytes());
+    fields[29] = request.point;
+    fields[30..34].copy_from_slice(&request.price.to_le_bytes());
+    fields
+}
+
+fn verdict(outcome: energy_book::Verdict) -> Verdict {
+    let (number, first, second) = outcome.numbers();
+    Verdict { number, first, second }
+}
+
+fn refusal(refused: Refusal) -> Verdict {
+    verdict(energy_book::Verdict::Refused(refused))
+}

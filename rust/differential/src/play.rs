@@ -1,0 +1,225 @@
+//! A day, played on both implementations.
+
+use crate::ours::{self, Answer, Ours};
+use crate::Day;
+use reference::days::Step;
+use reference::{kind, Book, Request, Verdict};
+use std::ops::AddAssign;
+use std::panic::{catch_unwind, AssertUnwindSafe};
+
+/// The bytes of a book that can be other than zero.
+const USED: usize = 26_888;
+
+/// How much was compared.
+#[derive(Clone, Debug, Default)]
+pub struct Counts {
+    pub days: u64,
+    pub calls: u64,
+    /// By verdict, of openings and of calls.
+    pub openings: [u64; 21],
+    pub verdicts: [u64; 21],
+    /// Readings of net and exposure.
+    pub readings: u64,
+    /// Batches that were undone, and calls of the lists without them.
+    pub undone: u64,
+    pub without: u64,
+    /// Calls on bytes that are no book, and on those that still are one.
+    pub damaged: u64,
+    pub undamaged: u64,
+}
+
+impl AddAssign<&Counts> for Counts {
+    fn add_assign(&mut self, more: &Counts) {
+        self.days += more.days;
+        self.calls += more.calls;
+        for number in 0..self.verdicts.len() {
+            self.openings[number] += more.openings[number];
+            self.verdicts[number] += more.verdicts[number];
+        }
+        self.readings += more.readings;
+        self.undone += more.undone;
+        self.without += more.without;
+        self.damaged += more.damaged;
+        self.undamaged += more.undamaged;
+    }
+}
+
+/// Plays a day on both; says in what they differ.
+pub fn play(day: &Day) -> Result<Counts, String> {
+    catch_unwind(AssertUnwindSafe(|| both(day))).unwrap_or_else(|_| Err(String::from("the reference implementation panics")))
+}
+
+fn both(day: &Day) -> Result<Counts, String> {
+    let mut counts = Counts { days: 1, ..Counts::default() };
+    let (mut theirs, mut ours) = match (Book::open(&day.setup), Ours::open(&day.setup)?) {
+        (Ok(theirs), Ok(ours)) => (theirs, ours),
+        (Err(theirs), Err(ours)) if theirs == ours => {
+            counts.openings[usize::from(theirs.number)] += 1;
+            return Ok(counts);
+        }
+        (theirs, ours) => {
+            let (theirs, ours) = (theirs.err(), ours.err());
+            return Err(format!("opening: the reference {theirs:?}, ours {ours:?}"));
+        }
+    };
+    counts.openings[0] += 1;
+    let mut undone = Undone::default();
+    for (number, call) in (1..).zip(&day.calls) {
+        let at = |why: String| format!("call {number}: {why}");
+        compare_records(call, number).map_err(at)?;
+        let chosen = mixed(number);
+        if number % 16 == 0 {
+            damage(&ours, call, chosen, &mut counts).map_err(at)?;
+        }
+        let was_open = theirs.batch_is_open();
+        let answer = compare_call(&mut theirs, &mut ours, call).map_err(at)?;
+        counts.calls += 1;
+        counts.verdicts[usize::from(answer.verdict.number)] += 1;
+        if number % 4 == 0 {
+            compare_a_reading(&theirs, &ours, chosen, &mut counts).map_err(at)?;
+        }
+        undone.follow(call, answer, was_open, theirs.batch_is_open());
+    }
+    let at_end = |why: String| format!("after the last call: {why}");
+    if !energy_book::raw::is_book(ours.bytes()) {
+        return Err(at_end(String::from("the bytes are no book")));
+    }
+    compare_readings(&theirs, &ours, &mut counts).map_err(at_end)?;
+    undone.compare(day, &ours, &mut counts).map_err(at_end)?;
+    Ok(counts)
+}
+
+/// Makes a call on both.
+fn compare_call(theirs: &mut Book, ours: &mut Ours, call: &Step) -> Result<Answer, String> {
+    let mut expected = Answer::lent(call);
+    expected.verdict = theirs.call(&call.record, &call.prices, &mut expected.results, &mut expected.balances);
+    let answer = ours.call(call)?;
+    if answer == expected {
+        Ok(answer)
+    } else {
+        Err(format!("the reference {expected:?}, ours {answer:?}"))
+    }
+}
+
+/// Reads and writes the record of a call on both.
+fn compare_records(call: &Step, number: usize) -> Result<(), String> {
+    let expected = reference::read(&call.record);
+    if ours::read(&call.record) != expected.map(|request| ours::fields(&request)) {
+        return Err(format!("the reference reads {expected:?}"));
+    }
+    let request = expected.unwrap_or(Request { kind: number as u8, ..Request::default() });
+    let mut written = vec![ours::UNWRITTEN; number % 24];
+    let expected = (reference::write(&request, &mut written), written);
+    if ours::write(&ours::fields(&request), number % 24) != expected {
+        return Err(format!("the reference writes {expected:?}"));
+    }
+    Ok(())
+}
+
+/// Makes a call on the book with a byte changed, mostly one that is in use.
+fn damage(ours: &Ours, call: &Step, chosen: u64, counts: &mut Counts) -> Result<(), String> {
+    let room = if chosen.is_multiple_of(8) { ours.bytes().len() } else { USED };
+    let at = (chosen >> 8) as usize % room;
+    let change = (chosen >> 3) as u8 | 1 << (chosen % 8);
+    if ours.damaged(call, at, change)? {
+        counts.undamaged += 1;
+    } else {
+        counts.damaged += 1;
+    }
+    Ok(())
+}
+
+/// One net position and one exposure, at times of what is not there.
+fn compare_a_reading(theirs: &Book, ours: &Ours, chosen: u64, counts: &mut Counts) -> Result<(), String> {
+    let setup = theirs.setup();
+    let one = |shift: u64, count: usize| ((chosen >> shift) % (count as u64 + 2)) as u8;
+    compare_net(theirs, ours, one(0, setup.accounts.len()), one(16, setup.estimates.len()))?;
+    compare_exposure(theirs, ours, one(32, setup.operators.len()))?;
+    counts.readings += 2;
+    Ok(())
+}
+
+/// All net positions and exposures, and those beside them that are not there.
+fn compare_readings(theirs: &Book, ours: &Ours, counts: &mut Counts) -> Result<(), String> {
+    let setup = theirs.setup();
+    for account in 0..=setup.accounts.len() as u8 + 1 {
+        for hour in 0..=setup.hours() + 1 {
+            compare_net(theirs, ours, account, hour)?;
+            counts.readings += 1;
+        }
+    }
+    for operator in 0..=setup.operators.len() as u8 + 1 {
+        compare_exposure(theirs, ours, operator)?;
+        counts.readings += 1;
+    }
+    Ok(())
+}
+
+fn compare_net(theirs: &Book, ours: &Ours, account: u8, hour: u8) -> Result<(), String> {
+    let (expected, read) = (theirs.net(account, hour), ours.net(account, hour)?);
+    if read != expected {
+        return Err(format!("net of account {account}, hour {hour}: the reference {expected:?}, ours {read:?}"));
+    }
+    Ok(())
+}
+
+fn compare_exposure(theirs: &Book, ours: &Ours, operator: u8) -> Result<(), String> {
+    let (expected, read) = (theirs.exposure(operator), ours.exposure(operator)?);
+    if read != expected {
+        return Err(format!("exposure of operator {operator}: the reference {expected:?}, ours {read:?}"));
+    }
+    Ok(())
+}
+
+/// The calls that no undo has cut out, with their answers.
+#[derive(Default)]
+struct Undone<'a> {
+    left: Vec<(&'a Step, Answer)>,
+    /// Where the open batch began.
+    batch: Option<usize>,
+    batches: u64,
+}
+
+impl<'a> Undone<'a> {
+    fn follow(&mut self, call: &'a Step, answer: Answer, was_open: bool, is_open: bool) {
+        self.left.push((call, answer));
+        match (was_open, is_open) {
+            (false, true) => self.batch = Some(self.left.len() - 1),
+            (true, false) if call.record.get(2) == Some(&kind::UNDO) => {
+                if let Some(from) = self.batch.take() {
+                    self.left.truncate(from);
+                    self.batches += 1;
+                }
+            }
+            _ => {}
+        }
+    }
+
+    /// Plays the list without the undone batches: every other call answers the same, and the last bytes are equal.
+    fn compare(&self, day: &Day, whole: &Ours, counts: &mut Counts) -> Result<(), String> {
+        if self.batches == 0 {
+            return Ok(());
+        }
+        let mut cut = Ours::open(&day.setup)?.map_err(|verdict: Verdict| format!("opened again: {verdict:?}"))?;
+        for (call, answer) in &self.left {
+            let again = cut.call(call)?;
+            if again != *answer {
+                return Err(format!("without the undone batches {again:?}, with them {answer:?}"));
+            }
+        }
+        if cut.bytes() != whole.bytes() {
+            return Err(String::from("an undone batch left a trace in the book's bytes"));
+        }
+        counts.undone += self.batches;
+        counts.without += self.left.len() as u64;
+        Ok(())
+    }
+}
+
+/// A number that looks like chance, the same for the same number.
+fn mixed(number: usize) -> u64 {
+    let mut word = (number as u64).wrapping_mul(0x9E37_79B9_7F4A_7C15);
+    word = (word ^ (word >> 30)).wrapping_mul(0xBF58_476D_1CE4_E5B9);
+    word = (word ^ (word >> 27)).wrapping_mul(0x94D0_49BB_1331_11EB);
+    word ^ (word >> 31)
+}

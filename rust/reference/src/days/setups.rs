@@ -1,0 +1,183 @@
+//! Set-ups: mostly good ones, some damaged.
+
+use super::random::Random;
+use crate::{Account, Direction, Operator, Point, PointKind, Setup};
+use crate::{GREATEST_GUARANTEE, GREATEST_PRICE, GREATEST_QUANTITY};
+
+/// A set-up; `roomy` leaves wide margins, so that many trades fit.
+pub(crate) fn setup(random: &mut Random, roomy: bool) -> Setup {
+    let hours = random.within(23..=25);
+    let operators = random.weighted(&[(60, 2), (20, 3), (10, 1), (5, 5), (5, 16)]);
+    let accounts = random.weighted(&[(30, 2), (30, 3), (20, 5), (15, 8), (3, 32), (2, 1)]);
+    let points = random.weighted(&[(30, 2), (30, 4), (20, 7), (10, 16), (5, 64), (5, 0)]);
+    let zones = random.weighted(&[(50, 1), (30, 2), (20, 8)]);
+    let dear = random.pick(&[100, 5_000, 50_000, GREATEST_PRICE]);
+    let mut setup = Setup {
+        zones,
+        estimates: (0..hours).map(|_| estimate(random, dear)).collect(),
+        operators: (0..operators).map(|_| operator(random)).collect(),
+        accounts: Vec::new(),
+        points: Vec::new(),
+    };
+    for _ in 0..accounts {
+        let operator = random.one_of(operators);
+        setup.accounts.push(account(random, operator, roomy));
+    }
+    for _ in 0..points {
+        let point = point(random, &setup);
+        setup.points.push(point);
+    }
+    setup
+}
+
+fn estimate(random: &mut Random, dear: u32) -> u32 {
+    match random.within(0..=9) {
+        0 => 0,
+        1..=5 => dear,
+        _ => random.within(0..=u64::from(dear)) as u32,
+    }
+}
+
+fn operator(random: &mut Random) -> Operator {
+    let scale = random.weighted(&[
+        (5, 0),
+        (15, 100_000),
+        (25, 10_000_000),
+        (25, 1_000_000_000),
+        (30, GREATEST_GUARANTEE),
+    ]);
+    let guarantee = if random.chance(50) {
+        scale
+    } else {
+        random.within(0..=scale)
+    };
+    let maintenance = match random.within(0..=9) {
+        0..=3 => 0,
+        4..=5 => 100,
+        6 => random.pick(&[999, 1000]),
+        _ => random.within(0..=1000) as u16,
+    };
+    Operator {
+        guarantee,
+        maintenance,
+    }
+}
+
+fn account(random: &mut Random, operator: u8, roomy: bool) -> Account {
+    let mut margin = || {
+        if roomy || random.chance(20) {
+            return GREATEST_QUANTITY;
+        }
+        match random.within(0..=9) {
+            0 => 0,
+            1..=3 => 20_000,
+            4..=5 => random.within(1..=1_000) as u32,
+            6 => GREATEST_QUANTITY,
+            _ => random.within(0..=2_000_000) as u32,
+        }
+    };
+    let (lower_margin, upper_margin) = (margin(), margin());
+    Account {
+        operator,
+        kind: random.pick(&[Direction::Injection, Direction::Withdrawal]),
+        lower_margin,
+        upper_margin,
+    }
+}
+
+fn point(random: &mut Random, setup: &Setup) -> Point {
+    let account = random.one_of(setup.accounts.len());
+    let kind = match setup.account(account).kind {
+        _ if random.chance(45) => PointKind::Mixed,
+        Direction::Injection => PointKind::Injection,
+        Direction::Withdrawal => PointKind::Withdrawal,
+    };
+    let mut greatest = || match random.within(0..=9) {
+        0 => 0,
+        1..=2 => random.within(1..=100) as u32,
+        3..=5 => 15_000,
+        6..=7 => GREATEST_QUANTITY,
+        _ => random.within(1..=1_000_000) as u32,
+    };
+    let (injection, withdrawal) = (greatest(), greatest());
+    Point {
+        account,
+        kind,
+        zone: random.one_of(usize::from(setup.zones)),
+        greatest_injection: match kind {
+            PointKind::Withdrawal => 0,
+            _ => injection,
+        },
+        greatest_withdrawal: match kind {
+            PointKind::Injection => 0,
+            _ => withdrawal,
+        },
+    }
+}
+
+/// Damages the bytes of a set-up in one way or another; not always so that it
+/// is refused.
+pub(crate) fn damage(random: &mut Random, setup: &Setup) -> Vec<u8> {
+    let mut setup = setup.clone();
+    match random.within(0..=3) {
+        0 => {
+            let mut bytes = setup.to_bytes();
+            let length = random.within(0..=bytes.len() as u64 + 3) as usize;
+            bytes.resize(length, 0);
+            bytes
+        }
+        1 => {
+            let mut bytes = setup.to_bytes();
+            let offset = random.within(0..=4) as usize;
+            bytes[offset] = random.pick(&[0, 1, 8, 9, 16, 17, 22, 26, 32, 33, 64, 65, 255]);
+            bytes
+        }
+        2 => {
+            let mut bytes = setup.to_bytes();
+            for _ in 0..random.within(1..=2) {
+                let offset = random.within(5..=bytes.len() as u64 - 1) as usize;
+                bytes[offset] = random.pick(&[0, 1, 2, 3, 4, 255]);
+            }
+            bytes
+        }
+        _ => {
+            put_one_value_beyond(random, &mut setup);
+            setup.to_bytes()
+        }
+    }
+}
+
+/// Puts a value just beyond its range, or at odds with another.
+fn put_one_value_beyond(random: &mut Random, setup: &mut Setup) {
+    let hour = random.one_of(setup.estimates.len());
+    let operator = random.one_of(setup.operators.len());
+    let account = random.one_of(setup.accounts.len());
+    let operators = setup.operators.len() as u8;
+    let accounts = setup.accounts.len() as u8;
+    let zones = setup.zones;
+    let holder = &mut setup.accounts[usize::from(account) - 1];
+    match random.within(0..=9) {
+        0 => setup.estimates[usize::from(hour) - 1] = GREATEST_PRICE + 1,
+        1 => setup.operators[usize::from(operator) - 1].guarantee = GREATEST_GUARANTEE + 1,
+        2 => setup.operators[usize::from(operator) - 1].maintenance = 1001,
+        3 => holder.operator = random.pick(&[0, operators + 1]),
+        4 => holder.lower_margin = GREATEST_QUANTITY + 1,
+        5 => holder.upper_margin = GREATEST_QUANTITY + 1,
+        fault => {
+            let number = random.one_of(setup.points.len());
+            let Some(point) = setup.points.get_mut(usize::from(number) - 1) else {
+                return;
+            };
+            match fault {
+                6 => point.account = random.pick(&[0, accounts + 1]),
+                7 => point.zone = random.pick(&[0, zones + 1]),
+                8 => point.kind = random.pick(&[PointKind::Injection, PointKind::Withdrawal]),
+                _ => {
+                    let amount = random.pick(&[1, GREATEST_QUANTITY + 1]);
+                    point.greatest_injection = amount;
+                    point.greatest_withdrawal = amount;
+                }
+            }
+        }
+    }
+}

@@ -1,0 +1,40 @@
+//! A plain reference implementation of the energy account book.
+//!
+//! A [`Book`] holds one flow day: it is opened from set-up bytes and then
+//! takes requests, each a short record. Trades are registered by one account
+//! and confirmed by its counterparty while the gate is open; schedules are
+//! taken after the gate closes; settlement judges the schedules and draws up
+//! each operator's balance. Every call answers with a [`Verdict`].
+//!
+//! Energy is whole kWh, prices are euro cents per MWh and money is
+//! thousandths of a cent, so energy times price is money without rounding.
+//! Operators, accounts, points, zones and hours are numbered from 1.
+
+#![forbid(unsafe_code)]
+
+mod book;
+mod bytes;
+pub mod days;
+mod ledger;
+mod replay;
+mod request;
+mod settlement;
+mod setup;
+mod trade;
+mod verdict;
+
+pub use book::{Book, Phase};
+pub use ledger::MOST_ROWS;
+pub use replay::{replay, LONGEST_STREAM};
+pub use request::{bit, kind, layout, read, write, Request};
+pub use settlement::{Schedule, MOST_SCHEDULES};
+pub use setup::{Account, Direction, Operator, Point, PointKind, Setup};
+pub use trade::{Position, Row, Side, Status};
+pub use verdict::{refusal, Verdict};
+
+/// The greatest quantity of a request, margin or point, in kWh.
+pub const GREATEST_QUANTITY: u32 = 10_000_000;
+/// The greatest price, in cents per MWh.
+pub const GREATEST_PRICE: u32 = 400_000;
+/// The greatest guarantee, in cents.
+pub const GREATEST_GUARANTEE: u64 = 1_000_000_000_000;

@@ -1,0 +1,256 @@
+//! Generated days: what verdicts they meet, and what holds after every call.
+
+use reference::days::{day, stream, Step};
+use reference::*;
+use std::collections::BTreeMap;
+
+/// Makes the call of a step; gives the verdict and the two buffers, which held
+/// a byte that settlement does not write.
+fn play(book: &mut Book, step: &Step) -> (Verdict, Vec<u8>, Vec<u8>) {
+    let mut results = vec![UNWRITTEN; step.results];
+    let mut balances = vec![UNWRITTEN; step.balances];
+    let verdict = book.call(&step.record, &step.prices, &mut results, &mut balances);
+    (verdict, results, balances)
+}
+
+const UNWRITTEN: u8 = 0xA5;
+
+#[test]
+fn every_verdict_occurs() {
+    let mut opened = BTreeMap::new();
+    let mut called = BTreeMap::new();
+    let mut by_kind = [[0u32; 2]; 11];
+    let mut results_seen = [0u32; 4];
+    let mut confirms = BTreeMap::new();
+    let mut at_limits = AtLimits::default();
+    for seed in 0..4_000 {
+        let (setup, steps) = day(seed);
+        let mut book = match Book::open(&setup) {
+            Ok(book) => book,
+            Err(verdict) => {
+                *opened.entry(verdict.number).or_insert(0u32) += 1;
+                continue;
+            }
+        };
+        *opened.entry(0).or_insert(0) += 1;
+        for step in &steps {
+            let before = book.clone();
+            let (verdict, results, _) = play(&mut book, step);
+            at_limits.count(&before, step, verdict);
+            *called.entry(verdict.number).or_insert(0u32) += 1;
+            if let Ok(request) = read(&step.record) {
+                by_kind[usize::from(request.kind)][usize::from(!verdict.is_accepted())] += 1;
+                if request.kind == kind::CONFIRM {
+                    *confirms.entry(verdict.number).or_insert(0u32) += 1;
+                }
+                if request.kind == kind::SETTLE && verdict.is_accepted() {
+                    for &result in &results[..book.schedules().len()] {
+                        results_seen[usize::from(result)] += 1;
+                    }
+                }
+            }
+        }
+    }
+    let total: u32 = called.values().sum();
+    println!("openings by verdict: {opened:?}");
+    println!("{total} calls");
+    for (number, count) in &called {
+        let share = 100.0 * f64::from(*count) / f64::from(total);
+        println!("  verdict {number:2}: {count:7} {share:6.2}%");
+    }
+    for (kind, [accepted, refused]) in by_kind.iter().enumerate().skip(1) {
+        println!("  kind {kind:2}: {accepted} accepted, {refused} refused");
+    }
+    println!("confirms by verdict: {confirms:?}");
+    println!("{at_limits:?}");
+    println!("schedule results 0 to 3: {results_seen:?}");
+    assert_eq!(opened.keys().copied().collect::<Vec<_>>(), [0, 8, 9]);
+    let expected: Vec<u8> = [0].into_iter().chain(2..=7).chain(10..=20).collect();
+    assert_eq!(called.keys().copied().collect::<Vec<_>>(), expected);
+    assert!(by_kind[1..]
+        .iter()
+        .all(|counts| counts.iter().all(|&n| n > 100)));
+    assert!(results_seen.iter().all(|&count| count > 100));
+    assert!(at_limits.just_passed > 5_000 && at_limits.missed_by_one > 5_000);
+}
+
+/// How many trades and guarantees were accepted or refused by one unit.
+#[derive(Debug, Default)]
+struct AtLimits {
+    just_passed: u32,
+    missed_by_one: u32,
+}
+
+impl AtLimits {
+    fn count(&mut self, before: &Book, step: &Step, verdict: Verdict) {
+        let Ok(mut request) = read(&step.record) else {
+            return;
+        };
+        if !matches!(request.kind, kind::REGISTER | kind::GUARANTEE) {
+            return;
+        }
+        // A greater quantity and a smaller guarantee are harder to accept.
+        let one_more = (request.kind == kind::REGISTER) == verdict.is_accepted();
+        let beside = if one_more { 1 } else { -1 };
+        match request.kind {
+            kind::REGISTER => request.quantity = request.quantity.wrapping_add_signed(beside),
+            _ => request.guarantee = request.guarantee.wrapping_add_signed(beside.into()),
+        }
+        let mut record = step.record.clone();
+        write(&request, &mut record);
+        let other = before.clone().call(&record, &[], &mut [], &mut []);
+        let at_limit = |verdict: Verdict| matches!(verdict.number, 18 | 19);
+        if verdict.is_accepted() && at_limit(other) {
+            self.just_passed += 1;
+        } else if at_limit(verdict) && other.is_accepted() {
+            self.missed_by_one += 1;
+        }
+    }
+}
+
+#[test]
+fn the_same_seed_makes_the_same_day() {
+    for seed in 0..50 {
+        assert_eq!(day(seed), day(seed));
+    }
+    assert_ne!(day(1), day(2));
+}
+
+#[test]
+fn refused_calls_change_nothing_and_readings_come_from_the_rows() {
+    for seed in 10_000..10_400 {
+        let (setup, steps) = day(seed);
+        let Ok(mut book) = Book::open(&setup) else {
+            continue;
+        };
+        for step in &steps {
+            let before = book.clone();
+            let (verdict, results, balances) = play(&mut book, step);
+            if !verdict.is_accepted() {
+                assert_eq!(book, before);
+            }
+            let settled = before.phase() != book.phase() && book.phase() == Phase::Settled;
+            let written = if settled {
+                (book.schedules().len(), 8 * book.setup().operators.len())
+            } else {
+                (0, 0)
+            };
+            assert!(results[written.0..].iter().all(|&byte| byte == UNWRITTEN));
+            assert!(balances[written.1..].iter().all(|&byte| byte == UNWRITTEN));
+            audit(&book);
+        }
+    }
+}
+
+/// Draws every position and exposure up from the rows, and checks the limits.
+fn audit(book: &Book) {
+    let setup = book.setup();
+    let mut exposures = vec![0i128; setup.operators.len()];
+    for hour in 1..=setup.hours() {
+        let mut sum = 0;
+        for (account, number) in setup.accounts.iter().zip(1..) {
+            let (mut net, mut sales, mut purchases) = (0, 0, 0);
+            for row in book.rows() {
+                if hour < row.first || hour > row.last {
+                    continue;
+                }
+                let quantity = i64::from(row.quantity);
+                let signed = match row.side {
+                    Side::Sell => -quantity,
+                    Side::Buy => quantity,
+                };
+                match row.status {
+                    Status::Confirmed if row.account == number => net += signed,
+                    Status::Confirmed if row.counterparty == number => net -= signed,
+                    Status::Pending if row.account == number && signed < 0 => sales += quantity,
+                    Status::Pending if row.account == number => purchases += quantity,
+                    _ => {}
+                }
+            }
+            assert_eq!(book.net(number, hour), Ok(net));
+            assert!(net - sales >= -i64::from(account.lower_margin));
+            assert!(net + purchases <= i64::from(account.upper_margin));
+            let energy = (-net).max(0) + sales;
+            exposures[usize::from(account.operator) - 1] +=
+                i128::from(energy) * i128::from(setup.estimates[usize::from(hour) - 1]);
+            sum += net;
+        }
+        assert_eq!(sum, 0);
+    }
+    for (exposure, operator) in exposures.into_iter().zip(1..) {
+        assert_eq!(book.exposure(operator).map(i128::from), Ok(exposure));
+        assert!(exposure <= i128::from(book.available(operator).unwrap()));
+    }
+}
+
+#[test]
+fn an_undone_batch_leaves_no_trace() {
+    let mut undone = 0;
+    for seed in 20_000..20_400 {
+        let (setup, steps) = day(seed);
+        let Ok(mut book) = Book::open(&setup) else {
+            continue;
+        };
+        // Answers to the calls so far that no undo has cut out, and where the
+        // open batch began.
+        let mut kept = Vec::new();
+        let mut batch = None;
+        for step in &steps {
+            let was_open = book.batch_is_open();
+            let answer = play(&mut book, step);
+            kept.push((step, answer));
+            match (was_open, book.batch_is_open()) {
+                (false, true) => batch = Some(kept.len() - 1),
+                (true, false) if step.record[2] == kind::UNDO => {
+                    kept.truncate(batch.take().unwrap());
+                    undone += 1;
+                }
+                _ => {}
+            }
+        }
+        let mut cut = Book::open(&setup).unwrap();
+        for (step, answer) in kept {
+            assert_eq!(play(&mut cut, step), answer);
+        }
+        assert_eq!(cut, book);
+    }
+    assert!(undone > 100);
+}
+
+#[test]
+fn replay_says_what_the_calls_answer() {
+    for seed in 30_000..30_300 {
+        let (setup, steps) = day(seed);
+        let lines = replay(&stream(&setup, &steps));
+        let mut verdicts = lines
+            .lines()
+            .filter(|line| line.starts_with(|c: char| c.is_ascii_digit()));
+        let opening = Book::open(&setup);
+        let (number, first) = match &opening {
+            Ok(_) => (0, 0),
+            Err(verdict) => (verdict.number, verdict.first),
+        };
+        assert_eq!(verdicts.next(), Some(&*format!("0 {number} {first} 0")));
+        let Ok(mut book) = opening else {
+            assert_eq!(verdicts.next(), None);
+            continue;
+        };
+        for (step, item) in steps.iter().zip(1..) {
+            // A settlement's item is cut after its third byte.
+            let mut bytes = step.record.clone();
+            let mut length = bytes.len();
+            if bytes.get(2) == Some(&kind::SETTLE) {
+                bytes.extend(&step.prices);
+                length = 3;
+            }
+            let (record, prices) = bytes.split_at(length);
+            let verdict = book.call(record, prices, &mut [0; 256], &mut [0; 128]);
+            let expected = format!(
+                "{item} {} {} {}",
+                verdict.number, verdict.first, verdict.second
+            );
+            assert_eq!(verdicts.next(), Some(&*expected));
+        }
+        assert_eq!(verdicts.next(), None);
+    }
+}
