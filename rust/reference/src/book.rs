@@ -1,5 +1,7 @@
 //! The book of one flow day.
 
+mod stands;
+
 use crate::ledger::Ledger;
 use crate::settlement::{self, Prices, Schedule, MOST_SCHEDULES};
 use crate::{bit, kind, layout, read, refusal};
@@ -283,7 +285,7 @@ impl Book {
 }
 
 /// Whether a number is that of one of `count` things.
-fn counts(number: u8, count: usize) -> bool {
+pub(crate) fn counts(number: u8, count: usize) -> bool {
     number != 0 && usize::from(number) <= count
 }
 

@@ -6,6 +6,10 @@
 //! searched; and it can raise the exposure of the calling account's operator
 //! only, since to be confirmed never weighs more on a proposer than to wait.
 
+#[cfg(test)]
+pub(crate) mod damages;
+mod stands;
+
 use crate::trade::Span;
 use crate::{refusal, Position, Request, Row, Setup, Side, Status, Verdict};
 
@@ -47,6 +51,32 @@ impl Ledger {
 
     pub fn exposure(&self, operator: u8) -> u64 {
         self.exposures[usize::from(operator) - 1]
+    }
+
+    /// The exposure of an operator, summed from the net positions and the
+    /// pending rows, as it must be where neither it nor what pends is kept.
+    pub fn exposure_from_rows(&self, setup: &Setup, operator: u8) -> u64 {
+        let mut exposure = 0;
+        for (account, number) in setup.accounts.iter().zip(1..) {
+            if account.operator != operator {
+                continue;
+            }
+            let positions = self.positions(setup, number);
+            for (position, &estimate) in positions.iter().zip(&setup.estimates) {
+                exposure += u64::from(estimate) * (-position.net).max(0) as u64;
+            }
+        }
+        for row in &self.rows {
+            if row.status == Status::Pending
+                && row.side == Side::Sell
+                && setup.account(row.account).operator == operator
+            {
+                let hours = Span::of(row, row.account).hours();
+                let estimates = setup.estimates[hours].iter().copied();
+                exposure += u64::from(row.quantity) * estimates.map(u64::from).sum::<u64>();
+            }
+        }
+        exposure
     }
 
     /// What an operator's guarantee covers, in thousandths of a cent.

@@ -4,7 +4,8 @@
 //! takes requests, each a short record. Trades are registered by one account
 //! and confirmed by its counterparty while the gate is open; schedules are
 //! taken after the gate closes; settlement judges the schedules and draws up
-//! each operator's balance. Every call answers with a [`Verdict`].
+//! each operator's balance. Every call answers with a [`Verdict`]. Calls trust
+//! what the book holds; [`Book::stands`] checks it, for one who does not.
 //!
 //! Energy is whole kWh, prices are euro cents per MWh and money is
 //! thousandths of a cent, so energy times price is money without rounding.

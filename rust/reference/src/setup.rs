@@ -1,5 +1,7 @@
 //! The set-up of a day: its hours, operators, accounts, points and zones.
 
+mod allowed;
+
 use crate::bytes::number;
 use crate::{refusal, Verdict, GREATEST_GUARANTEE, GREATEST_PRICE, GREATEST_QUANTITY};
 use std::ops::RangeInclusive;
