@@ -3,6 +3,7 @@
 use energy_book::{raw, Book as Owned, Verdict as Outcome};
 use reference::days::Step;
 use reference::{Book, Setup, Verdict};
+use std::hint::black_box;
 
 #[derive(Clone)]
 pub struct State {
@@ -35,7 +36,7 @@ impl State {
 
     /// A call on all three, which agree.
     pub fn both(&mut self, call: &Step) -> Verdict {
-        let theirs = self.call_theirs(call);
+        let theirs = self.call_checked(call).expect("a book");
         let public = self.call_public(call);
         let inner = self.call_inner(call);
         assert_eq!(public, inner);
@@ -54,5 +55,16 @@ impl State {
 
     pub fn call_theirs(&mut self, call: &Step) -> Verdict {
         self.theirs.call(&call.record, &call.prices, &mut self.results, &mut self.balances)
+    }
+
+    /// The reference's book, if what it holds is one.
+    pub fn checked(&self) -> Option<&Book> {
+        black_box(&self.theirs).stands().then_some(&self.theirs)
+    }
+
+    /// The call by the reference, if what it holds is a book.
+    pub fn call_checked(&mut self, call: &Step) -> Option<Verdict> {
+        self.checked()?;
+        Some(self.call_theirs(call))
     }
 }

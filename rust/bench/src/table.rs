@@ -3,23 +3,27 @@
 use crate::clock;
 use crate::line::{Line, Work};
 
+/// Each door beside the reference doing the same: the public one checks the book first, the inner one does not.
+const RATIOS: &str = "public ÷ checked reference | inner ÷ reference | public ÷ reading";
+
 pub fn print(lines: &[Line], rounds: usize) {
     let read = lines.iter().find(|line| matches!(line.work, Work::ReadWords));
     let read = read.map_or(f64::NAN, |line| least(&line.times.public));
     println!("Microseconds; each figure the least and the greatest of {rounds} medians. The ratios are of the least.");
     println!("The clock's own {:.0} ns are taken off.\n", clock::of_clock());
-    println!("| call | book | public | inner | reference | public ÷ reference | inner ÷ reference | public ÷ reading |");
-    println!("|---|---|---|---|---|---|---|---|");
+    println!("| call | book | public | checked reference | inner | reference | {RATIOS} |");
+    println!("|---|---|---|---|---|---|---|---|---|");
     for line in lines {
         let times = &line.times;
         println!(
-            "| {} | {} | {} | {} | {} | {} | {} | {} |",
+            "| {} | {} | {} | {} | {} | {} | {} | {} | {} |",
             line.what,
             line.book,
             figure(&times.public),
+            figure(&times.checked),
             figure(&times.inner),
             figure(&times.reference),
-            ratio(least(&times.public), least(&times.reference)),
+            ratio(least(&times.public), least(&times.checked)),
             ratio(least(&times.inner), least(&times.reference)),
             ratio(least(&times.public), read),
         );

@@ -51,6 +51,7 @@ pub fn lines() -> Vec<Line> {
         lines.push(Line::new("net", book, state, Work::Net(32, 25)));
         lines.push(Line::new("exposure", book, state, Work::Exposure(16)));
     }
+    lines.push(Line::new("exposure, from the rows", "full", &full, Work::ExposureFromRows(16)));
     whole_days(&mut lines, &fresh);
     lines
 }

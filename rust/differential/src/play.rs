@@ -75,6 +75,9 @@ fn both(day: &Day) -> Result<Counts, String> {
         let answer = compare_call(&mut theirs, &mut ours, call).map_err(at)?;
         counts.calls += 1;
         counts.verdicts[usize::from(answer.verdict.number)] += 1;
+        if number % 64 == 0 {
+            check_theirs(&theirs).map_err(at)?;
+        }
         if number % 4 == 0 {
             compare_a_reading(&theirs, &ours, chosen, &mut counts).map_err(at)?;
         }
@@ -84,9 +87,18 @@ fn both(day: &Day) -> Result<Counts, String> {
     if !energy_book::raw::is_book(ours.bytes()) {
         return Err(at_end(String::from("the bytes are no book")));
     }
+    check_theirs(&theirs).map_err(at_end)?;
     compare_readings(&theirs, &ours, &mut counts).map_err(at_end)?;
     undone.compare(day, &ours, &mut counts).map_err(at_end)?;
     Ok(counts)
+}
+
+/// What the reference holds is a book too, by its own reading of the paper.
+fn check_theirs(theirs: &Book) -> Result<(), String> {
+    if !theirs.stands() {
+        return Err(String::from("what the reference holds is no book"));
+    }
+    Ok(())
 }
 
 /// Makes a call on both.
