@@ -89,5 +89,9 @@ pub mod ReadingLaws
 pub mod Reachable
 -- TableLaws: a table of sums and one row more, or one row marked.
 pub mod TableLaws
+-- OwnedLaws: the rows that concern an operator make the hours of its accounts.
+pub mod OwnedLaws
+-- OwnedTable: the table of those rows, and a row's parties in the bytes of a book.
+pub mod OwnedTable
 -- MoneyLaws: how much money a day's settlement can move.
 pub mod MoneyLaws

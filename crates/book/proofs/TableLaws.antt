@@ -70,7 +70,7 @@ pub sums-room : {rows : List Row} (table : List ℕ) (q : ℕ) → SumsOf rows t
     → Room table 0 q
 sums-room table q s e few l k low = let b = cell-bounded table s e k in omega arith
 
-lane-snoc : (lane : ℕ) (rows : List Row) (r : Row) (a h : ℕ)
+pub lane-snoc : (lane : ℕ) (rows : List Row) (r : Row) (a h : ℕ)
     → laneSum lane (rows ++ r ∷ []) a h ≡ laneSum lane rows a h + laneSum lane (r ∷ []) a h
 lane-snoc lane [] r a h = omega (arith, lane-none lane a h)
 lane-snoc lane (x ∷ xs) r a h =
@@ -111,7 +111,7 @@ lane-set lane (x ∷ xs) zero r a h l = omega (arith, lane-step lane x xs a h, l
 lane-set lane (x ∷ xs) (suc i) r a h l =
     omega (arith, lane-step lane x xs a h, lane-step lane x (set xs i r) a h, lane-set lane xs i r a h (omega arith))
 
-lane-mark : (lane n status : ℕ) (rows : List Row) (a h : ℕ) → 1 ≤ n → n ≤ length rows
+pub lane-mark : (lane n status : ℕ) (rows : List Row) (a h : ℕ) → 1 ≤ n → n ≤ length rows
     → laneSum lane (mark n status rows) a h + laneSum lane (nth rows n noRow ∷ []) a h
     ≡ laneSum lane rows a h + laneSum lane (withStatus status (nth rows n noRow) ∷ []) a h
 unfolding mark

@@ -7,6 +7,8 @@ pub mod Image
 pub mod Valid
 -- Sums: the sums of all account hours in one table.
 pub mod Sums
+-- Owned: the rows that concern an operator.
+pub mod Owned
 -- Changes: what a loop over cells of a book puts to each.
 pub mod Changes
 -- Doors: what opening and the two readings answer, on any bytes.

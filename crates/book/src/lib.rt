@@ -4,6 +4,7 @@ pub mod exposure;
 pub mod layout;
 pub mod margins;
 pub mod opening;
+pub mod owned;
 pub mod part;
 pub mod readings;
 pub mod rows;

@@ -18,6 +18,7 @@ use crate::layout::MOST_IN_4;
 use crate::layout::PRESENT_AT;
 use crate::layout::ROWS_IN;
 use crate::layout::TABLE_SIZE;
+use crate::owned::operator_sums;
 use crate::state::net_place;
 use crate::state::row_count;
 use crate::sums::sums_of;
@@ -91,7 +92,7 @@ pub fn exposure_in(book: &[u8], operator: u8) -> ExposureReading
     if outside(operator, n.operators) {
         return ExposureReading::Unread(Refusal::OutOfRange { bit: 9 });
     }
-    let table = sums_in(book);
+    let table = operator_sums(book, operator);
     ExposureReading::Stands(exposure_of(book, &table, operator))
 }
 

@@ -139,7 +139,7 @@ pub fn release_row(table: &mut [u32], r: Row)
 }
 
 // A table of no rows.
-fn zeros() -> [u32; TABLE_SIZE]
+pub fn zeros() -> [u32; TABLE_SIZE]
     ensures { λ r. ⌜ r ≡ noSums ⌝ }
 {
     [0u32; TABLE_SIZE]

@@ -31,11 +31,14 @@ use Rattle.book.specs.Changes.{raised}
 use Rattle.book.specs.Image.{rowIn}
 use Rattle.book.specs.Valid.{isBook, bookIn}
 use Rattle.book.specs.Sums.{rowsFrom, SumsOf, Tabled, Room, Taken, Holds, Released}
+use Rattle.book.specs.Owned.{concerning}
 use Rattle.book.proofs.Soundness.{SoundRow}
 use Rattle.book.proofs.RowsFrom.{rows-done, rows-step}
 use Rattle.book.proofs.StateLaws.{book-is-sound}
 use Rattle.book.proofs.BookRows.{sound-tabled}
 use Rattle.book.proofs.TableLaws.{sums-hold, released-room, sums-marked}
+use Rattle.book.proofs.OwnedLaws.{Among, among, concerns-counterparty, same-concerning, same-mark}
+use Rattle.book.proofs.OwnedTable.{owned-room}
 use Rattle.registration.specs.Kinds.{decided, Confirming}
 use Rattle.registration.specs.Margins.{brokenBy, broken}
 use Rattle.registration.specs.declared.margins.Broken.the-variants.{Hour, Nowhere}
@@ -43,7 +46,8 @@ use Rattle.registration.proofs.Decisions.{decided-clear, no-row-to-conf
 use Rattle.registration.proofs.Answers.{Answered}
 use Rattle.registration.proofs.Acceptances.{confirmed-answered}
 use Rattle.registration.proofs.SearchLaws.{find-cong}
-use Rattle.registration.proofs.MarginLaws.{book-room, found-hour, found-nowhere}
+use Rattle.registration.proofs.MarginLaws.{found-hour, found-nowhere}
+use Rattle.registration.proofs.CoverLaws.{same-covered}
 
 -- ---- the search for the row
 
@@ -185,6 +189,17 @@ module _ (s : List ℕ) (q : Request) (r : Row) (h : isBook s ≡ true) (w : Con
       broken-confirmed (bookIn s .setup) (bookIn s .part .rows) (confirmedNumber (bookIn s) q) (q .account) pend other
       ∙ ap (λ (x : Row). brokenBy (bookIn s .setup) (bookIn s .part .rows) (withStatus 2 x) (q .account)) (sym (w .row))
 
+  -- the rows that concern the caller's operator
+  abbrev own : List Row
+  own = concerning (bookIn s .setup) (operatorOf (bookIn s .setup) (q .account)) (bookIn s .part .rows)
+
+  -- the row is one of them
+  pub named-among : Among own r
+  named-among =
+      let u : Setup = bookIn s .setup in
+      among u (operatorOf u (q .account)) (bookIn s .part .rows) (confirmedNumber (bookIn s) q) r (w .named) (confirmed-high (bookIn s) q) (w .row)
+      (concerns-counterparty u r (q .account) (named-alike .counterparty))
+
   same-terms : mirrors q (nth (bookIn s .part .rows) (confirmedNumber (bookIn s) q) noRow) ≡ true
   same-terms = rw (← w .row) (w .terms)
 
@@ -208,18 +223,19 @@ module _ (s : List ℕ) (q : Request) (r : Row) (h : isBook s ≡ true) (w : Con
 
     -- ---- the table of sums
 
-    module _ (table : List ℕ) (sums : SumsOf (bookIn s .part .rows) table) where
+    module _ (table : List ℕ) (sums : SumsOf own table) where
       pub named-held : Holds table r
-      named-held = sums-hold table (confirmedNumber (bookIn s) q) r sums (w .named) (confirmed-high (bookIn s) q) (w .row)
+      named-held = let m = named-among in sums-hold table (m .number) r sums (m .low) (m .high) (m .row)
 
       pub trade-room : (after : List ℕ) → Released table after r → Room after 0 (trade .quantity .0)
-      trade-room after f = released-room table after r (trade .quantity .0) f (book-room s h table (trade .quantity .0) sums trade-energy)
+      trade-room after f = released-room table after r (trade .quantity .0) f (owned-room s h _ table (trade .quantity .0) sums trade-energy)
 
       pub trade-sums : (middle after : List ℕ) → length after ≡ 3200 → Released table middle r → Taken middle after trade
-          → SumsOf (mark (confirmedNumber (bookIn s) q) 2 (bookIn s .part .rows)) after
+          → SumsOf (mark (named-among .number) 2 own) after
       trade-sums middle after n f t =
-          sums-marked table middle after (confirmedNumber (bookIn s) q) 2 r trade sums (w .named) (confirmed-high (bookIn s) q) (w .row) e
-          (book-room s h table (trade .quantity .0) sums trade-energy) n f t
+          let m = named-among in
+          sums-marked table middle after (m .number) 2 r trade sums (m .low) (m .high) (m .row) e
+          (owned-room s h _ table (trade .quantity .0) sums trade-energy) n f t
 
     -- ---- what the state decides
 
@@ -231,10 +247,18 @@ module _ (s : List ℕ) (q : Request) (r : Row) (h : isBook s ≡ true) (w : Con
         confirm-breaks (bookIn s) q (w .in-registration) i named same-terms k (broken-next ∙ found-hour _ _ _ _ _ k e f)
 
     module _ (kept : Nowhere ≡ broken (brokenBy (bookIn s .setup) (bookIn s .part .rows) trade (q .account))) (t : Bool)
-        (weight : t ≡ covered (bookIn s .setup) (record { guarantees = bookIn s .part .guarantees; rows = mark (confirmedNumber (bookIn s) q) 2 (bookIn s .part .rows) }) (operatorOf (bookIn s .setup) (q .account))) where
+        (weight : t ≡ covered (bookIn s .setup) (record { guarantees = bookIn s .part .guarantees; rows = mark (named-among .number) 2 own }) (operatorOf (bookIn s .setup) (q .account))) where
       covered-next : covered (bookIn s .setup) (next confirm (bookIn s) q .part) (operatorOf (bookIn s .setup) (q .account)) ≡ t
       unfolding next
-      covered-next = sym weight
+      covered-next =
+          let u : Setup = bookIn s .setup in
+          let o : ℕ = operatorOf u (q .account) in
+          let rows : List Row = bookIn s .part .rows in
+          let n : ℕ = confirmedNumber (bookIn s) q in
+          let m = named-among in
+          sym (weight
+          ∙ same-covered u (bookIn s .part .guarantees) o (mark (m .number) 2 own) (mark n 2 rows)
+          (same-mark u o own rows (m .number) n 2 r (m .low) (m .high) (m .row) (w .named) (confirmed-high (bookIn s) q) (w .row) (same-concerning u o rows)))
 
       -- 19
       pub trade-uncovered : t ≡ false → decided confirm (bookIn s) q ≡ some Uncovered

@@ -26,6 +26,7 @@ use Rattle.book.proofs.SetupRanges.{SoundOperator, maintenance-of}
 use Rattle.book.proofs.ImageReads.{guarantee-read}
 use Rattle.book.proofs.StateLaws.{book-fits, book-is-sound, number-in-book}
 use Rattle.book.proofs.BookRows.{counts-in, setup-in, values-in}
+use Rattle.book.proofs.OwnedLaws.{Same, same-exposure}
 
 maintenance-in-range : {os : List Operator} → Each SoundOperator os → Each (λ m. m ≤ thousand) (map (λ x. x .maintenance) os)
 maintenance-in-range nil = nil
@@ -84,6 +85,12 @@ pub covered-by : (u : Setup) (p : Part) (o g : ℕ) → guaranteeAt (p .guarante
     → covered u p o ≡ leb (exposure u (p .rows) o) (g * (thousand - maintenanceAt u o))
 unfolding covered available
 covered-by u p o g e = rw e
+
+-- rows by which the operator's accounts hold the same are covered alike
+pub same-covered : (u : Setup) (gs : List Cents) (o : ℕ) (xs ys : List Row) → Same u o xs ys
+    → covered u (record { guarantees = gs; rows = xs }) o ≡ covered u (record { guarantees = gs; rows = ys }) o
+unfolding covered available
+same-covered u gs o xs ys e = ap (λ (x : ℕ). leb x (guaranteeAt gs o .0 * (thousand - maintenanceAt u o))) (same-exposure u o xs ys e)
 
 -- ---- the operator of a calling account
 

@@ -11,15 +11,14 @@ use Rattle.rules.specs.declared.AccountHour.{AccountHour}
 use Rattle.rules.specs.declared.Counts.{Counts}
 use Rattle.rules.specs.declared.Row.{Row}
 use Rattle.rules.specs.Basics.{find, nth, counting}
-use Rattle.rules.specs.Limits.{mostEnergy, mostHours, mostAccounts}
+use Rattle.rules.specs.Limits.{mostHours, mostAccounts}
 use Rattle.rules.specs.Books.{Setup, noAccount, accountAt, accountCount}
 use Rattle.rules.specs.Opening.{countsIn, accountsIn, setupOf}
 use Rattle.rules.specs.Registration.{accountHour, takes, keepsMargins}
 use Rattle.book.specs.Valid.{isBook, bookIn}
 use Rattle.book.specs.Sums.{cellOf, InTable, SumsOf, Room}
-use Rattle.book.proofs.TableLaws.{sums-room}
 use Rattle.book.proofs.StateLaws.{book-is-sound}
-use Rattle.book.proofs.BookRows.{counts-in, setup-in, rows-tabled}
+use Rattle.book.proofs.BookRows.{counts-in, setup-in}
 use Rattle.registration.specs.Margins.{brokenBy, broken}
 use Rattle.registration.specs.declared.margins.Broken.the-variants.{Hour, Nowhere}
 
@@ -43,10 +42,6 @@ module _ (s : List ℕ) (h : isBook s ≡ true) where
   pub hour-in-table : (a k : ℕ) → 1 ≤ a → a ≤ accountCount (bookIn s .setup) → 1 ≤ k → k ≤ bookIn s .setup .hours → InTable a k
   hour-in-table a k al ah kl kh =
       record { account-low = al; account-high = accounts-read a ah .1; hour-low = kl; hour-high = omega (arith, hours-few) }
-
-  -- the table of its rows has room for a trade
-  pub book-room : (table : List ℕ) (q : ℕ) → SumsOf (bookIn s .part .rows) table → q ≤ mostEnergy → Room table 0 q
-  book-room table q t l = sums-room table q t (rows-tabled s h) (book-is-sound s h .part-sound .rows-high) l
 
 -- ---- an hour
 

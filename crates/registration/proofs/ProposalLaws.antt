@@ -27,6 +27,7 @@ use Rattle.book.specs.Layout.{rowWidths, presentAt, rowAt, rowCountAt}
 use Rattle.book.specs.Image.{rowValues, rowBytes, rowIn}
 use Rattle.book.specs.Valid.{isBook, bookIn}
 use Rattle.book.specs.Sums.{rowsFrom, Tabled}
+use Rattle.book.specs.Owned.{concerning}
 use Rattle.book.proofs.Soundness.{SoundRow}
 use Rattle.book.proofs.Sizes.{row-small}
 use Rattle.book.proofs.RowsFrom.{rows-done, rows-step}
@@ -34,12 +35,14 @@ use Rattle.book.proofs.BookWrites.{write-register}
 use Rattle.book.proofs.KeepsKinds.{proposed-sound, register-keeps}
 use Rattle.book.proofs.StateLaws.{book-image, book-fits, book-is-sound}
 use Rattle.book.proofs.BookRows.{sound-tabled}
+use Rattle.book.proofs.OwnedLaws.{same-concerning, same-snoc}
 use Rattle.registration.specs.Kinds.{decided, Ready}
 use Rattle.registration.specs.Margins.{brokenBy, broken}
 use Rattle.registration.proofs.Decisions.{decided-clear}
 use Rattle.registration.proofs.Answers.{Answered, accepted-answered}
 use Rattle.registration.proofs.Readiness.{bare, ready-input}
 use Rattle.registration.proofs.SearchLaws.{find-cong}
+use Rattle.registration.proofs.CoverLaws.{same-covered}
 
 -- ---- a search over rows
 
@@ -117,21 +120,27 @@ module _ (b : Book) (q : Request) (first : b .phase ≡ 1) where
       margin-breaks h e = rw (eq-eqb _ 1 first, alone, lt-leb mostRows (length (b .part .rows)) few, broken-next ∙ e)
 
       module _ (kept : brokenBy (b .setup) (b .part .rows) (proposed q) (q .account) ≡ none) where
+        -- by the rows that concern the caller's operator, and the proposed one
         covered-next : covered (b .setup) (next register b q .part) (operatorOf (b .setup) (q .account))
-            ≡ covered (b .setup) (record { guarantees = b .part .guarantees; rows = b .part .rows ++ proposed q ∷ [] }) (operatorOf (b .setup) (q .account))
+            ≡ covered (b .setup) (record { guarantees = b .part .guarantees; rows = concerning (b .setup) (operatorOf (b .setup) (q .account)) (b .part .rows) ++ proposed q ∷ [] }) (operatorOf (b .setup) (q .account))
         unfolding next
-        covered-next = refl
+        covered-next =
+            let u : Setup = b .setup in
+            let o : ℕ = operatorOf u (q .account) in
+            let rows : List Row = b .part .rows in
+            sym (same-covered u (b .part .guarantees) o (concerning u o rows ++ proposed q ∷ []) (rows ++ proposed q ∷ [])
+            (same-snoc u o (concerning u o rows) rows (proposed q) (same-concerning u o rows)))
 
         -- 19
         pub row-uncovered : (t : Bool)
-            → t ≡ covered (b .setup) (record { guarantees = b .part .guarantees; rows = b .part .rows ++ proposed q ∷ [] }) (operatorOf (b .setup) (q .account))
+            → t ≡ covered (b .setup) (record { guarantees = b .part .guarantees; rows = concerning (b .setup) (operatorOf (b .setup) (q .account)) (b .part .rows) ++ proposed q ∷ [] }) (operatorOf (b .setup) (q .account))
             → t ≡ false → decided register b q ≡ some Uncovered
         unfolding decided stateChecks lowest
         row-uncovered t e f =
             rw (eq-eqb _ 1 first, alone, lt-leb mostRows (length (b .part .rows)) few, broken-next ∙ kept, covered-next ∙ sym e ∙ f)
 
         pub row-covered : (t : Bool)
-            → t ≡ covered (b .setup) (record { guarantees = b .part .guarantees; rows = b .part .rows ++ proposed q ∷ [] }) (operatorOf (b .setup) (q .account))
+            → t ≡ covered (b .setup) (record { guarantees = b .part .guarantees; rows = concerning (b .setup) (operatorOf (b .setup) (q .account)) (b .part .rows) ++ proposed q ∷ [] }) (operatorOf (b .setup) (q .account))
             → t ≡ true → decided register b q ≡ none
         unfolding decided stateChecks lowest
         row-covered t e f =

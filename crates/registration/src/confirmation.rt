@@ -19,6 +19,7 @@ ghost use Rattle.book.specs.Valid.{isBook, bookIn, bookBytes};
 ghost use Rattle.book.specs.Sums.{rowsFrom, Tabled};
 ghost use Rattle.registration.specs.Kinds.{decided, outcomeOn, bookAfter, Ready, Confirming};
 use crate::cover::caller_covered;
+use crate::cover::caller_sums;
 use crate::margins::Broken;
 use crate::margins::broken_hour;
 use crate::positions::move_nets;
@@ -27,7 +28,6 @@ use book::layout::PRESENT_AT;
 use book::layout::ROW_WIDTH;
 use book::layout::ROWS_IN;
 use book::layout::STATUS_IN;
-use book::readings::sums_in;
 use book::rows::row_at;
 use book::state::CONFIRMED;
 use book::state::REGISTRATION;
@@ -113,7 +113,7 @@ fn weighed(book: &[u8], request: Request, row: Row) -> Checked
     ensures { λ r. ⌜ r ≡ checked (decided confirm (bookIn (now (book .entry))) request) ⌝ }
 {
     let trade = confirmed_row(row);
-    let mut table = sums_in(book);
+    let mut table = caller_sums(book, request.account);
     if let Broken::Hour(hour) = broken_hour(book, &table, trade, request.account) {
         return Checked::Fails(Refusal::MarginBroken { hour });
     }

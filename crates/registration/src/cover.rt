@@ -11,9 +11,12 @@ ghost use Rattle.rules.specs.Books.{maintenanceAt, guaranteeAt, operatorOf, ope
 ghost use Rattle.rules.specs.Registration.{exposure, covered};
 ghost use Rattle.book.specs.Valid.{isBook, bookIn};
 ghost use Rattle.book.specs.Sums.{SumsOf};
+ghost use Rattle.book.specs.Owned.{concerning};
 use book::exposure::exposure_of;
 use book::layout::GUARANTEE_WIDTH;
 use book::layout::PRESENT_AT;
+use book::layout::TABLE_SIZE;
+use book::owned::operator_sums;
 use setup::entries::account;
 use setup::entries::operator;
 use units::Cents;
@@ -37,6 +40,15 @@ pub fn is_covered(book: &[u8], table: &[u32], guarantee: Cents, number: u8) -> b
     let limit = guarantee.available(owner.maintenance);
     let owed = exposure_of(book, table, number);
     owed.at_most(limit)
+}
+
+// The sums of all account hours by the rows that concern the account's operator.
+pub fn caller_sums(book: &[u8], number: u8) -> [u32; TABLE_SIZE]
+    requires { ⌜ (isBook (now book) ≡ true) × (1 ≤ number) × (number ≤ accountCount (bookIn (now book) .setup)) ⌝ }
+    ensures { λ r. ⌜ SumsOf (concerning (bookIn (now (book .entry)) .setup) (operatorOf (bookIn (now (book .entry)) .setup) number) (bookIn (now (book .entry)) .part .rows)) r ⌝ }
+{
+    let owner = account(book, number);
+    operator_sums(book, owner.operator)
 }
 
 // Whether the exposure of the account's operator is covered by its guarantee in force, by the table of sums.

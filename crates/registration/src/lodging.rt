@@ -8,7 +8,7 @@ ghost use Rattle.registration.specs.Kinds.{decided, outcomeOn, bookAfter
 use crate::cover::is_covered;
 use book::layout::GUARANTEE_WIDTH;
 use book::layout::PRESENT_AT;
-use book::readings::sums_in;
+use book::owned::operator_sums;
 use book::state::REGISTRATION;
 use book::state::phase;
 use rules::Checked;
@@ -27,7 +27,7 @@ fn guarantee_fault(book: &[u8], request: Request) -> Checked
     if phase(book) != REGISTRATION {
         return Checked::Fails(Refusal::WrongPhase);
     }
-    let table = sums_in(book);
+    let table = operator_sums(book, request.operator);
     if is_covered(book, &table, request.guarantee, request.operator) {
         return Checked::Clear;
     }

@@ -17,6 +17,7 @@ ghost use Rattle.book.specs.Valid.{isBook, bookIn, bookBytes};
 ghost use Rattle.book.specs.Sums.{rowsFrom};
 ghost use Rattle.registration.specs.Kinds.{decided, outcomeOn, bookAfter, Ready};
 use crate::cover::caller_covered;
+use crate::cover::caller_sums;
 use crate::margins::Broken;
 use crate::margins::broken_hour;
 use book::layout::MOST_ROWS;
@@ -24,7 +25,6 @@ use book::layout::PRESENT_AT;
 use book::layout::ROW_COUNT_IN;
 use book::layout::ROW_WIDTH;
 use book::layout::ROWS_IN;
-use book::readings::sums_in;
 use book::rows::row_at;
 use book::state::PENDING;
 use book::state::REGISTRATION;
@@ -99,7 +99,7 @@ fn weighed(book: &[u8], request: Request) -> Checked
     ensures { λ r. ⌜ r ≡ checked (decided register (bookIn (now (book .entry))) request) ⌝ }
 {
     let trade = proposed_row(request);
-    let mut table = sums_in(book);
+    let mut table = caller_sums(book, request.account);
     if let Broken::Hour(hour) = broken_hour(book, &table, trade, request.account) {
         return Checked::Fails(Refusal::MarginBroken { hour });
     }

@@ -1,9 +1,10 @@
--- The table of sums is that of the book's rows, and so the exposure by it is the operator's.
+-- The table of sums is that of the rows that concern the operator, and so the exposure by it is the operator's.
 use mathlib.Core.Path.{sym, _∙_}
 use native.Mathlib.Omega.{arith}
 use borrow.Author.Needs.{needs}
 use Rattle.book.proofs.StateLaws.{book-length}
 use Rattle.book.proofs.BookRows.{setup-tabled, estimates-in}
+use Rattle.book.proofs.OwnedTable.{exposure-owned}
 use Rattle.book.proofs.ReadingLaws.{exposure-no-operator, exposure-stands}
 use Rattle.book.proofs.readings.exposure_in.Statement.{statement}
 use Rattle.book.proofs.readings.exposure_in.Tie as tie
@@ -22,8 +23,8 @@ returns c =
     sym (exposure-no-operator (start .args .book .now) (start .pre) (counted .counts .result) (counted .counts .ensures) (start .args .operator)
     (sym (tested .outside .ensures) ∙ c .if1 .taken))
 
-sums-in-requires : tie.Need-sums-in-requires
-sums-in-requires c κs = search needs
+operator-sums-requires : tie.Need-operator-sums-requires
+operator-sums-requires c κs = search needs
 
 slice-aggregate-exposure-of : tie.Need-slice-aggregate-exposure-of
 slice-aggregate-exposure-of c = search needs
@@ -32,7 +33,7 @@ exposure-of-requires : tie.Need-exposure-of-requires
 exposure-of-requires c κs =
     let start = c .before .before .before .before .before .before in
     let book = start .args .book .now in
-    (setup-tabled book (start .pre), estimates-in book (start .pre), c .before .sums-in .ensures .whole)
+    (setup-tabled book (start .pre), estimates-in book (start .pre), c .before .operator-sums .ensures .whole)
 
 returns-2 : tie.Need-returns-2
 returns-2 c =
@@ -42,7 +43,7 @@ returns-2 c =
     let counted = tested .before in
     let start = counted .before .before in
     sym (exposure-stands (start .args .book .now) (start .pre) (counted .counts .result) (counted .counts .ensures) (start .args .operator)
-    (c .exposure-of .result) (sym (tested .outside .ensures) ∙ else1 .if1 .left) (c .exposure-of .ensures _ (summed .sums-in .ensures)))
+    (c .exposure-of .result) (sym (tested .outside .ensures) ∙ else1 .if1 .left) (c .exposure-of .ensures _ (summed .operator-sums .ensures) ∙ exposure-owned (start .args .book .now) (start .pre) (start .args .operator)))
 
 pub exposure-in-spec : {M : Type 1} → statement M
 exposure-in-spec =
@@ -51,7 +52,7 @@ exposure-in-spec =
     counts-requires
     outside-requires
     returns
-    sums-in-requires
+    operator-sums-requires
     slice-aggregate-exposure-of
     exposure-of-requires
     returns-2)

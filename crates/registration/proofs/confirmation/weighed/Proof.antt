@@ -1,4 +1,4 @@
--- The table of the book's rows serves the search, and with the row released and taken again as confirmed it serves the exposure.
+-- The table of the rows that concern the caller's operator serves the search, and with the row released and taken again as confirmed it serves the exposure.
 use mathlib.Core.Path.{sym, ap, _∙_}
 use native.Mathlib.Omega.{arith}
 use Rattle.rules.specs.Verdicts.{checked}
@@ -10,8 +10,11 @@ use Rattle.registration.proofs.confirmation.weighed.Tie as tie
 confirmed-row-requires : tie.Need-confirmed-row-requires
 confirmed-row-requires c κs = search needs
 
-sums-in-requires : tie.Need-sums-in-requires
-sums-in-requires c κs = search needs
+caller-sums-requires : tie.Need-caller-sums-requires
+caller-sums-requires c κs =
+    let pre = c .before .before .pre in
+    let caller = caller-in-book _ _ _ (pre .0) (pre .1) in
+    (pre .0, caller .0, caller .1)
 
 slice-aggregate-broken-hour : tie.Need-slice-aggregate-broken-hour
 slice-aggregate-broken-hour c = search needs
@@ -21,7 +24,7 @@ broken-hour-requires c κs =
     let trade = c .before .before in
     let pre = trade .before .before .pre in
     let caller = caller-in-book _ _ _ (pre .0) (pre .1) in
-    (pre .0, c .before .sums-in .ensures, trade-energy _ _ _ (pre .0) (pre .1) _ (trade .confirmed-row .ensures), caller .0, caller .1)
+    (pre .0, c .before .caller-sums .ensures, trade-energy _ _ _ (pre .0) (pre .1) _ (trade .confirmed-row .ensures), caller .0, caller .1)
 
 enum-known-hour : tie.Need-enum-known-hour
 enum-known-hour c = search needs
@@ -44,7 +47,7 @@ release-row-requires c κs =
     let table = c .before .before .before .before .before in
     let trade = table .before in
     let pre = trade .before .before .pre in
-    let sums = table .sums-in .ensures in
+    let sums = table .caller-sums .ensures in
     (sums .whole, named-tabled _ _ _ (pre .0) (pre .1), named-pending _ _ _ (pre .0) (pre .1), named-held _ _ _ (pre .0) (pre .1) _ (trade .confirmed-row .ensures) _ sums)
 
 slice-aggregate-take-row : tie.Need-slice-aggregate-take-row
@@ -56,7 +59,7 @@ take-row-requires c κs =
     let table = released .before .before .before .before .before .before in
     let trade = table .before in
     let pre = trade .before .before .pre in
-    let sums = table .sums-in .ensures in
+    let sums = table .caller-sums .ensures in
     let same = trade .confirmed-row .ensures in
     (omega (arith, released .release-row .kept .0, sums .whole), trade-tabled _ _ _ (pre .0) (pre .1) _ same, trade-room _ _ _ (pre .0) (pre .1) _ same _ sums _ (released .release-row .ensures))
 
@@ -81,8 +84,8 @@ returns-2 c =
     let trade = table .before in
     let pre = trade .before .before .pre in
     let same = trade .confirmed-row .ensures in
-    let sums = trade-sums _ _ _ (pre .0) (pre .1) _ same _ (table .sums-in .ensures) _ _
-    (omega (arith, taken .take-row .kept .0, released .release-row .kept .0, table .sums-in .ensures .whole)) (released .release-row .ensures) (taken .take-row .ensures) in
+    let sums = trade-sums _ _ _ (pre .0) (pre .1) _ same _ (table .caller-sums .ensures) _ _
+    (omega (arith, taken .take-row .kept .0, released .release-row .kept .0, table .caller-sums .ensures .whole)) (released .release-row .ensures) (taken .take-row .ensures) in
     ap checked (sym (trade-covered _ _ _ (pre .0) (pre .1) _ same (sym (told .enum-told .given .1) ∙ hour .broken-hour .ensures) _ (weighed .caller-covered .ensures _ sums) (c .if1 .taken)))
 
 returns-3 : tie.Need-returns-3
@@ -96,8 +99,8 @@ returns-3 c =
     let trade = table .before in
     let pre = trade .before .before .pre in
     let same = trade .confirmed-row .ensures in
-    let sums = trade-sums _ _ _ (pre .0) (pre .1) _ same _ (table .sums-in .ensures) _ _
-    (omega (arith, taken .take-row .kept .0, released .release-row .kept .0, table .sums-in .ensures .whole)) (released .release-row .ensures) (taken .take-row .ensures) in
+    let sums = trade-sums _ _ _ (pre .0) (pre .1) _ same _ (table .caller-sums .ensures) _ _
+    (omega (arith, taken .take-row .kept .0, released .release-row .kept .0, table .caller-sums .ensures .whole)) (released .release-row .ensures) (taken .take-row .ensures) in
     ap checked (sym (trade-uncovered _ _ _ (pre .0) (pre .1) _ same (sym (told .enum-told .given .1) ∙ hour .broken-hour .ensures) _ (weighed .caller-covered .ensures _ sums) (c .if1 .left)))
 
 pub weighed-spec : {M : Type 1} → statement M
@@ -105,7 +108,7 @@ weighed-spec =
     tie.close
     (tie.spec
     confirmed-row-requires
-    sums-in-requires
+    caller-sums-requires
     slice-aggregate-broken-hour
     broken-hour-requires
     enum-known-hour

@@ -16,8 +16,8 @@ phase-requires c κs = search needs
 returns : tie.Need-returns
 returns c = ap checked (sym (in-wrong-phase _ _ guarantee (λ e. c .if1 .taken (c .before .phase .ensures ∙ e))))
 
-sums-in-requires : tie.Need-sums-in-requires
-sums-in-requires c κs = search needs
+operator-sums-requires : tie.Need-operator-sums-requires
+operator-sums-requires c κs = search needs
 
 slice-aggregate-is-covered : tie.Need-slice-aggregate-is-covered
 slice-aggregate-is-covered c = search needs
@@ -26,7 +26,7 @@ is-covered-requires : tie.Need-is-covered-requires
 is-covered-requires c κs =
     let pre = c .before .before .before .before .before .pre in
     let r = ready-guarantee _ _ (pre .1) in
-    (pre .0, c .before .sums-in .ensures .whole, r .2, r .0, r .1)
+    (pre .0, c .before .operator-sums .ensures .whole, r .2, r .0, r .1)
 
 returns-2 : tie.Need-returns-2
 returns-2 c =
@@ -36,7 +36,7 @@ returns-2 c =
     let r = ready-guarantee _ _ (pre .1) in
     let all = book-is-sound _ (pre .0) .part-sound .guarantees-all in
     ap checked (sym (enough-lodged _ _ (sym (phase .phase .ensures) ∙ t .before .if1 .left) (r .0) (omega (arith, r .1, all)) _
-    (c .before .is-covered .ensures _ (t .sums-in .ensures)) (c .if2 .taken)))
+    (c .before .is-covered .ensures _ (t .operator-sums .ensures)) (c .if2 .taken)))
 
 returns-3 : tie.Need-returns-3
 returns-3 c =
@@ -46,7 +46,7 @@ returns-3 c =
     let r = ready-guarantee _ _ (pre .1) in
     let all = book-is-sound _ (pre .0) .part-sound .guarantees-all in
     ap checked (sym (too-little-lodged _ _ (sym (phase .phase .ensures) ∙ t .before .if1 .left) (r .0) (omega (arith, r .1, all)) _
-    (c .before .is-covered .ensures _ (t .sums-in .ensures)) (c .if2 .left)))
+    (c .before .is-covered .ensures _ (t .operator-sums .ensures)) (c .if2 .left)))
 
 pub guarantee-fault-spec : {M : Type 1} → statement M
 guarantee-fault-spec =
@@ -54,7 +54,7 @@ guarantee-fault-spec =
     (tie.spec
     phase-requires
     returns
-    sums-in-requires
+    operator-sums-requires
     slice-aggregate-is-covered
     is-covered-requires
     returns-2

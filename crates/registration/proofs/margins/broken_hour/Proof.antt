@@ -10,9 +10,11 @@ use Rattle.rules.specs.Books.{accountAt}
 use Rattle.book.specs.Valid.{bookIn}
 use Rattle.book.proofs.StateLaws.{book-length}
 use Rattle.book.proofs.BookRows.{setup-tabled}
+use Rattle.book.proofs.OwnedLaws.{owned-hour}
+use Rattle.book.proofs.OwnedTable.{owned-room}
 use Rattle.registration.specs.Margins.{brokenBy, broken}
 use Rattle.registration.proofs.SearchLaws.{find-done, find-same, find-here, find-next}
-use Rattle.registration.proofs.MarginLaws.{hours-read, account-read, accounts-read, hours-few, hour-in-table, book-room, hour-room, breaks, broken-by-hours, breaks-tested}
+use Rattle.registration.proofs.MarginLaws.{hours-read, account-read, accounts-read, hours-few, hour-in-table, hour-room, breaks, broken-by-hours, breaks-tested}
 use Rattle.registration.proofs.margins.broken_hour.Statement.{statement}
 use Rattle.registration.proofs.margins.broken_hour.Tie as tie
 
@@ -60,7 +62,7 @@ take-requires : tie.Need-take-requires Inv-loop μ-loop
 take-requires c κs =
     let l = c .before .before .before .loop in
     let pre = c .before .before .before .before .before .before .before .before .pre in
-    hour-room _ _ _ _ _ _ (pre .1) (book-room _ (pre .0) _ _ (pre .1) (pre .2))
+    hour-room _ _ _ _ _ _ (pre .1) (owned-room _ (pre .0) _ _ _ (pre .1) (pre .2))
     (hour-in-table _ (pre .0) _ _ (pre .3) (pre .4) (l .inv .3) (omega (arith, l .inv .0)))
     (c .account-hour .ensures _ (pre .1))
 
@@ -78,8 +80,10 @@ loop-again c =
     let k = c .before in
     let x = k .before .before in
     let l = x .before .before .before .loop in
-    let pre = x .before .before .before .before .before .before .before .before .pre in
-    let test = breaks-tested _ _ _ _ _ _ _ _ _ (l .inv .2) (x .account-hour .ensures _ (pre .1)) (k .before .take .ensures) (k .keeps-margins .ensures) in (
+    let start = x .before .before .before .before .before .before .before .before in
+    let b = bookIn (start .args .book .now) in
+    let held = x .account-hour .ensures _ (start .pre .1) ∙ owned-hour (b .setup) (b .part .rows) (start .args .number) (l .hour) in
+    let test = breaks-tested _ _ _ _ _ _ _ _ _ (l .inv .2) held (k .before .take .ensures) (k .keeps-margins .ensures) in (
       l .inv .0,
       l .inv .1,
       l .inv .2,
@@ -96,8 +100,10 @@ returns-2 c =
     let k = c .before in
     let x = k .before .before in
     let l = x .before .before .before .loop in
-    let pre = x .before .before .before .before .before .before .before .before .pre in
-    let test = breaks-tested _ _ _ _ _ _ _ _ _ (l .inv .2) (x .account-hour .ensures _ (pre .1)) (k .before .take .ensures) (k .keeps-margins .ensures) in
+    let start = x .before .before .before .before .before .before .before .before in
+    let b = bookIn (start .args .book .now) in
+    let held = x .account-hour .ensures _ (start .pre .1) ∙ owned-hour (b .setup) (b .part .rows) (start .args .number) (l .hour) in
+    let test = breaks-tested _ _ _ _ _ _ _ _ _ (l .inv .2) held (k .before .take .ensures) (k .keeps-margins .ensures) in
     ap broken (sym (l .inv .5 ∙ find-here _ _ _ (omega arith) (test ∙ ap not (c .if2 .left))))
 
 pub broken-hour-spec : {M : Type 1} → statement M
