@@ -3,24 +3,25 @@ use Prim.Native.Nat.{ℕ, zero, suc, _+_, _*_, _≤_, _<_}
 use mathlib.Core.Path.{_≡_, refl, sym, _∙_}
 use mathlib.Core.Bool.{Bool, true, false, _&&_, _||_, or-assoc, and-false}
 use mathlib.Core.List.{List, _∷_}
+use native.Mathlib.Nat.{add-zero, zero-add, suc-add}
 use native.Mathlib.Numerals.{add-one}
 use native.Mathlib.Omega.{arith}
 use lib.ListN.{length, getD, set, take, drop}
 use lib.Seq.{getD-set-same, getD-set-other}
-use lib.Dec.{eqb}
+use lib.Dec.{ltb, eqb}
 use borrow.Author.Count.{below-more}
-use borrow.Author.Tests.{eqb-true, eq-eqb, ne-eqb}
+use borrow.Author.Tests.{ltb-true, ltb-false, eqb-true, eqb-false, eq-eqb, ne-eqb}
 use Rattle.wire.specs.Numbers.{Bytes}
 use Rattle.wire.proofs.NumberLaws.{number-at-small}
 use Rattle.rules.specs.declared.Row.{Row}
 use Rattle.rules.specs.Basics.{any}
 use Rattle.rules.specs.Registration.{pending, alike}
-use Rattle.rules.proofs.Tests.{test-same, and-both}
+use Rattle.rules.proofs.Tests.{test-same, and-both, or-neither}
 use Rattle.rules.proofs.RowTests.{alike-by, alike-true}
 use Rattle.book.specs.Image.{rowIn}
 use Rattle.book.specs.Valid.{noTwins}
 use Rattle.book.specs.Sums.{rowsFrom}
-use Rattle.book.specs.Twins.{pairOf, keyAmong, keysApart, Keyed}
+use Rattle.book.specs.Twins.{pairOf, markOf, keyAmong, keysApart, Keyed}
 use Rattle.book.proofs.RowBytes.{row-at}
 use Rattle.book.proofs.RowsFrom.{rows-done, rows-step}
 
@@ -54,6 +55,51 @@ pub apart-next : (codes pairs : List ℕ) (k n m : ℕ) → n ≡ m + 1
     → keyAmong codes pairs (getD codes k 0) (getD pairs k 0) (k + 1) m ≡ false → keysApart codes pairs k n ≡ keysApart codes pairs (k + 1) m
 unfolding keysApart
 apart-next codes pairs k n m e h = rw (e, add-one m, keysApart, h)
+
+-- two among the last are two among all
+pub apart-before : (codes pairs : List ℕ) (j k m : ℕ) → keysApart codes pairs (k + j) m ≡ false → keysApart codes pairs k (j + m) ≡ false
+unfolding keysApart
+apart-before codes pairs zero k m h = rw (zero-add m, ← add-zero k) h
+apart-before codes pairs (suc j) k m h =
+    let e : k + suc j ≡ k + 1 + j = omega arith in
+    rw (suc-add, keysApart, apart-before codes pairs j (k + 1) m (rw e at h), and-false)
+
+-- ---- marks
+
+-- the keys from i on, before n, have each left a 1 at their mark
+pub record Marked (codes pairs : List ℕ) (i n : ℕ) (seen : List ℕ) : Type 0 where
+  pub mark-at : (k : ℕ) → i ≤ k → k < n → getD seen (markOf (getD codes k 0) (getD pairs k 0)) 0 ≡ 1
+
+pub none-marked : (codes pairs : List ℕ) (n : ℕ) (seen : List ℕ) → Marked codes pairs n n seen
+none-marked codes pairs n seen = record { mark-at = λ k l b. absurd (omega arith) }
+
+-- a 1 is put at the mark of the key at i
+pub mark-more : (codes pairs : List ℕ) (i j n : ℕ) (seen : List ℕ) (m : ℕ) → j ≡ i + 1 → m ≡ markOf (getD codes i 0) (getD pairs i 0)
+    → m < length seen → Marked codes pairs j n seen → Marked codes pairs i n (set seen m 1)
+mark-more codes pairs i j n seen m y e l h = record { mark-at = λ k a b. go k a b (ltb i k) refl (eqb (at k) m) refl }
+  where
+    at : ℕ → ℕ
+    at k = markOf (getD codes k 0) (getD pairs k 0)
+
+    go : (k : ℕ) → i ≤ k → k < n → (t : Bool) → ltb i k ≡ t → (u : Bool) → eqb (at k) m ≡ u → getD (set seen m 1) (at k) 0 ≡ 1
+    go k a b t f true g = rw (eqb-true (at k) m g) (getD-set-same seen m 1 0 l)
+    go k a b true f false g = getD-set-other seen m (at k) 1 0 (eqb-false _ _ g) ∙ h .mark-at k (omega (arith, ltb-true i k f)) b
+    go k a b false f false g = let d : i ≡ k = omega (arith, ltb-false i k f) in absurd (eqb-false _ _ g (sym (rw d at e)))
+
+-- where 0 stands at a key's mark, it is not among those that have left one
+pub unmarked : (codes pairs : List ℕ) (i n : ℕ) (seen : List ℕ) (code pair : ℕ) → Marked codes pairs i n seen → getD seen (markOf code pair) 0 ≡ 0
+    → (k m : ℕ) → i ≤ k → k + m ≡ n → keyAmong codes pairs code pair k m ≡ false
+unfolding keyAmong
+unmarked codes pairs i n seen code pair h z k zero a e = refl
+unmarked codes pairs i n seen code pair h z k (suc m) a e =
+    or-neither _ _ .1 (other _ refl, unmarked codes pairs i n seen code pair h z (k + 1) m (omega arith) (omega arith))
+  where
+    other : (t : Bool) → (eqb (getD codes k 0) code && eqb (getD pairs k 0) pair) ≡ t → t ≡ false
+    other false f = refl
+    other true f =
+        let w = and-both (eqb (getD codes k 0) code) (eqb (getD pairs k 0) pair) .0 f in
+        let o : getD seen (markOf code pair) 0 ≡ 1 = rw (eqb-true (getD codes k 0) code (w .0), eqb-true (getD pairs k 0) pair (w .1)) at (h .mark-at k a (omega arith)) in
+        absurd (omega arith)
 
 -- ---- keys filled in
 

@@ -1,6 +1,6 @@
 -- The keys by which pending rows alike are found: two numbers for each row, the same for two rows only where both are pending and
 -- alike in proposer, counterparty and code.
-use Prim.Native.Nat.{ℕ, zero, suc, _+_, _*_, _<_}
+use Prim.Native.Nat.{ℕ, zero, suc, _+_, _*_, _/_, _%_, _<_}
 use mathlib.Core.Path.{_≡_}
 use mathlib.Core.Bool.{Bool, true, false, not, _&&_, _||_}
 use mathlib.Core.List.{List}
@@ -14,6 +14,10 @@ use Rattle.book.specs.Image.{rowIn}
 -- the second number of the row that has i before it; the first is its code. A row that is not pending gets one that no other row has
 abbrev pub pairOf : ℕ → Row → ℕ
 pairOf i r = if pending r then r .proposer * 256 + r .counterparty else 65536 + i
+
+-- one of 8,192 marks for each key: any would do, and this one is seldom the same for two keys
+unfoldable pub markOf : ℕ → ℕ → ℕ
+markOf code pair = (code % 4294967296 + code / 4294967296 + 257 * (pair % 4294967296)) % 4294967296 * 2654435761 / 524288 % 8192
 
 -- of the n keys from k on, one is this key
 unfoldable pub keyAmong : List ℕ → List ℕ → ℕ → ℕ → ℕ → ℕ → Bool

@@ -21,15 +21,18 @@ slice-aggregate-keys-apart c = search needs
 slice-aggregate-keys-apart-2 : tie.Need-slice-aggregate-keys-apart-2
 slice-aggregate-keys-apart-2 c = search needs
 
+slice-aggregate-keys-apart-3 : tie.Need-slice-aggregate-keys-apart-3
+slice-aggregate-keys-apart-3 c = search needs
+
 keys-apart-requires : tie.Need-keys-apart-requires
 keys-apart-requires c κs = search needs
 
 returns : tie.Need-returns
 returns c =
-    let k = c .before .before .before .before .before in
+    let k = c .before .before .before .before .before .before .before in
     let b = k .before .before .before in
     let a = b .before .args in
-    c .keys-apart .ensures ∙ keys-apart-rows (bytes-known (a .s .now) (b .shared-slice-known .given)) (a .at) (a .n) _ _ (k .put-keys .ensures)
+    c .before .keys-apart .ensures ∙ keys-apart-rows (bytes-known (a .s .now) (b .shared-slice-known .given)) (a .at) (a .n) _ _ (k .put-keys .ensures)
 
 pub no-twins-spec : {M : Type 1} → statement M
 no-twins-spec =
@@ -40,5 +43,6 @@ no-twins-spec =
     put-keys-requires
     slice-aggregate-keys-apart
     slice-aggregate-keys-apart-2
+    slice-aggregate-keys-apart-3
     keys-apart-requires
     returns)
