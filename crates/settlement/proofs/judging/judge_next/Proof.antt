@@ -31,8 +31,8 @@ sub-results c = search needs
 slice-write-results : tie.Need-slice-write-results
 slice-write-results c = search needs
 
-credit-schedule-requires : tie.Need-credit-schedule-requires
-credit-schedule-requires c κs = search needs
+credit-of-requires : tie.Need-credit-of-requires
+credit-of-requires c κs = search needs
 
 same-length : tie.Need-same-length
 same-length c = search needs
@@ -41,16 +41,18 @@ same-length-2 : tie.Need-same-length-2
 same-length-2 c = search needs
 
 returns : tie.Need-returns
-returns c before tables known =
+returns c =
     let used = c .before .before .before .before in
     let judgement = used .before .before in
     let read = judgement .before .before in
     let start = read .before .before .before .before .before .before .before in
     let pre = start .pre in
-    let account = ap (λ (p : Point). p .account) (sym (point-read _ (pre .0 .0 .is-book) _ (start .args .next .schedule .point) (read .point .ensures))) in
-    let result = judgement .result-of .ensures .0 before (tables .used-by) (known .in-range) in
-    tables-next _ _ _ before _ _ _ _ _ result (pre .0 .1) known (used .use-up .ensures _ _ _ before _ account (tables .used-by))
-    (c .credit-schedule .ensures before _ (tables .balances-of)) (tables .results-of)
+    let account = ap (λ (p : Point). p .account) (sym (point-read _ (pre .0 .0 .is-book) _ (start .args .next .schedule .point) (read .point .ensures))) in (
+      λ before all tables known.
+          tables-next _ _ _ before _ _ _ _ _ (judgement .result-of .ensures .0 before (tables .used-by) (known .in-range)) (pre .0 .1) known
+          (used .use-up .ensures _ _ _ before _ account (tables .used-by)) (c .credit-of .ensures .0 before all _ (tables .balances-of)) (tables .results-of),
+      c .credit-of .ensures .1,
+    )
 
 pub judge-next-spec : {M : Type 1} → statement M
 judge-next-spec =
@@ -62,7 +64,7 @@ judge-next-spec =
     cast-results
     sub-results
     slice-write-results
-    credit-schedule-requires
+    credit-of-requires
     same-length
     same-length-2
     returns)
