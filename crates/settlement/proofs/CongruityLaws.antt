@@ -27,7 +27,7 @@ use Rattle.book.proofs.SetupRanges.{SoundPoint}
 use Rattle.book.proofs.StateLaws.{book-is-sound}
 use Rattle.book.proofs.BookRows.{counts-in, setup-in, setup-tabled, values-in}
 use Rattle.registration.proofs.MarginLaws.{hours-read, hours-few}
-use Rattle.settlement.specs.Tables.{Settling, setupIn, netsIn, pricesOf, cellFor, pointCells, UsedBy}
+use Rattle.settlement.specs.Tables.{Priced, setupIn, netsIn, pricesOf, cellFor, pointCells, UsedBy}
 use Rattle.settlement.specs.Congruity.{InCells, greatest, leftBy, priceNumber, takenAt, resultBy}
 use Rattle.settlement.proofs.CellLaws.{used-in-cell}
 
@@ -82,16 +82,16 @@ module _ (s : List ℕ) (h : isBook s ≡ true) where
     account-read-in-cells p e = rw (point-read p (x .point) e) account-in-cells
 
     -- the price that it meets is one of the table's
-    pub price-stands : (sums prices : List ℕ) → Settling s sums prices → (n : Counts) (p : Point) → n ≡ countsIn s → p ≡ nth (pointsIn s) (x .point) noPoint
+    pub price-stands : (prices : List ℕ) → Priced s prices → (n : Counts) (p : Point) → n ≡ countsIn s → p ≡ nth (pointsIn s) (x .point) noPoint
         → (1 ≤ priceNumber (n .hours) p x) × (4 * priceNumber (n .hours) p x ≤ length prices)
-    price-stands sums prices given n p en ep =
+    price-stands prices given n p en ep =
         let u = setupIn s in
         let zone = pointAt u (x .point) .zone in
         let zonal : Bool = eqb (x .side) 1 || eqb (pointAt u (x .point) .kind) 3 in
         let zones = mul-le-mul-left {m = zone} {n = u .zones} (u .hours) (point-sound .zone-high) in
         let last : u .hours * zone + x .hour ≤ priceCount u = omega (arith, in-range .hour-high, mul-add (u .hours) 1 (u .zones)) in
         let k = number-within zonal (u .hours * zone) (x .hour) (priceCount u) (in-range .hour-low) last in
-        rw (hours-read s h n en, point-read p (x .point) ep) (k .0, omega (arith, k .1, given .priced))
+        rw (hours-read s h n en, point-read p (x .point) ep) (k .0, omega (arith, k .1, given .whole))
 
 -- ---- the result by what is used up
 
@@ -139,14 +139,14 @@ module _ (u : Setup) (net : ℕ → ℕ → Net) (t : List CentsPerMwh) (x : Sch
         rw (pa, pb, pc)
 
 -- the result of a schedule in a book, after those that used up what the table says
-pub result-judged : (s sums prices table : List ℕ) (x : Schedule) → Settling s sums prices → scheduleOk (setupIn s) x ≡ true
+pub result-judged : (s prices table : List ℕ) (x : Schedule) → Priced s prices → scheduleOk (setupIn s) x ≡ true
     → (n : Counts) (p : Point) {a b c : Bool} → n ≡ countsIn s → p ≡ nth (pointsIn s) (x .point) noPoint
     → a ≡ ltb (greatest p (x .side)) (getD table (cellFor (x .point) x) 0 + x .quantity .0)
     → b ≡ ltb (leftBy (netsIn s (p .account) (x .hour)) (x .side)) (getD table (pointCells + cellFor (p .account) x) 0 + x .quantity .0)
     → c ≡ takenAt x (nth (pricesOf s prices) (priceNumber (n .hours) p x) (centsPerMwh 0))
     → (before : List Judged) → UsedBy (setupIn s) (netsIn s) (pricesOf s prices) before table → Each (λ j. scheduleOk (setupIn s) (j .schedule) ≡ true) before
     → resultBy a b c ≡ judge (setupIn s) (netsIn s) (pricesOf s prices) before x
-result-judged s sums prices table x given ok n p {c = c} en ep ta tb tc before by each =
+result-judged s prices table x given ok n p {c = c} en ep ta tb tc before by each =
     let h = given .is-book in
     let hours : n .hours ≡ setupIn s .hours = hours-read s h n en in
     let held : c ≡ takenAt x (nth (pricesOf s prices) (priceNumber (setupIn s .hours) p x) (centsPerMwh 0)) = rw hours at tc in

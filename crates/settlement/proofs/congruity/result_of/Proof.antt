@@ -8,28 +8,28 @@ use Rattle.settlement.proofs.congruity.result_of.Statement.{statement}
 use Rattle.settlement.proofs.congruity.result_of.Tie as tie
 
 counts-requires : tie.Need-counts-requires
-counts-requires c κs = omega (arith, book-length _ (c .before .before .before .before .pre .0 .is-book))
+counts-requires c κs = omega (arith, book-length _ (c .before .before .before .before .pre .0 .priced .is-book))
 
 point-requires : tie.Need-point-requires
 point-requires c κs =
     let pre = c .before .before .before .before .before .pre in
-    point-stands _ (pre .0 .is-book) _ (pre .1 .0)
+    point-stands _ (pre .0 .priced .is-book) _ (pre .1 .0)
 
 over-point-requires : tie.Need-over-point-requires
 over-point-requires c κs =
     let pre = c .before .before .before .before .before .before .pre in
-    (pre .1 .1, point-in-cells _ (pre .0 .is-book) _ (pre .1 .0))
+    (pre .1 .1, point-in-cells _ (pre .0 .priced .is-book) _ (pre .1 .0))
 
 over-account-requires : tie.Need-over-account-requires
 over-account-requires c κs =
     let pre = c .before .before .before .before .before .before .before .pre in
-    (pre .0 .summed .whole, pre .1 .1, account-read-in-cells _ (pre .0 .is-book) _ (pre .1 .0) _ (c .before .point .ensures))
+    (pre .0 .summed .whole, pre .1 .1, account-read-in-cells _ (pre .0 .priced .is-book) _ (pre .1 .0) _ (c .before .point .ensures))
 
 is-taken-requires : tie.Need-is-taken-requires
 is-taken-requires c κs =
     let read = c .before .before in
     let pre = read .before .before .before .before .before .before .pre in
-    price-stands _ (pre .0 .is-book) _ (pre .1 .0) _ _ (pre .0) _ _ (read .before .counts .ensures) (read .point .ensures)
+    price-stands _ (pre .0 .priced .is-book) _ (pre .1 .0) _ (pre .0 .priced) _ _ (read .before .counts .ensures) (read .point .ensures)
 
 ranked-result-requires : tie.Need-ranked-result-requires
 ranked-result-requires c κs = search needs
@@ -40,8 +40,8 @@ returns c =
     let read = tested .before .before .before in
     let pre = read .before .before .before .before .before .before .pre in
     let sums = pre .0 .summed in
-    let judged = result-judged _ _ _ _ _ (pre .0) (pre .1 .0) _ _ (read .before .counts .ensures) (read .point .ensures)
-    (tested .before .before .over-point .ensures) (tested .before .over-account .ensures _ sums) (tested .is-taken .ensures _ (pre .0 .priced)) in
+    let judged = result-judged _ _ _ _ (pre .0 .priced) (pre .1 .0) _ _ (read .before .counts .ensures) (read .point .ensures)
+    (tested .before .before .over-point .ensures) (tested .before .over-account .ensures _ sums) (tested .is-taken .ensures _ (pre .0 .priced .whole)) in
     ((λ before by each. c .ranked-result .ensures .0 ∙ judged before by each), c .ranked-result .ensures .1)
 
 pub result-of-spec : {M : Type 1} → statement M

@@ -25,7 +25,7 @@ accounts-worth-requires c κs = search needs
 loop-holds : tie.Need-loop-holds Inv-loop μ-loop
 loop-holds c =
     let start = c .before .before .before .before .before .before in
-    let few = schedule-count-high _ (start .pre .0 .is-book) in
+    let few = schedule-count-high _ (start .pre .0 .priced .is-book) in
     (search needs, omega (arith, start .pre .1 .0 .0, few), tables-begin _ _ _ _ _ (start .pre .1 .1 .0) (start .pre .1 .1 .1) (c .accounts-worth .ensures))
 
 mul-x : tie.Need-mul-x Inv-loop μ-loop
@@ -39,7 +39,8 @@ judge-next-requires c κs =
     let l = c .before .before .before .before .loop in
     let start = c .before .before .before .before .before .before .before .before .before .before .before in
     let here : l .k < start .args .n = omega arith in
-    next-ready _ _ _ (start .pre .0) (l .k) (omega (arith, here, start .pre .1 .0 .0)) _ (in-turn _ _ _ _ here (start .pre .1 .0 .1)) _ _ _ (l .inv .2)
+    let ready = next-ready _ _ (start .pre .0 .priced) (l .k) (omega (arith, here, start .pre .1 .0 .0)) _ (in-turn _ _ _ _ here (start .pre .1 .0 .1)) _ _ _ (l .inv .2) in
+    ((start .pre .0, ready .0), ready .1)
 
 cast-at : tie.Need-cast-at Inv-loop μ-loop
 cast-at c = search needs
@@ -59,7 +60,7 @@ join-requires c κs =
     let start = c .before .before .before .before .before .before .before .before .before .before .before .before .before .before .before .before .before .before in
     let credit = c .before .before .before .before .before .before .judge-next in
     let h : l .k ≤ length (bookIn (start .args .book .now) .schedules) = omega (arith, start .pre .1 .0 .0) in
-    let held = first-fits _ _ _ (start .pre .0) (l .k) h _ (l .inv .2 .balances-of) (credit .result .operator - 1) in
+    let held = first-fits _ _ (start .pre .0 .priced) (l .k) h _ (l .inv .2 .balances-of) (credit .result .operator - 1) in
     let share = credit .ensures .1 .share-fits in
     (omega (arith, held .0, share .0), omega (arith, held .1, share .1))
 
@@ -83,9 +84,9 @@ loop-again c =
     let here : l .k < start .args .n = omega (arith, c .before .before .before .before .before .before .before .before .before .before .before .loop-test .taken) in
     let h : l .k < length (bookIn (start .args .book .now) .schedules) = omega (arith, here, start .pre .1 .0 .0) in
     let turn = in-turn _ _ _ _ here (start .pre .1 .0 .1) in
-    let known = next-known _ _ _ (start .pre .0) (l .k) h _ turn in
+    let known = next-known _ _ (start .pre .0 .priced) (l .k) h _ turn in
     let credited = credited-made (l .all) (credit .result .operator) (credit .result .share) (c .join .result) (c .join .ensures) in
-    (search needs, search needs, rw credited (tables-follow _ _ _ (start .pre .0) (l .k) h _ turn _ _ _ (credit .ensures .0 _ _ (l .inv .2) known)))
+    (search needs, search needs, rw credited (tables-follow _ _ (start .pre .0 .priced) (l .k) h _ turn _ _ _ (credit .ensures .0 _ _ (l .inv .2) known)))
 
 same-length : tie.Need-same-length Inv-loop μ-loop
 same-length c =

@@ -10,7 +10,7 @@ use Rattle.settlement.proofs.judging.judge_next.Tie as tie
 point-requires : tie.Need-point-requires
 point-requires c κs =
     let pre = c .before .before .before .before .before .before .pre in
-    point-stands _ (pre .0 .0 .is-book) _ (pre .0 .1 .in-range)
+    point-stands _ (pre .0 .0 .priced .is-book) _ (pre .0 .1 .in-range)
 
 result-of-requires : tie.Need-result-of-requires
 result-of-requires c κs = search needs
@@ -18,7 +18,7 @@ result-of-requires c κs = search needs
 use-up-requires : tie.Need-use-up-requires
 use-up-requires c κs =
     let pre = c .before .before .before .before .before .before .before .before .before .before .pre in
-    let h = pre .0 .0 .is-book in
+    let h = pre .0 .0 .priced .is-book in
     let ok = pre .0 .1 .in-range in
     (pre .1 .0, point-in-cells _ h _ ok, account-read-in-cells _ h _ ok _ (c .before .before .before .point .ensures), pre .1 .1)
 
@@ -47,7 +47,7 @@ returns c =
     let read = judgement .before .before in
     let start = read .before .before .before .before .before .before .before in
     let pre = start .pre in
-    let account = ap (λ (p : Point). p .account) (sym (point-read _ (pre .0 .0 .is-book) _ (start .args .next .schedule .point) (read .point .ensures))) in (
+    let account = ap (λ (p : Point). p .account) (sym (point-read _ (pre .0 .0 .priced .is-book) _ (start .args .next .schedule .point) (read .point .ensures))) in (
       λ before all tables known.
           tables-next _ _ _ before _ _ _ _ _ (judgement .result-of .ensures .0 before (tables .used-by) (known .in-range)) (pre .0 .1) known
           (used .use-up .ensures _ _ _ before _ account (tables .used-by)) (c .credit-of .ensures .0 before all _ (tables .balances-of)) (tables .results-of),
