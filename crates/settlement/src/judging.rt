@@ -79,10 +79,10 @@ fn judge_next(
 {
     let x = next.schedule;
     let site = point(book, x.point);
-    let result = result_of(book, sums, prices, used, x);
+    let result = result_of(book, sums, prices, used, site, x);
     use_up(used, site.account, x, result);
     results[next.place as usize - 1] = result;
-    credit_of(book, prices, x, result)
+    credit_of(book, prices, site, x, result)
 }
 
 // Judges the first `n` of an order, one after the other.

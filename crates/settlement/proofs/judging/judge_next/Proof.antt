@@ -1,7 +1,7 @@
 -- What is used up, the results and the balances each follow the schedule's result, which is the definition's.
 use mathlib.Core.Path.{sym, ap}
 use Rattle.rules.specs.declared.Point.{Point}
-use Rattle.settlement.proofs.CongruityLaws.{point-read, point-stands, point-in-cells, account-read-in-cells}
+use Rattle.settlement.proofs.CongruityLaws.{on-point, point-stands, point-in-cells, account-read-in-cells}
 use Rattle.settlement.proofs.TurnLaws.{tables-next}
 use borrow.Author.Needs.{needs}
 use Rattle.settlement.proofs.judging.judge_next.Statement.{statement}
@@ -13,14 +13,17 @@ point-requires c κs =
     point-stands _ (pre .0 .0 .priced .is-book) _ (pre .0 .1 .in-range)
 
 result-of-requires : tie.Need-result-of-requires
-result-of-requires c κs = search needs
+result-of-requires c κs =
+    let pre = c .before .before .before .before .before .before .before .before .pre in
+    (pre .0 .0, (on-point _ (pre .0 .0 .priced .is-book) _ (pre .0 .1 .in-range) _ (c .before .point .ensures), pre .1 .0))
 
 use-up-requires : tie.Need-use-up-requires
 use-up-requires c κs =
     let pre = c .before .before .before .before .before .before .before .before .before .before .pre in
     let h = pre .0 .0 .priced .is-book in
     let ok = pre .0 .1 .in-range in
-    (pre .1 .0, point-in-cells _ h _ ok, account-read-in-cells _ h _ ok _ (c .before .before .before .point .ensures), pre .1 .1)
+    let on = on-point _ h _ ok _ (c .before .before .before .point .ensures) in
+    (pre .1 .0, point-in-cells _ h _ ok, account-read-in-cells _ h _ ok _ (on .its-point), pre .1 .1)
 
 cast-results : tie.Need-cast-results
 cast-results c = search needs
@@ -32,7 +35,10 @@ slice-write-results : tie.Need-slice-write-results
 slice-write-results c = search needs
 
 credit-of-requires : tie.Need-credit-of-requires
-credit-of-requires c κs = search needs
+credit-of-requires c κs =
+    let read = c .before .before .before .before .before .before .before in
+    let pre = read .before .before .before .before .before .before .before .pre in
+    (pre .0 .0 .priced, on-point _ (pre .0 .0 .priced .is-book) _ (pre .0 .1 .in-range) _ (read .point .ensures))
 
 same-length : tie.Need-same-length
 same-length c = search needs
@@ -47,7 +53,8 @@ returns c =
     let read = judgement .before .before in
     let start = read .before .before .before .before .before .before .before in
     let pre = start .pre in
-    let account = ap (λ (p : Point). p .account) (sym (point-read _ (pre .0 .0 .priced .is-book) _ (start .args .next .schedule .point) (read .point .ensures))) in (
+    let on = on-point _ (pre .0 .0 .priced .is-book) _ (pre .0 .1 .in-range) _ (read .point .ensures) in
+    let account = ap (λ (p : Point). p .account) (sym (on .its-point)) in (
       λ before all tables known.
           tables-next _ _ _ before _ _ _ _ _ (judgement .result-of .ensures .0 before (tables .used-by) (known .in-range)) (pre .0 .1) known
           (used .use-up .ensures _ _ _ before _ account (tables .used-by)) (c .credit-of .ensures .0 before all _ (tables .balances-of)) (tables .results-of),
