@@ -27,7 +27,7 @@ use Rattle.book.proofs.SetupRanges.{SoundPoint}
 use Rattle.book.proofs.StateLaws.{book-is-sound}
 use Rattle.book.proofs.BookRows.{counts-in, setup-in, setup-tabled, values-in}
 use Rattle.registration.proofs.MarginLaws.{hours-read, hours-few}
-use Rattle.settlement.specs.Tables.{Settling, setupIn, netsIn, pricesOf, cellFor, pointCells, UsedBy}
+use Rattle.settlement.specs.Tables.{Priced, OnPoint, setupIn, netsIn, pricesOf, cellFor, pointCells, UsedBy}
 use Rattle.settlement.specs.Congruity.{InCells, greatest, leftBy, priceNumber, takenAt, resultBy}
 use Rattle.settlement.proofs.CellLaws.{used-in-cell}
 
@@ -38,60 +38,59 @@ number-within : (b : Bool) (m h n : ℕ) → 1 ≤ h → m + h ≤ n → (1 ≤ 
 number-within true m h n l e = (omega arith, omega arith)
 number-within false m h n l e = (omega arith, omega arith)
 
-module _ (s : List ℕ) (h : isBook s ≡ true) where
-  -- the point that was read
-  pub point-read : (p : Point) (n : ℕ) → p ≡ nth (pointsIn s) n noPoint → p ≡ pointAt (setupIn s) n
+module _ (s : List ℕ) (h : isBook s ≡ true) (x : Schedule) (ok : scheduleOk (setupIn s) x ≡ true) where
+  in-range : SoundSchedule (setupIn s) x
+  in-range = sound-schedule (setupIn s) x ok
+
+  -- its point is one of the book's
+  pub point-stands : Whole s × (1 ≤ x .point) × (x .point ≤ countsIn s .points)
+  point-stands =
+      (setup-tabled s h .whole, in-range .point-low, omega (arith, ap (λ (m : Counts). m .points) (counts-in s h), in-range .point-high))
+
+  -- and in range
+  pub point-sound : SoundPoint (setupIn s .accounts) (setupIn s .zones) (pointAt (setupIn s) (x .point))
+  point-sound = each-nth noPoint (x .point) (values-in s h .points-sound) (in-range .point-low) (in-range .point-high)
+
+  in-cells : (most owner : ℕ) → 1 ≤ owner → owner ≤ most → InCells most owner x
+  in-cells most owner low high =
+      record {
+        owner-low = low;
+        owner-high = high;
+        hour-low = in-range .hour-low;
+        hour-high = omega (arith, in-range .hour-high, hours-few s h);
+        side-low = in-range .side-low;
+        side-high = in-range .side-high;
+      }
+
+  -- its point and its account have their cells
+  pub point-in-cells : InCells mostPoints (x .point) x
+  point-in-cells =
+      in-cells mostPoints (x .point) (in-range .point-low) (omega (arith, in-range .point-high, book-is-sound s h .setup-sound .points-high))
+
+  pub account-in-cells : InCells mostAccounts (pointAt (setupIn s) (x .point) .account) x
+  account-in-cells =
+      in-cells mostAccounts _ (point-sound .account-low) (omega (arith, point-sound .account-high, book-is-sound s h .setup-sound .accounts-high))
+
+  -- as was read
+  pub account-read-in-cells : (p : Point) → p ≡ pointAt (setupIn s) (x .point) → InCells mostAccounts (p .account) x
+  account-read-in-cells p e = rw e account-in-cells
+
+  -- the point that was read is its point
+  pub on-point : (p : Point) → p ≡ nth (pointsIn s) (x .point) noPoint → OnPoint (setupIn s) p x
   unfolding setupOf
-  point-read p n e = e ∙ ap (λ (u : Setup). pointAt u n) (sym (setup-in s h))
+  on-point p e = record { in-range = ok; its-point = e ∙ ap (λ (u : Setup). pointAt u (x .point)) (sym (setup-in s h)) }
 
-  module _ (x : Schedule) (ok : scheduleOk (setupIn s) x ≡ true) where
-    in-range : SoundSchedule (setupIn s) x
-    in-range = sound-schedule (setupIn s) x ok
-
-    -- its point is one of the book's
-    pub point-stands : Whole s × (1 ≤ x .point) × (x .point ≤ countsIn s .points)
-    point-stands =
-        (setup-tabled s h .whole, in-range .point-low, omega (arith, ap (λ (m : Counts). m .points) (counts-in s h), in-range .point-high))
-
-    -- and in range
-    pub point-sound : SoundPoint (setupIn s .accounts) (setupIn s .zones) (pointAt (setupIn s) (x .point))
-    point-sound = each-nth noPoint (x .point) (values-in s h .points-sound) (in-range .point-low) (in-range .point-high)
-
-    in-cells : (most owner : ℕ) → 1 ≤ owner → owner ≤ most → InCells most owner x
-    in-cells most owner low high =
-        record {
-          owner-low = low;
-          owner-high = high;
-          hour-low = in-range .hour-low;
-          hour-high = omega (arith, in-range .hour-high, hours-few s h);
-          side-low = in-range .side-low;
-          side-high = in-range .side-high;
-        }
-
-    -- its point and its account have their cells
-    pub point-in-cells : InCells mostPoints (x .point) x
-    point-in-cells =
-        in-cells mostPoints (x .point) (in-range .point-low) (omega (arith, in-range .point-high, book-is-sound s h .setup-sound .points-high))
-
-    pub account-in-cells : InCells mostAccounts (pointAt (setupIn s) (x .point) .account) x
-    account-in-cells =
-        in-cells mostAccounts _ (point-sound .account-low) (omega (arith, point-sound .account-high, book-is-sound s h .setup-sound .accounts-high))
-
-    -- as was read
-    pub account-read-in-cells : (p : Point) → p ≡ nth (pointsIn s) (x .point) noPoint → InCells mostAccounts (p .account) x
-    account-read-in-cells p e = rw (point-read p (x .point) e) account-in-cells
-
-    -- the price that it meets is one of the table's
-    pub price-stands : (sums prices : List ℕ) → Settling s sums prices → (n : Counts) (p : Point) → n ≡ countsIn s → p ≡ nth (pointsIn s) (x .point) noPoint
-        → (1 ≤ priceNumber (n .hours) p x) × (4 * priceNumber (n .hours) p x ≤ length prices)
-    price-stands sums prices given n p en ep =
-        let u = setupIn s in
-        let zone = pointAt u (x .point) .zone in
-        let zonal : Bool = eqb (x .side) 1 || eqb (pointAt u (x .point) .kind) 3 in
-        let zones = mul-le-mul-left {m = zone} {n = u .zones} (u .hours) (point-sound .zone-high) in
-        let last : u .hours * zone + x .hour ≤ priceCount u = omega (arith, in-range .hour-high, mul-add (u .hours) 1 (u .zones)) in
-        let k = number-within zonal (u .hours * zone) (x .hour) (priceCount u) (in-range .hour-low) last in
-        rw (hours-read s h n en, point-read p (x .point) ep) (k .0, omega (arith, k .1, given .priced))
+  -- the price that it meets is one of the table's
+  pub price-stands : (prices : List ℕ) → Priced s prices → (n : Counts) (p : Point) → n ≡ countsIn s → p ≡ pointAt (setupIn s) (x .point)
+      → (1 ≤ priceNumber (n .hours) p x) × (4 * priceNumber (n .hours) p x ≤ length prices)
+  price-stands prices given n p en ep =
+      let u = setupIn s in
+      let zone = pointAt u (x .point) .zone in
+      let zonal : Bool = eqb (x .side) 1 || eqb (pointAt u (x .point) .kind) 3 in
+      let zones = mul-le-mul-left {m = zone} {n = u .zones} (u .hours) (point-sound .zone-high) in
+      let last : u .hours * zone + x .hour ≤ priceCount u = omega (arith, in-range .hour-high, mul-add (u .hours) 1 (u .zones)) in
+      let k = number-within zonal (u .hours * zone) (x .hour) (priceCount u) (in-range .hour-low) last in
+      rw (hours-read s h n en, ep) (k .0, omega (arith, k .1, given .whole))
 
 -- ---- the result by what is used up
 
@@ -139,20 +138,20 @@ module _ (u : Setup) (net : ℕ → ℕ → Net) (t : List CentsPerMwh) (x : Sch
         rw (pa, pb, pc)
 
 -- the result of a schedule in a book, after those that used up what the table says
-pub result-judged : (s sums prices table : List ℕ) (x : Schedule) → Settling s sums prices → scheduleOk (setupIn s) x ≡ true
-    → (n : Counts) (p : Point) {a b c : Bool} → n ≡ countsIn s → p ≡ nth (pointsIn s) (x .point) noPoint
+pub result-judged : (s prices table : List ℕ) (x : Schedule) → Priced s prices → scheduleOk (setupIn s) x ≡ true
+    → (n : Counts) (p : Point) {a b c : Bool} → n ≡ countsIn s → p ≡ pointAt (setupIn s) (x .point)
     → a ≡ ltb (greatest p (x .side)) (getD table (cellFor (x .point) x) 0 + x .quantity .0)
     → b ≡ ltb (leftBy (netsIn s (p .account) (x .hour)) (x .side)) (getD table (pointCells + cellFor (p .account) x) 0 + x .quantity .0)
     → c ≡ takenAt x (nth (pricesOf s prices) (priceNumber (n .hours) p x) (centsPerMwh 0))
     → (before : List Judged) → UsedBy (setupIn s) (netsIn s) (pricesOf s prices) before table → Each (λ j. scheduleOk (setupIn s) (j .schedule) ≡ true) before
     → resultBy a b c ≡ judge (setupIn s) (netsIn s) (pricesOf s prices) before x
-result-judged s sums prices table x given ok n p {c = c} en ep ta tb tc before by each =
+result-judged s prices table x given ok n p {c = c} en ep ta tb tc before by each =
     let h = given .is-book in
     let hours : n .hours ≡ setupIn s .hours = hours-read s h n en in
     let held : c ≡ takenAt x (nth (pricesOf s prices) (priceNumber (setupIn s .hours) p x) (centsPerMwh 0)) = rw hours at tc in
     let points = each-map (λ j o. point-in-cells s h (j .schedule) o) each in
     let accounts = each-map (λ j o. account-in-cells s h (j .schedule) o) each in
-    judged-by-tests (setupIn s) (netsIn s) (pricesOf s prices) x before table by p (point-read s h p (x .point) ep)
+    judged-by-tests (setupIn s) (netsIn s) (pricesOf s prices) x before table by p ep
     (used-of-point (setupIn s) (netsIn s) (pricesOf s prices) x before table by (point-in-cells s h x ok) points)
     (used-of-account (setupIn s) (netsIn s) (pricesOf s prices) x before table by (account-in-cells s h x ok) accounts)
     ta

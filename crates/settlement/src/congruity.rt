@@ -16,7 +16,7 @@ ghost use Rattle.rules.specs.Registration.{netOf};
 ghost use Rattle.rules.specs.Settlement.{Judged, accountOf, judge, priceCount, pricesIn};
 ghost use Rattle.book.specs.Valid.{scheduleOk};
 ghost use Rattle.book.specs.Sums.{SumsOf, Room};
-ghost use Rattle.settlement.specs.Tables.{Settling, setupIn, netsIn, pricesOf, cellFor, pointCells, UsedBy};
+ghost use Rattle.settlement.specs.Tables.{Settling, OnPoint, setupIn, netsIn, pricesOf, cellFor, pointCells, UsedBy};
 ghost use Rattle.settlement.specs.Congruity.{InCells, nothingUsed, greatest, leftBy, priceNumber, takenAt, resultBy};
 use crate::prices::price;
 use book::sums::account_hour;
@@ -24,7 +24,6 @@ use rules::Net;
 use rules::Point;
 use rules::Schedule;
 use setup::counts::counts;
-use setup::entries::point;
 use units::CentsPerMwh;
 use units::Kwh;
 
@@ -161,15 +160,21 @@ fn ranked_result(point: bool, account: bool, taken: bool) -> u8
     NOT_TAKEN
 }
 
-// The result of a schedule, after those that used up what the table says.
-pub fn result_of(book: &[u8], sums: &[u32], prices: &[u8], used: &[u32], x: Schedule) -> u8
+// The result of a schedule on its point, after those that used up what the table says.
+pub fn result_of(
+    book: &[u8],
+    sums: &[u32],
+    prices: &[u8],
+    used: &[u32],
+    point: Point,
+    x: Schedule,
+) -> u8
     requires { ⌜ Settling (now book) (now sums) (now prices) ⌝ }
-    requires { ⌜ (scheduleOk (setupIn (now book)) x ≡ true) × (length (now used) ≡ 4800) ⌝ }
+    requires { ⌜ OnPoint (setupIn (now book)) point x × (length (now used) ≡ 4800) ⌝ }
     ensures meaning { λ r. ⌜ ((before : List Judged) → UsedBy (setupIn (now (book .entry))) (netsIn (now (book .entry))) (pricesOf (now (book .entry)) (now (prices .entry))) before (now (used .entry)) → Each (λ j. scheduleOk (setupIn (now (book .entry))) (j .schedule) ≡ true) before → r ≡ judge (setupIn (now (book .entry))) (netsIn (now (book .entry))) (pricesOf (now (book .entry)) (now (prices .entry))) before x) ⌝ }
     ensures bounded { λ r. ⌜ r ≤ 3 ⌝ }
 {
     let n = counts(book);
-    let point = point(book, x.point);
     let over_point = over_point(used, x, point);
     let over_account = over_account(sums, used, x, point.account);
     let taken = is_taken(prices, n.hours, point, x);

@@ -7,13 +7,15 @@ ghost use Rattle.rules.specs.Limits.{mostSchedules};
 ghost use Rattle.rules.specs.Settlement.{Judged, placed, prioritised};
 ghost use Rattle.book.specs.Valid.{isBook, bookIn};
 ghost use Rattle.book.specs.Sums.{Room};
-ghost use Rattle.settlement.specs.Tables.{Settling, setupIn};
+ghost use Rattle.settlement.specs.Tables.{Priced, Settling, setupIn};
 ghost use Rattle.settlement.specs.Congruity.{nothingUsed};
-ghost use Rattle.settlement.specs.Balances.{Fitting};
-ghost use Rattle.settlement.specs.Judging.{Priced, InPlace, nonePlaced, noResults, TablesIn, BeforeIn, judgedNext, settledIn, DrawnUp};
+ghost use Rattle.settlement.specs.Balances.{credited, Creditable};
+ghost use Rattle.settlement.specs.Judging.{InPlace, nonePlaced, noResults, TablesIn, BeforeIn, judgedNext, settledIn, DrawnUp};
+use crate::Credit;
 use crate::balances::OPERATORS;
 use crate::balances::accounts_worth;
-use crate::balances::credit_schedule;
+use crate::balances::credit_of;
+use crate::balances::join;
 use crate::congruity::nothing_used;
 use crate::congruity::result_of;
 use crate::congruity::use_up;
@@ -61,26 +63,26 @@ fn placed_in(book: &[u8], n: usize) -> [Placed; MOST_SCHEDULES]
     all
 }
 
-// Judges the next schedule: its result, what it uses up of the limits, and its share of its operator's balance.
+// Judges the next schedule: its result, what it uses up of the limits, and what it adds to its operator's balance.
 fn judge_next(
     book: &[u8],
     sums: &[u32],
     prices: &[u8],
     used: &mut [u32],
     results: &mut [u8],
-    all: [Balance; OPERATORS],
     next: Placed,
-) -> [Balance; OPERATORS]
+) -> Credit
     requires { ⌜ Settling (now book) (now sums) (now prices) × InPlace (setupIn (now book)) next ⌝ }
-    requires { ⌜ (length (now used) ≡ 4800) × Room (now used) 0 (next .schedule .quantity .0) × (length (now results) ≡ mostSchedules) × Fitting all ⌝ }
-    ensures { λ r. ⌜ ((before : List Judged) → TablesIn (now (book .entry)) (now (prices .entry)) before (now (used .entry)) all (now (results .entry)) → BeforeIn (now (book .entry)) (now (prices .entry)) before next → TablesIn (now (book .entry)) (now (prices .entry)) (judgedNext (now (book .entry)) (now (prices .entry)) before next ∷ before) (now (used .exit)) r (now (results .exit))) ⌝ }
+    requires { ⌜ (length (now used) ≡ 4800) × Room (now used) 0 (next .schedule .quantity .0) × (length (now results) ≡ mostSchedules) ⌝ }
+    ensures tables { λ r. ⌜ ((before : List Judged) (all : List Balance) → TablesIn (now (book .entry)) (now (prices .entry)) before (now (used .entry)) all (now (results .entry)) → BeforeIn (now (book .entry)) (now (prices .entry)) before next → TablesIn (now (book .entry)) (now (prices .entry)) (judgedNext (now (book .entry)) (now (prices .entry)) before next ∷ before) (now (used .exit)) (credited all (r .operator) (r .share)) (now (results .exit))) ⌝ }
+    ensures bounded { λ r. ⌜ Creditable r ⌝ }
 {
     let x = next.schedule;
     let site = point(book, x.point);
-    let result = result_of(book, sums, prices, used, x);
+    let result = result_of(book, sums, prices, used, site, x);
     use_up(used, site.account, x, result);
     results[next.place as usize - 1] = result;
-    credit_schedule(all, book, prices, x, result)
+    credit_of(book, prices, site, x, result)
 }
 
 // Judges the first `n` of an order, one after the other.
@@ -102,8 +104,10 @@ fn judge_all(
     let mut k = 0;
     while k < n {
         let x = order[k];
-        let next = judge_next(book, sums, prices, used, results, all, x);
-        all = next;
+        let credit = judge_next(book, sums, prices, used, results, x);
+        let at = credit.operator as usize - 1;
+        let held = all[at];
+        all[at] = join(held, credit.share);
         k = k + 1;
     }
     all

@@ -5,3 +5,11 @@ pub mod judging;
 pub mod prices;
 pub mod scheduling;
 pub mod settling;
+
+use rules::Balance;
+
+// A share, and the operator to whose balance it is added.
+pub struct Credit {
+    pub operator: u8,
+    pub share: Balance,
+}

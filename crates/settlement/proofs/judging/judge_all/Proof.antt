@@ -7,7 +7,8 @@ use borrow.Author.Needs.{needs}
 use Rattle.book.specs.Valid.{bookIn}
 use Rattle.book.proofs.StateLaws.{schedule-count-high}
 use Rattle.settlement.specs.Judging.{TablesIn}
-use Rattle.settlement.proofs.TurnLaws.{judgedIn, length-unused, length-unjudged, in-turn, tables-begin, tables-end, next-ready, next-known, tables-follow}
+use Rattle.settlement.proofs.BalanceLaws.{credited-made}
+use Rattle.settlement.proofs.TurnLaws.{judgedIn, length-unused, length-unjudged, in-turn, tables-begin, tables-end, first-fits, next-ready, next-known, tables-follow}
 use Rattle.settlement.proofs.judging.judge_all.Statement.{statement}
 use Rattle.settlement.proofs.judging.judge_all.Tie as tie
 
@@ -24,7 +25,7 @@ accounts-worth-requires c κs = search needs
 loop-holds : tie.Need-loop-holds Inv-loop μ-loop
 loop-holds c =
     let start = c .before .before .before .before .before .before in
-    let few = schedule-count-high _ (start .pre .0 .is-book) in
+    let few = schedule-count-high _ (start .pre .0 .priced .is-book) in
     (search needs, omega (arith, start .pre .1 .0 .0, few), tables-begin _ _ _ _ _ (start .pre .1 .1 .0) (start .pre .1 .1 .1) (c .accounts-worth .ensures))
 
 mul-x : tie.Need-mul-x Inv-loop μ-loop
@@ -38,7 +39,36 @@ judge-next-requires c κs =
     let l = c .before .before .before .before .loop in
     let start = c .before .before .before .before .before .before .before .before .before .before .before in
     let here : l .k < start .args .n = omega arith in
-    next-ready _ _ _ (start .pre .0) (l .k) (omega (arith, here, start .pre .1 .0 .0)) _ (in-turn _ _ _ _ here (start .pre .1 .0 .1)) _ _ _ (l .inv .2)
+    let ready = next-ready _ _ (start .pre .0 .priced) (l .k) (omega (arith, here, start .pre .1 .0 .0)) _ (in-turn _ _ _ _ here (start .pre .1 .0 .1)) _ _ _ (l .inv .2) in
+    ((start .pre .0, ready .0), ready .1)
+
+cast-at : tie.Need-cast-at Inv-loop μ-loop
+cast-at c = search needs
+
+sub-at : tie.Need-sub-at Inv-loop μ-loop
+sub-at c = search needs
+
+mul-held : tie.Need-mul-held Inv-loop μ-loop
+mul-held c = search needs
+
+array-copy-out-held : tie.Need-array-copy-out-held Inv-loop μ-loop
+array-copy-out-held c = search needs
+
+join-requires : tie.Need-join-requires Inv-loop μ-loop
+join-requires c κs =
+    let l = c .before .before .before .before .before .before .before .before .before .before .before .loop in
+    let start = c .before .before .before .before .before .before .before .before .before .before .before .before .before .before .before .before .before .before in
+    let credit = c .before .before .before .before .before .before .judge-next in
+    let h : l .k ≤ length (bookIn (start .args .book .now) .schedules) = omega (arith, start .pre .1 .0 .0) in
+    let held = first-fits _ _ (start .pre .0 .priced) (l .k) h _ (l .inv .2 .balances-of) (credit .result .operator - 1) in
+    let share = credit .ensures .1 .share-fits in
+    (omega (arith, held .0, share .0), omega (arith, held .1, share .1))
+
+mul-all : tie.Need-mul-all Inv-loop μ-loop
+mul-all c = search needs
+
+array-set-from-all : tie.Need-array-set-from-all Inv-loop μ-loop
+array-set-from-all c = search needs
 
 add-k : tie.Need-add-k Inv-loop μ-loop
 add-k c = search needs
@@ -48,13 +78,15 @@ loop-less c = search needs
 
 loop-again : tie.Need-loop-again Inv-loop μ-loop
 loop-again c =
-    let l = c .before .before .before .before .before .before .before .before .before .loop in
-    let start = c .before .before .before .before .before .before .before .before .before .before .before .before .before .before .before .before in
-    let here : l .k < start .args .n = omega arith in
+    let l = c .before .before .before .before .before .before .before .before .before .before .before .before .loop in
+    let start = c .before .before .before .before .before .before .before .before .before .before .before .before .before .before .before .before .before .before .before in
+    let credit = c .before .before .before .before .before .before .before .judge-next in
+    let here : l .k < start .args .n = omega (arith, c .before .before .before .before .before .before .before .before .before .before .before .loop-test .taken) in
     let h : l .k < length (bookIn (start .args .book .now) .schedules) = omega (arith, here, start .pre .1 .0 .0) in
     let turn = in-turn _ _ _ _ here (start .pre .1 .0 .1) in
-    let known = next-known _ _ _ (start .pre .0) (l .k) h _ turn in
-    (search needs, search needs, tables-follow _ _ _ (start .pre .0) (l .k) h _ turn _ _ _ (c .before .before .before .before .judge-next .ensures _ (l .inv .2) known))
+    let known = next-known _ _ (start .pre .0 .priced) (l .k) h _ turn in
+    let credited = credited-made (l .all) (credit .result .operator) (credit .result .share) (c .join .result) (c .join .ensures) in
+    (search needs, search needs, rw credited (tables-follow _ _ (start .pre .0 .priced) (l .k) h _ turn _ _ _ (credit .ensures .0 _ _ (l .inv .2) known)))
 
 same-length : tie.Need-same-length Inv-loop μ-loop
 same-length c =
@@ -84,6 +116,13 @@ judge-all-spec =
     mul-x
     array-copy-out-x
     judge-next-requires
+    cast-at
+    sub-at
+    mul-held
+    array-copy-out-held
+    join-requires
+    mul-all
+    array-set-from-all
     add-k
     loop-less
     loop-again

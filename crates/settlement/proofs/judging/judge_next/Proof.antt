@@ -1,7 +1,7 @@
 -- What is used up, the results and the balances each follow the schedule's result, which is the definition's.
 use mathlib.Core.Path.{sym, ap}
 use Rattle.rules.specs.declared.Point.{Point}
-use Rattle.settlement.proofs.CongruityLaws.{point-read, point-stands, point-in-cells, account-read-in-cells}
+use Rattle.settlement.proofs.CongruityLaws.{on-point, point-stands, point-in-cells, account-read-in-cells}
 use Rattle.settlement.proofs.TurnLaws.{tables-next}
 use borrow.Author.Needs.{needs}
 use Rattle.settlement.proofs.judging.judge_next.Statement.{statement}
@@ -10,17 +10,20 @@ use Rattle.settlement.proofs.judging.judge_next.Tie as tie
 point-requires : tie.Need-point-requires
 point-requires c κs =
     let pre = c .before .before .before .before .before .before .pre in
-    point-stands _ (pre .0 .0 .is-book) _ (pre .0 .1 .in-range)
+    point-stands _ (pre .0 .0 .priced .is-book) _ (pre .0 .1 .in-range)
 
 result-of-requires : tie.Need-result-of-requires
-result-of-requires c κs = search needs
+result-of-requires c κs =
+    let pre = c .before .before .before .before .before .before .before .before .pre in
+    (pre .0 .0, (on-point _ (pre .0 .0 .priced .is-book) _ (pre .0 .1 .in-range) _ (c .before .point .ensures), pre .1 .0))
 
 use-up-requires : tie.Need-use-up-requires
 use-up-requires c κs =
     let pre = c .before .before .before .before .before .before .before .before .before .before .pre in
-    let h = pre .0 .0 .is-book in
+    let h = pre .0 .0 .priced .is-book in
     let ok = pre .0 .1 .in-range in
-    (pre .1 .0, point-in-cells _ h _ ok, account-read-in-cells _ h _ ok _ (c .before .before .before .point .ensures), pre .1 .1)
+    let on = on-point _ h _ ok _ (c .before .before .before .point .ensures) in
+    (pre .1 .0, point-in-cells _ h _ ok, account-read-in-cells _ h _ ok _ (on .its-point), pre .1 .1)
 
 cast-results : tie.Need-cast-results
 cast-results c = search needs
@@ -31,8 +34,11 @@ sub-results c = search needs
 slice-write-results : tie.Need-slice-write-results
 slice-write-results c = search needs
 
-credit-schedule-requires : tie.Need-credit-schedule-requires
-credit-schedule-requires c κs = search needs
+credit-of-requires : tie.Need-credit-of-requires
+credit-of-requires c κs =
+    let read = c .before .before .before .before .before .before .before in
+    let pre = read .before .before .before .before .before .before .before .pre in
+    (pre .0 .0 .priced, on-point _ (pre .0 .0 .priced .is-book) _ (pre .0 .1 .in-range) _ (read .point .ensures))
 
 same-length : tie.Need-same-length
 same-length c = search needs
@@ -41,16 +47,19 @@ same-length-2 : tie.Need-same-length-2
 same-length-2 c = search needs
 
 returns : tie.Need-returns
-returns c before tables known =
+returns c =
     let used = c .before .before .before .before in
     let judgement = used .before .before in
     let read = judgement .before .before in
     let start = read .before .before .before .before .before .before .before in
     let pre = start .pre in
-    let account = ap (λ (p : Point). p .account) (sym (point-read _ (pre .0 .0 .is-book) _ (start .args .next .schedule .point) (read .point .ensures))) in
-    let result = judgement .result-of .ensures .0 before (tables .used-by) (known .in-range) in
-    tables-next _ _ _ before _ _ _ _ _ result (pre .0 .1) known (used .use-up .ensures _ _ _ before _ account (tables .used-by))
-    (c .credit-schedule .ensures before _ (tables .balances-of)) (tables .results-of)
+    let on = on-point _ (pre .0 .0 .priced .is-book) _ (pre .0 .1 .in-range) _ (read .point .ensures) in
+    let account = ap (λ (p : Point). p .account) (sym (on .its-point)) in (
+      λ before all tables known.
+          tables-next _ _ _ before _ _ _ _ _ (judgement .result-of .ensures .0 before (tables .used-by) (known .in-range)) (pre .0 .1) known
+          (used .use-up .ensures _ _ _ before _ account (tables .used-by)) (c .credit-of .ensures .0 before all _ (tables .balances-of)) (tables .results-of),
+      c .credit-of .ensures .1,
+    )
 
 pub judge-next-spec : {M : Type 1} → statement M
 judge-next-spec =
@@ -62,7 +71,7 @@ judge-next-spec =
     cast-results
     sub-results
     slice-write-results
-    credit-schedule-requires
+    credit-of-requires
     same-length
     same-length-2
     returns)

@@ -3,7 +3,7 @@ use mathlib.Core.Path.{ap, _∙_}
 use native.Mathlib.Omega.{arith}
 use Rattle.rules.specs.Settlement.{prioritised}
 use Rattle.book.proofs.StateLaws.{schedule-count-high}
-use Rattle.settlement.proofs.TurnLaws.{settling-at, drawn-up}
+use Rattle.settlement.proofs.TurnLaws.{drawn-up}
 use borrow.Author.Needs.{needs}
 use Rattle.settlement.proofs.judging.judge_schedules.Statement.{statement}
 use Rattle.settlement.proofs.judging.judge_schedules.Tie as tie
@@ -34,7 +34,7 @@ judge-all-requires c κs =
     let summed = ordered .before .before in
     let pre = summed .before .before .before .before .pre in
     let order = ordered .in-order .ensures ∙ ap prioritised (ordered .before .placed-in .ensures) in
-    (settling-at _ _ _ (pre .0) (summed .sums-in .ensures), ((pre .1, order), (c .before .before .before .nothing-used .ensures, pre .2)))
+    (record { priced = pre .0; summed = summed .sums-in .ensures }, ((pre .1, order), (c .before .before .before .nothing-used .ensures, pre .2)))
 
 same-length : tie.Need-same-length
 same-length c = search needs
@@ -44,7 +44,7 @@ returns c =
     let all = c .before .before .before in
     let summed = all .before .before .before .before .before .before .before in
     let pre = summed .before .before .before .before .pre in
-    drawn-up _ _ _ (settling-at _ _ _ (pre .0) (summed .sums-in .ensures)) _ _ _ (all .judge-all .ensures)
+    drawn-up _ _ (pre .0) _ _ _ (all .judge-all .ensures)
 
 pub judge-schedules-spec : {M : Type 1} → statement M
 judge-schedules-spec =
