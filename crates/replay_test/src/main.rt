@@ -11,13 +11,14 @@ use printing::book_buffer;
 use printing::line_buffer;
 use printing::replay_day;
 use printing::stream_buffer;
+use walk::steps::STREAM_ROOM;
 use wire::numbers::get_u32;
 
 // The bytes of a case before its stream: a tag and a length.
 const HEAD: usize = 5;
 
 // What is read of a stream: the longest that is replayed, and one byte more.
-const STREAM_ROOM: u32 = 65_537;
+const MOST_READ: u32 = STREAM_ROOM as u32;
 
 // No input has more streams.
 const MOST_STREAMS: u64 = 100_000;
@@ -38,8 +39,8 @@ fn read_part(size: u32, buffer: &mut [u8]) {
 // Reads a stream. What is past the room for one is let go.
 fn read_stream(size: u32, space: &mut [u8], rest: &mut [u8]) {
     read_part(size, space);
-    if STREAM_ROOM < size {
-        read_part(size - STREAM_ROOM, rest);
+    if MOST_READ < size {
+        read_part(size - MOST_READ, rest);
     }
 }
 

@@ -7,3 +7,5 @@ pub mod CallLaws
 pub mod AnswerLaws
 -- StepLaws: a step by what stands at its place.
 pub mod StepLaws
+-- GatherLaws: lines put behind those in a buffer, and the text to come.
+pub mod GatherLaws

@@ -3,3 +3,5 @@
 pub mod Walk
 -- Lent: what a step leaves in the buffers that it is lent.
 pub mod Lent
+-- Gathering: the lines of many items in one buffer, and the text still to come.
+pub mod Gathering

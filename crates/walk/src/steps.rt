@@ -21,7 +21,10 @@ use rules::Verdict;
 use rules::verdicts::outcome_numbers;
 
 // Bytes of the longest stream that is replayed.
-pub const LONGEST_STREAM: usize = 65_536;
+const LONGEST_STREAM: usize = 65_536;
+
+// One byte more, which tells that a stream is longer.
+pub const STREAM_ROOM: usize = LONGEST_STREAM + 1;
 
 // Room for the lines of any step.
 pub const STEP_ROOM: usize = 23_016;

@@ -1,0 +1,73 @@
+-- Each turn keeps the whole text and counts one item, so that the items that may still come are the measure.
+use Prim.Native.Nat.{_+_, _-_, _<_}
+use mathlib.Core.Path.{_≡_, refl, _∙_}
+use mathlib.Core.Logic.{_⊎_, inl, inr}
+use native.Mathlib.Omega.{arith}
+use lib.ListN.{length}
+use Rattle.walk.proofs.GatherLaws.{counts-on, turns, went-further}
+use Rattle.walk.specs.Gathering.{Underway, wholeText}
+use borrow.Author.Needs.{needs}
+use Rattle.walk.proofs.gathering.gather.Statement.{statement}
+use Rattle.walk.proofs.gathering.gather.Tie as tie
+
+abbrev Inv-loop : tie.InvT-loop
+Inv-loop stream book₀ out₀ last reached₀ book out reached =
+    (wholeText stream book out reached ≡ wholeText stream book₀ out₀ reached₀)
+    × (Underway stream book out reached)
+    × ((reached₀ .number < reached .number) ⊎ (reached ≡ reached₀))
+    × (length book ≡ length book₀)
+    × (length out ≡ length out₀)
+
+abbrev μ-loop : tie.MeasureT-loop
+μ-loop stream book₀ out₀ last reached₀ book out reached = length stream + 2 - reached .number
+
+sub-last : tie.Need-sub-last Inv-loop μ-loop
+sub-last c = search needs
+
+loop-holds : tie.Need-loop-holds Inv-loop μ-loop
+loop-holds c = (refl, c .before .before .before .pre .1, inr refl, refl, refl)
+
+gather-item-requires : tie.Need-gather-item-requires Inv-loop μ-loop
+gather-item-requires c κs =
+    let l = c .before .before .before .before .before .loop in
+    let t = turns (l .reached) _ (c .before .before .if1 .taken) in
+    ((t .0, omega arith), l .inv .1)
+
+loop-less : tie.Need-loop-less Inv-loop μ-loop
+loop-less c =
+    let l = c .before .before .before .before .before .before .before .before .before .before .loop in
+    let e = c .before .before .before .before .gather-item .ensures in
+    let on = l .inv .1 .onward (turns (l .reached) _ (c .before .before .before .before .before .before .before .if1 .taken) .0) in
+    omega arith
+
+loop-again : tie.Need-loop-again Inv-loop μ-loop
+loop-again c =
+    let l = c .before .before .before .before .before .before .before .before .before .before .loop in
+    let e = c .before .before .before .before .gather-item .ensures in
+    (e .0 ∙ l .inv .0, e .1 .0, inl (counts-on _ _ (l .inv .2) (e .1 .1)), omega arith, omega arith)
+
+same-length : tie.Need-same-length Inv-loop μ-loop
+same-length c = search needs
+
+same-length-2 : tie.Need-same-length-2 Inv-loop μ-loop
+same-length-2 c = search needs
+
+returns : tie.Need-returns Inv-loop μ-loop
+returns c =
+    let l = c .before .before .before .loop in
+    (l .inv .0, (l .inv .1, λ on room. went-further _ _ _ (l .inv .2) (c .if1 .left) on (omega arith)))
+
+pub gather-spec : {M : Type 1} → statement M
+gather-spec =
+    tie.close
+    (tie.spec
+    Inv-loop
+    μ-loop
+    sub-last
+    loop-holds
+    gather-item-requires
+    loop-less
+    loop-again
+    same-length
+    same-length-2
+    returns)

@@ -1,0 +1,29 @@
+-- The lines of the beginning stand at the front; all that follows is to come.
+use native.Mathlib.Omega.{arith}
+use Rattle.walk.proofs.GatherLaws.{first-whole}
+use borrow.Author.Needs.{needs}
+use Rattle.walk.proofs.gathering.gather_first.Statement.{statement}
+use Rattle.walk.proofs.gathering.gather_first.Tie as tie
+
+begin-requires : tie.Need-begin-requires
+begin-requires c κs = search needs
+
+same-length : tie.Need-same-length
+same-length c = search needs
+
+same-length-2 : tie.Need-same-length-2
+same-length-2 c = search needs
+
+returns : tie.Need-returns
+returns c =
+    let e = c .before .before .before .before .begin .ensures in (
+      first-whole _ _ _ (e .0) (e .1 .0) (e .1 .1 .0),
+      record {
+        room = omega (arith, same-length-2 c);
+        counted = omega arith;
+        onward = λ on. (e .1 .1 .1 .1 .0 on, e .1 .1 .1 .1 .1, omega arith);
+      },
+    )
+
+pub gather-first-spec : {M : Type 1} → statement M
+gather-first-spec = tie.close (tie.spec begin-requires same-length same-length-2 returns)

@@ -1,0 +1,68 @@
+-- The item's lines stand behind those that were gathered, and what its step leaves is still to come.
+use mathlib.Core.Path.{refl}
+use native.Mathlib.Omega.{arith}
+use lib.ListN.{length-take, length-drop}
+use Rattle.wire.proofs.NumberLaws.{bytes-known}
+use Rattle.walk.proofs.GatherLaws.{item-whole}
+use borrow.Author.Needs.{needs}
+use Rattle.walk.proofs.gathering.gather_item.Statement.{statement}
+use Rattle.walk.proofs.gathering.gather_item.Tie as tie
+
+sub-walk-item : tie.Need-sub-walk-item
+sub-walk-item c = search needs
+
+part-walk-item-start : tie.Need-part-walk-item-start
+part-walk-item-start c = search needs
+
+part-walk-item-end : tie.Need-part-walk-item-end
+part-walk-item-end c = search needs
+
+walk-item-requires : tie.Need-walk-item-requires
+walk-item-requires c κs =
+    let start = c .before .before .before .before .before in
+    (start .pre .1 .onward (start .pre .0 .0) .0, simp (length-take, length-drop) (omega arith))
+
+add-t14 : tie.Need-add-t14
+add-t14 c = search needs
+
+add-t11 : tie.Need-add-t11
+add-t11 c = search needs
+
+same-length : tie.Need-same-length
+same-length c = search needs
+
+same-length-2 : tie.Need-same-length-2
+same-length-2 c = search needs
+
+returns : tie.Need-returns
+returns c =
+    let start = c .before .before .before .before .before .before .before .before .before .before .before in
+    let on = start .pre .1 .onward (start .pre .0 .0) in
+    let bytes = bytes-known _ (c .before .before .before .before .before .before .before .before .before .before .shared-slice-known .given) in
+    let e = c .before .before .before .before .before .walk-item .ensures in
+    let still = e .1 .1 .1 .1 in
+    let whole = item-whole _ _ _ _ (start .pre .0 .0) bytes (on .0) (start .pre .1 .room) _ _ (e .0) (e .1 .0) (e .1 .1 .0) in (
+      whole,
+      (
+        record {
+          room = omega (arith, same-length-2 c);
+          counted = omega arith;
+          onward = λ t. let f = still .1 t in (still .0, f .1, omega arith);
+        },
+        refl,
+      ),
+    )
+
+pub gather-item-spec : {M : Type 1} → statement M
+gather-item-spec =
+    tie.close
+    (tie.spec
+    sub-walk-item
+    part-walk-item-start
+    part-walk-item-end
+    walk-item-requires
+    add-t14
+    add-t11
+    same-length
+    same-length-2
+    returns)
