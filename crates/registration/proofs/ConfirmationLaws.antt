@@ -1,12 +1,12 @@
--- A row confirmed: the search for it, row by row; what it is by being named; the tests of confirm in the order of their numbers, each on the
+-- A row confirmed: what it is by being named; the tests of confirm in the order of their numbers, each on the
 -- book as it would be; and its status with the nets of both parties as all that is written.
 use Prim.Native.Nat.{ℕ, suc, _+_, _-_, _^_, _≤_}
 use mathlib.Core.Path.{_≡_, refl, sym, ap, _∙_}
-use mathlib.Core.List.{List, _∷_}
+use mathlib.Core.List.{List}
 use mathlib.Core.Option.{Option, none, some}
 use mathlib.Core.Bool.{Bool, true, false, not}
 use native.Mathlib.Omega.{arith}
-use lib.ListN.{length, getD, take, drop}
+use lib.ListN.{length, getD}
 use lib.Dec.{eqb}
 use borrow.Author.Tests.{eqb-true, ne-eqb}
 use Rattle.wire.specs.Numbers.{le}
@@ -28,12 +28,10 @@ use Rattle.rules.proofs.Passed.{passed-16-confirm}
 use Rattle.rules.proofs.AccountHours.{hour-takes-confirmed}
 use Rattle.book.specs.Layout.{presentAt, rowAt, netAt, statusIn}
 use Rattle.book.specs.Changes.{raised}
-use Rattle.book.specs.Image.{rowIn}
 use Rattle.book.specs.Valid.{isBook, bookIn}
-use Rattle.book.specs.Sums.{rowsFrom, SumsOf, Tabled, Room, Taken, Holds, Released}
+use Rattle.book.specs.Sums.{SumsOf, Tabled, Room, Taken, Holds, Released}
 use Rattle.book.specs.Owned.{concerning}
 use Rattle.book.proofs.Soundness.{SoundRow}
-use Rattle.book.proofs.RowsFrom.{rows-done, rows-step}
 use Rattle.book.proofs.StateLaws.{book-is-sound}
 use Rattle.book.proofs.BookRows.{sound-tabled}
 use Rattle.book.proofs.TableLaws.{sums-hold, released-room, sums-marked}
@@ -46,61 +44,9 @@ use Rattle.registration.proofs.Decisions.{decided-clear, no-row-to-conf
 use Rattle.registration.proofs.Answers.{Answered}
 use Rattle.registration.proofs.Acceptances.{confirmed-answered}
 use Rattle.registration.proofs.SearchLaws.{find-cong}
+use Rattle.registration.proofs.PendingLaws.{number-high}
 use Rattle.registration.proofs.MarginLaws.{found-hour, found-nowhere}
 use Rattle.registration.proofs.CoverLaws.{same-covered}
-
--- ---- the search for the row
-
--- the number of the row found, past those that were passed
-unfoldable pub numbered : ℕ → Option ℕ → ℕ
-numbered passed none = 0
-numbered passed (some i) = passed + i + 1
-
-module _ (p : Row → Bool) where
-  index-here : (x : Row) (xs : List Row) → p x ≡ true → indexOf p (x ∷ xs) ≡ some 0
-  unfolding indexOf
-  index-here x xs e = rw (e, indexOf)
-
-  index-next : (x : Row) (xs : List Row) (passed : ℕ) → p x ≡ false → numbered passed (indexOf p (x ∷ xs)) ≡ numbered (passed + 1) (indexOf p xs)
-  unfolding indexOf numbered
-  index-next x xs passed e = rw (e, indexOf) (go (indexOf p xs))
-    where
-      go : (o : Option ℕ) → numbered passed (elim o [ none ↦ none | some i ↦ some (suc i) ]) ≡ numbered (passed + 1) o
-      go none = refl
-      go (some i) = omega arith
-
-  -- at first none is passed
-  pub none-passed : (s : List ℕ) (at n m : ℕ) → m ≡ n → numberFrom (indexOf p (rowsFrom s at n)) ≡ numbered 0 (indexOf p (rowsFrom s at m))
-  unfolding numbered
-  none-passed s at n m e = rw e (go (indexOf p (rowsFrom s at n)))
-    where
-      go : (o : Option ℕ) → numberFrom o ≡ numbered 0 o
-      go none = refl
-      go (some i) = omega arith
-
-  module _ (s : List ℕ) (at n number passed : ℕ) (left : number ≡ numbered passed (indexOf p (rowsFrom s at n))) where
-    -- no row is left
-    pub number-none : n ≤ 0 → 0 ≡ number
-    unfolding indexOf numbered
-    number-none h = sym (left ∙ rw (rows-done s at n h))
-
-    module _ (m : ℕ) (x : Row) (more : n ≡ m + 1) (read : x ≡ rowIn (take 18 (drop at s))) where
-      -- the next row is it
-      pub number-here : p x ≡ true → passed + 1 ≡ number
-      unfolding numbered
-      number-here e = sym (left ∙ rw (rows-step s at n m more, index-here (rowIn (take 18 (drop at s))) (rowsFrom s (at + 18) m) (rw (← read) e)) (omega arith))
-
-      -- the next row is passed
-      pub number-next : p x ≡ false → number ≡ numbered (passed + 1) (indexOf p (rowsFrom s (at + 18) m))
-      number-next e = left ∙ rw (rows-step s at n m more) (index-next _ (rowsFrom s (at + 18) m) passed (rw (← read) e))
-
-  -- a number found is that of a row
-  pub number-high : (rows : List Row) → numberFrom (indexOf p rows) ≤ length rows
-  number-high rows = go (indexOf p rows) refl
-    where
-      go : (o : Option ℕ) → indexOf p rows ≡ o → numberFrom o ≤ length rows
-      go none e = omega arith
-      go (some i) e = index-first p noRow rows i e .inside
 
 -- ---- the row that is named
 
@@ -139,11 +85,10 @@ module _ (b : Book) (q : Request) (number : ℕ) (first : b .phase ≡ 1) (same 
     names-its-terms w =
         record { in-registration = first; named = omega (arith, same); row = row ∙ ap (λ (n : ℕ). nth (b .part .rows) n noRow) same; terms = w }
 
--- the number among rows that are the book's is the one that confirm names
-pub confirmed-among : (b : Book) (q : Request) {rows : List Row} → rows ≡ b .part .rows
-    → numberFrom (indexOf (alike (q .other) (q .account) (q .code)) rows) ≡ confirmedNumber b q
+-- the number that is found is that of the row which confirm names
+pub confirmed-found : (b : Book) (q : Request) → numberFrom (indexOf (alike (q .other) (q .account) (q .code)) (b .part .rows)) ≡ confirmedNumber b q
 unfolding confirms
-confirmed-among b q e = rw e
+confirmed-found b q = refl
 
 pub confirmed-high : (b : Book) (q : Request) → confirmedNumber b q ≤ length (b .part .rows)
 unfolding confirms

@@ -11,6 +11,8 @@ pub mod Acceptances
 pub mod Withdrawals
 -- SearchLaws: a search that counts up, number by number, and by tests that agree.
 pub mod SearchLaws
+-- PendingLaws: the search for a pending row.
+pub mod PendingLaws
 -- MarginLaws: what the search for a broken margin asks at each hour.
 pub mod MarginLaws
 -- CoverLaws: what stands in a book of an operator, of an account its operator, and what covers its exposure.

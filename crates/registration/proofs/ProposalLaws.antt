@@ -4,9 +4,9 @@ use Prim.Native.Nat.{ℕ, _+_, _/_, _%_, _≤_, _<_}
 use mathlib.Core.Path.{_≡_, refl, sym, ap, _∙_}
 use mathlib.Core.List.{List, [], _∷_, _++_}
 use mathlib.Core.Option.{none, some}
-use mathlib.Core.Bool.{Bool, true, false, not, _||_, or-assoc}
+use mathlib.Core.Bool.{Bool, true, false, not}
 use native.Mathlib.Omega.{arith}
-use lib.ListN.{length, take, drop}
+use lib.ListN.{length}
 use borrow.Author.Tests.{eq-eqb, le-leb, lt-leb}
 use Rattle.wire.specs.Numbers.{le}
 use Rattle.wire.specs.Regions.{splice}
@@ -24,53 +24,24 @@ use Rattle.rules.specs.Calls.{next, given, stateChecks}
 use Rattle.rules.proofs.AccountHours.{hour-takes}
 use Rattle.rules.proofs.Passed.{passed-15}
 use Rattle.book.specs.Layout.{rowWidths, presentAt, rowAt, rowCountAt}
-use Rattle.book.specs.Image.{rowValues, rowBytes, rowIn}
+use Rattle.book.specs.Image.{rowValues, rowBytes}
 use Rattle.book.specs.Valid.{isBook, bookIn}
-use Rattle.book.specs.Sums.{rowsFrom, Tabled}
+use Rattle.book.specs.Sums.{Tabled}
 use Rattle.book.specs.Owned.{concerning}
 use Rattle.book.proofs.Soundness.{SoundRow}
 use Rattle.book.proofs.Sizes.{row-small}
-use Rattle.book.proofs.RowsFrom.{rows-done, rows-step}
 use Rattle.book.proofs.BookWrites.{write-register}
 use Rattle.book.proofs.KeepsKinds.{proposed-sound, register-keeps}
 use Rattle.book.proofs.StateLaws.{book-image, book-fits, book-is-sound}
 use Rattle.book.proofs.BookRows.{sound-tabled}
 use Rattle.book.proofs.OwnedLaws.{same-concerning, same-snoc}
 use Rattle.registration.specs.Kinds.{decided, Ready}
-use Rattle.registration.specs.Margins.{brokenBy, broken}
+use Rattle.registration.specs.Margins.{brokenBy}
 use Rattle.registration.proofs.Decisions.{decided-clear}
 use Rattle.registration.proofs.Answers.{Answered, accepted-answered}
 use Rattle.registration.proofs.Readiness.{bare, ready-input}
 use Rattle.registration.proofs.SearchLaws.{find-cong}
 use Rattle.registration.proofs.CoverLaws.{same-covered}
-
--- ---- a search over rows
-
-pub any-cons : {A : Type 0} (p : A → Bool) (x : A) (xs : List A) → any p (x ∷ xs) ≡ p x || any p xs
-unfolding any
-any-cons p x xs = go (p x) refl
-  where
-    go : (t : Bool) → p x ≡ t → any p (x ∷ xs) ≡ t || any p xs
-    go true e = rw (e, any)
-    go false e = rw (e, any)
-
-pub or-false : (t : Bool) → (t || false) ≡ t
-or-false true = refl
-or-false false = refl
-
--- what was found so far, or is among those left: none is left
-pub any-done : {all : Bool} (found : Bool) (p : Row → Bool) (s : List ℕ) (at n : ℕ) → n ≤ 0 → all ≡ (found || any p (rowsFrom s at n)) → found ≡ all
-unfolding any
-any-done found p s at n h e = sym (e ∙ rw (rows-done s at n h, any) (or-false found))
-
--- and one more is looked at
-pub any-step : {all t : Bool} {x : Row} (found : Bool) (p : Row → Bool) (s : List ℕ) (at n m : ℕ) → n ≡ m + 1 → x ≡ rowIn (take 18 (drop at s))
-    → t ≡ p x → all ≡ (found || any p (rowsFrom s at n)) → all ≡ ((found || t) || any p (rowsFrom s (at + 18) m))
-any-step found p s at n m d r h e =
-    e
-    ∙ ap (λ (rows : List Row). found || any p rows) (rows-step s at n m d)
-    ∙ ap (λ (b : Bool). found || b) (any-cons p (rowIn (take 18 (drop at s))) (rowsFrom s (at + 18) m))
-    ∙ rw (h, r) (sym (or-assoc found (p (rowIn (take 18 (drop at s)))) (any p (rowsFrom s (at + 18) m))))
 
 -- ---- a request that is ready
 

@@ -1,38 +1,34 @@
 // Confirm: a pending row becomes a trade, and moves the net positions of its seller and its buyer.
 ghost use mathlib.Core.Path.{_≡_};
 ghost use mathlib.Core.Bool.{true};
-ghost use Prim.Native.Nat.{_+_, _-_, _*_, _^_, _≤_};
+ghost use Prim.Native.Nat.{_+_, _-_, _^_, _≤_};
 ghost use lib.ListN.{length};
 ghost use Rattle.wire.specs.Numbers.{le};
 ghost use Rattle.wire.specs.Regions.{splice};
 ghost use Rattle.wire.specs.Parts.{sweep};
-ghost use Rattle.rules.specs.Basics.{indexOf, nth};
+ghost use Rattle.rules.specs.Basics.{nth};
 ghost use Rattle.rules.specs.Limits.{mostRows, mostHours, bookSize};
 ghost use Rattle.rules.specs.Books.{noRow};
 ghost use Rattle.rules.specs.Verdicts.{checked};
 ghost use Rattle.rules.specs.Requests.{confirm};
-ghost use Rattle.rules.specs.Registration.{seller, buyer, withStatus, alike, mirrors};
-ghost use Rattle.rules.specs.Calls.{numberFrom, confirmedNumber};
+ghost use Rattle.rules.specs.Registration.{seller, buyer, withStatus, mirrors};
+ghost use Rattle.rules.specs.Calls.{confirmedNumber};
 ghost use Rattle.book.specs.Layout.{presentAt, rowAt, statusIn, netAt};
 ghost use Rattle.book.specs.Changes.{raised};
 ghost use Rattle.book.specs.Valid.{isBook, bookIn, bookBytes};
-ghost use Rattle.book.specs.Sums.{rowsFrom, Tabled};
+ghost use Rattle.book.specs.Sums.{Tabled};
 ghost use Rattle.registration.specs.Kinds.{decided, outcomeOn, bookAfter, Ready, Confirming};
 use crate::cover::caller_covered;
 use crate::cover::caller_sums;
 use crate::margins::Broken;
 use crate::margins::broken_hour;
 use crate::positions::move_nets;
-use crate::proposal::is_alike;
-use book::layout::PRESENT_AT;
-use book::layout::ROW_WIDTH;
-use book::layout::ROWS_IN;
+use crate::search::pending_number;
 use book::layout::STATUS_IN;
 use book::rows::row_at;
 use book::state::CONFIRMED;
 use book::state::REGISTRATION;
 use book::state::phase;
-use book::state::row_count;
 use book::state::row_place;
 use book::sums::release_row;
 use book::sums::take_row;
@@ -44,32 +40,13 @@ use rules::Row;
 use rules::Verdict;
 use wire::numbers::put_u8;
 
-// Of the `n` rows from `at` on, the number of the first that the request confirms; 0 where there is none.
-fn number_among(book: &[u8], at: usize, n: u16, request: Request) -> u16
-    requires { ⌜ at + 18 * n ≤ length (now book) ⌝ }
-    ensures { λ r. ⌜ r ≡ numberFrom (indexOf (alike (request .other) (request .account) (request .code)) (rowsFrom (now (book .entry)) at n)) ⌝ }
-{
-    let mut k = at;
-    let mut passed: u16 = 0;
-    while passed < n {
-        let r = row_at(book, k);
-        if is_alike(r, request.other, request.account, request.code) {
-            return passed + 1;
-        }
-        k = k + ROW_WIDTH;
-        passed = passed + 1;
-    }
-    0
-}
-
 // The number of the row that the request confirms, or 0.
 fn confirmed_number(book: &[u8], request: Request) -> u16
     requires { ⌜ isBook (now book) ≡ true ⌝ }
     ensures { λ r. ⌜ r ≡ confirmedNumber (bookIn (now (book .entry))) request ⌝ }
     ensures bound { λ r. ⌜ r ≤ length (bookIn (now (book .entry)) .part .rows) ⌝ }
 {
-    let n = row_count(book);
-    number_among(book, PRESENT_AT + ROWS_IN, n, request)
+    pending_number(book, request.other, request.account, request.code)
 }
 
 // The row of a number.
@@ -125,15 +102,15 @@ fn weighed(book: &[u8], request: Request, row: Row) -> Checked
     Checked::Fails(Refusal::Uncovered)
 }
 
-// What confirm is refused for.
-fn confirm_fault(book: &[u8], request: Request) -> Checked
+// What confirm is refused for; `number` is that of the row which it names.
+fn confirm_fault(book: &[u8], request: Request, number: u16) -> Checked
     requires { ⌜ isBook (now book) ≡ true ⌝ }
+    requires { ⌜ number ≡ confirmedNumber (bookIn (now book)) request ⌝ }
     ensures { λ r. ⌜ r ≡ checked (decided confirm (bookIn (now (book .entry))) request) ⌝ }
 {
     if phase(book) != REGISTRATION {
         return Checked::Fails(Refusal::WrongPhase);
     }
-    let number = confirmed_number(book, request);
     if number == 0 {
         return Checked::Fails(Refusal::NoSuchRow);
     }
@@ -161,12 +138,12 @@ pub fn confirm(book: &mut [u8], request: Request) -> Outcome
     ensures bytes { λ _. ⌜ now (book .exit) ≡ bookBytes (bookAfter confirm (bookIn (now (book .entry))) request) ⌝ }
     ensures still { λ _. ⌜ isBook (now (book .exit)) ≡ true ⌝ }
 {
-    if let Checked::Fails(r) = confirm_fault(book, request) {
+    let number = confirmed_number(book, request);
+    if let Checked::Fails(r) = confirm_fault(book, request, number) {
         return Outcome {
             verdict: Verdict::Refused(r),
         };
     }
-    let number = confirmed_number(book, request);
     let row = numbered_row(book, number);
     put_trade(book, number, row);
     Outcome {

@@ -7,4 +7,5 @@ pub mod lodging;
 pub mod margins;
 pub mod positions;
 pub mod proposal;
+pub mod search;
 pub mod withdrawal;

@@ -1,7 +1,7 @@
 // Register: makes a pending row with the next number.
 ghost use mathlib.Core.Path.{_≡_};
 ghost use mathlib.Core.Bool.{true, false};
-ghost use Prim.Native.Nat.{_+_, _*_, _≤_, _<_};
+ghost use Prim.Native.Nat.{_+_, _*_, _<_};
 ghost use lib.ListN.{length};
 ghost use Rattle.wire.specs.Numbers.{le};
 ghost use Rattle.wire.specs.Regions.{splice};
@@ -14,18 +14,17 @@ ghost use Rattle.rules.specs.Registration.{alike, proposed};
 ghost use Rattle.book.specs.Layout.{rowWidths, presentAt, rowAt, rowCountAt};
 ghost use Rattle.book.specs.Image.{rowValues, rowBytes};
 ghost use Rattle.book.specs.Valid.{isBook, bookIn, bookBytes};
-ghost use Rattle.book.specs.Sums.{rowsFrom};
 ghost use Rattle.registration.specs.Kinds.{decided, outcomeOn, bookAfter, Ready};
 use crate::cover::caller_covered;
 use crate::cover::caller_sums;
 use crate::margins::Broken;
 use crate::margins::broken_hour;
+use crate::search::pending_number;
 use book::layout::MOST_ROWS;
 use book::layout::PRESENT_AT;
 use book::layout::ROW_COUNT_IN;
 use book::layout::ROW_WIDTH;
 use book::layout::ROWS_IN;
-use book::rows::row_at;
 use book::state::PENDING;
 use book::state::REGISTRATION;
 use book::state::phase;
@@ -57,40 +56,12 @@ fn proposed_row(request: Request) -> Row
     }
 }
 
-// The row is pending with this proposer, counterparty and code.
-pub fn is_alike(r: Row, proposer: u8, counterparty: u8, code: u64) -> bool
-    ensures { λ b. ⌜ b ≡ alike proposer counterparty code r ⌝ }
-{
-    (r.status == PENDING)
-        & (r.proposer == proposer)
-        & (r.counterparty == counterparty)
-        & (r.code == code)
-}
-
-// One of the `n` rows from `at` on is so, with the request's account as proposer.
-fn any_alike(book: &[u8], at: usize, n: usize, request: Request) -> bool
-    requires { ⌜ at + 18 * n ≤ length (now book) ⌝ }
-    ensures { λ b. ⌜ b ≡ any (alike (request .account) (request .other) (request .code)) (rowsFrom (now (book .entry)) at n) ⌝ }
-{
-    let mut found = false;
-    let mut k = at;
-    let mut left = n;
-    while 0 < left {
-        let r = row_at(book, k);
-        found = found | is_alike(r, request.account, request.other, request.code);
-        k = k + ROW_WIDTH;
-        left = left - 1;
-    }
-    found
-}
-
-// One of the book's rows is so.
+// A row with the request's parties and code, and its account as proposer, is pending already.
 fn already_pending(book: &[u8], request: Request) -> bool
     requires { ⌜ isBook (now book) ≡ true ⌝ }
     ensures { λ b. ⌜ b ≡ any (alike (request .account) (request .other) (request .code)) (bookIn (now (book .entry)) .part .rows) ⌝ }
 {
-    let n = row_count(book) as usize;
-    any_alike(book, PRESENT_AT + ROWS_IN, n, request)
+    pending_number(book, request.account, request.other, request.code) != 0
 }
 
 // What register is refused for where its row is no twin and has a number: margins and exposure as they would be.

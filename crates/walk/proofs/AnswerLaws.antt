@@ -4,7 +4,7 @@ use Prim.Native.Nat.{ℕ, _≤_, _<_}
 use mathlib.Core.Path.{_≡_, refl, sym, ap, _∙_}
 use mathlib.Core.List.{List, [], _∷_, map, append-nil}
 use mathlib.Core.Option.{Option, none, some}
-use mathlib.Core.Bool.{Bool, true, false, _&&_}
+use mathlib.Core.Bool.{Bool, true, false, _&&_, or-false}
 use native.Mathlib.Omega.{arith}
 use lib.ListN.{length, getD, length-map, List·getD-eq-default}
 use lib.Seq.{getD-take, length-take-le}
@@ -27,7 +27,6 @@ use Rattle.rules.proofs.Passed.{Passed, passed-2, passed-kind, readable}
 use Rattle.rules.proofs.CallLists.{accepts-passed}
 use Rattle.book.specs.Valid.{valid}
 use Rattle.book.proofs.MoneyLaws.{settled-gained-most, settled-lost-most}
-use Rattle.registration.proofs.ProposalLaws.{or-false}
 use Rattle.day.proofs.SettleLaws.{lentPrices, each-made, worked, settle-writes, prices-in-range}
 use Rattle.items.specs.Stream.{recordLength}
 use Rattle.items.specs.Written.{Written}

@@ -11,8 +11,12 @@ use borrow.Author.Needs.{needs}
 use Rattle.registration.proofs.confirmation.confirm.Statement.{statement}
 use Rattle.registration.proofs.confirmation.confirm.Tie as tie
 
+confirmed-number-requires : tie.Need-confirmed-number-requires
+confirmed-number-requires c κs = search needs
+
 confirm-fault-requires : tie.Need-confirm-fault-requires
-confirm-fault-requires c κs = search needs
+confirm-fault-requires c κs =
+    let number = c .before in (number .before .before .before .pre .0, number .confirmed-number .ensures .0)
 
 enum-known-r : tie.Need-enum-known-r
 enum-known-r c = search needs
@@ -22,20 +26,19 @@ same-length c = search needs
 
 returns : tie.Need-returns
 returns c =
-    refused-answered confirm _ _ (c .before .before .before .before .before .before .pre .0) _ (checked-same _ (some _) (sym (c .before .before .before .confirm-fault .ensures) ∙ c .before .r .given .1))
+    let fault = c .before .before .before in
+    let pre = fault .before .before .before .before .before .pre in
+    refused-answered confirm _ _ (pre .0) _ (checked-same _ (some _) (sym (fault .confirm-fault .ensures) ∙ c .before .r .given .1))
 
 enum-told : tie.Need-enum-told
 enum-told c = search needs
 
-confirmed-number-requires : tie.Need-confirmed-number-requires
-confirmed-number-requires c κs = search needs
-
 numbered-row-requires : tie.Need-numbered-row-requires
 numbered-row-requires c κs =
-    let number = c .before in
-    let told = number .before .before in
+    let told = c .before in
     let fault = told .before .before in
-    let pre = fault .before .before .before .pre in
+    let number = fault .before .before in
+    let pre = number .before .before .before .pre in
     let free = checked-same _ none (sym (fault .confirm-fault .ensures) ∙ told .enum-told .given .1) in
     let within = accepted-number _ _ _ (pre .0) free (number .confirmed-number .ensures .0) in
     (pre .0, within .0, within .1)
@@ -43,10 +46,10 @@ numbered-row-requires c κs =
 put-trade-requires : tie.Need-put-trade-requires
 put-trade-requires c κs =
     let row = c .before in
-    let number = row .before .before in
-    let told = number .before .before in
+    let told = row .before .before in
     let fault = told .before .before in
-    let pre = fault .before .before .before .pre in
+    let number = fault .before .before in
+    let pre = number .before .before .before .pre in
     let free = checked-same _ none (sym (fault .confirm-fault .ensures) ∙ told .enum-told .given .1) in
     let same = number .confirmed-number .ensures .0 in
     let within = accepted-number _ _ _ (pre .0) free same in
@@ -60,10 +63,10 @@ returns-2 : tie.Need-returns-2
 returns-2 c =
     let trade = c .before .before in
     let row = trade .before .before in
-    let number = row .before .before in
-    let told = number .before .before in
+    let told = row .before .before in
     let fault = told .before .before in
-    let pre = fault .before .before .before .pre in
+    let number = fault .before .before in
+    let pre = number .before .before .before .pre in
     let free = checked-same _ none (sym (fault .confirm-fault .ensures) ∙ told .enum-told .given .1) in
     trade-answered _ _ _ (pre .0) free (number .confirmed-number .ensures .0) _ (row .numbered-row .ensures) _ (trade .put-trade .ensures)
 
@@ -71,12 +74,12 @@ pub confirm-spec : {M : Type 1} → statement M
 confirm-spec =
     tie.close
     (tie.spec
+    confirmed-number-requires
     confirm-fault-requires
     enum-known-r
     same-length
     returns
     enum-told
-    confirmed-number-requires
     numbered-row-requires
     put-trade-requires
     same-length-2

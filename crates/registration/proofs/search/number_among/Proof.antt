@@ -8,38 +8,35 @@ use Rattle.rules.specs.Basics.{indexOf}
 use Rattle.rules.specs.Registration.{alike}
 use Rattle.rules.specs.Calls.{numberFrom}
 use Rattle.book.specs.Sums.{rowsFrom}
-use Rattle.registration.proofs.ConfirmationLaws.{numbered, none-passed, number-none, number-here, number-next}
-use Rattle.registration.proofs.confirmation.number_among.Statement.{statement}
-use Rattle.registration.proofs.confirmation.number_among.Tie as tie
+use Rattle.registration.proofs.PendingLaws.{numbered, none-passed, number-none, number-here, number-next}
+use Rattle.registration.proofs.search.number_among.Statement.{statement}
+use Rattle.registration.proofs.search.number_among.Tie as tie
 
 abbrev Inv-loop : tie.InvT-loop
-Inv-loop book at n request k₀ passed₀ k passed =
+Inv-loop book at n proposer counterparty code k₀ passed₀ k passed =
     (k + 18 * (n - passed) ≤ length book)
     × (passed ≤ n)
-    × (numberFrom (indexOf (alike (request .other) (request .account) (request .code)) (rowsFrom book at n))
-    ≡ numbered passed (indexOf (alike (request .other) (request .account) (request .code)) (rowsFrom book k (n - passed))))
+    × (numberFrom (indexOf (alike proposer counterparty code) (rowsFrom book at n))
+    ≡ numbered passed (indexOf (alike proposer counterparty code) (rowsFrom book k (n - passed))))
 
 abbrev μ-loop : tie.MeasureT-loop
-μ-loop book at n request k₀ passed₀ k passed = n - passed
+μ-loop book at n proposer counterparty code k₀ passed₀ k passed = n - passed
 
 loop-holds : tie.Need-loop-holds Inv-loop μ-loop
 loop-holds c = (search needs, search needs, none-passed _ _ _ _ _ (omega arith))
 
-row-at-requires : tie.Need-row-at-requires Inv-loop μ-loop
-row-at-requires c κs = search needs
-
-is-alike-requires : tie.Need-is-alike-requires Inv-loop μ-loop
-is-alike-requires c κs = search needs
+alike-at-requires : tie.Need-alike-at-requires Inv-loop μ-loop
+alike-at-requires c κs = search needs
 
 add-result : tie.Need-add-result Inv-loop μ-loop
 add-result c = search needs
 
 returns : tie.Need-returns Inv-loop μ-loop
 returns c =
-    let l = c .before .before .before .before .loop in
-    let start = c .before .before .before .before .before .before in
-    number-here _ (start .args .book .now) (l .k) (start .args .n - l .passed) _ (l .passed) (l .inv .2) (start .args .n - l .passed - 1) _ (omega arith)
-    (c .before .before .row-at .ensures) (sym (c .before .is-alike .ensures) ∙ c .if1 .taken)
+    let l = c .before .before .before .loop in
+    let start = c .before .before .before .before .before in
+    number-here _ (start .args .book .now) (l .k) (start .args .n - l .passed) _ (l .passed) (l .inv .2) (start .args .n - l .passed - 1) (omega arith)
+    (sym (c .before .alike-at .ensures) ∙ c .if1 .taken)
 
 add-k : tie.Need-add-k Inv-loop μ-loop
 add-k c = search needs
@@ -52,12 +49,12 @@ loop-less c = search needs
 
 loop-again : tie.Need-loop-again Inv-loop μ-loop
 loop-again c =
-    let l = c .before .before .before .before .loop in
-    let start = c .before .before .before .before .before .before in (
+    let l = c .before .before .before .loop in
+    let start = c .before .before .before .before .before in (
       search needs,
       search needs,
-      number-next _ (start .args .book .now) (l .k) (start .args .n - l .passed) _ (l .passed) (l .inv .2) (start .args .n - (l .passed + 1)) _ (omega arith)
-          (c .before .before .row-at .ensures) (sym (c .before .is-alike .ensures) ∙ c .if1 .left),
+      number-next _ (start .args .book .now) (l .k) (start .args .n - l .passed) _ (l .passed) (l .inv .2) (start .args .n - (l .passed + 1)) (omega arith)
+          (sym (c .before .alike-at .ensures) ∙ c .if1 .left),
     )
 
 returns-2 : tie.Need-returns-2 Inv-loop μ-loop
@@ -73,8 +70,7 @@ number-among-spec =
     Inv-loop
     μ-loop
     loop-holds
-    row-at-requires
-    is-alike-requires
+    alike-at-requires
     add-result
     returns
     add-k

@@ -1,0 +1,105 @@
+-- The search for a pending row: its tests as the bytes have them, and the number found, row by row. Some row passes where a number is found.
+use Prim.Native.Nat.{ℕ, suc, _+_, _≤_}
+use mathlib.Core.Path.{_≡_, refl, sym, _∙_}
+use mathlib.Core.List.{List, [], _∷_}
+use mathlib.Core.Option.{Option, none, some}
+use mathlib.Core.Bool.{Bool, true, false, not, _&&_}
+use native.Mathlib.Omega.{arith}
+use lib.ListN.{length, take, drop}
+use lib.Dec.{eqb}
+use borrow.Author.Tests.{ne-eqb}
+use Rattle.wire.specs.Numbers.{numberAt}
+use Rattle.rules.specs.declared.Row.{Row}
+use Rattle.rules.specs.Basics.{any, indexOf}
+use Rattle.rules.specs.Books.{noRow}
+use Rattle.rules.specs.Registration.{alike}
+use Rattle.rules.specs.Calls.{numberFrom}
+use Rattle.rules.proofs.Searches.{index-first}
+use Rattle.book.specs.Image.{rowIn}
+use Rattle.book.specs.Sums.{rowsFrom}
+use Rattle.book.proofs.RowBytes.{row-at}
+use Rattle.book.proofs.RowsFrom.{rows-done, rows-step}
+
+-- ---- the tests of a row, of what was read of it
+
+module _ (s : List ℕ) (at proposer counterparty code : ℕ) {status first second : ℕ} (a : status ≡ numberAt s (at + 17) 1) (b : first ≡ numberAt s at 1)
+    (c : second ≡ numberAt s (at + 1) 1) where
+  -- all but the code agree, so that the code decides
+  pub code-decides : {v : ℕ} → v ≡ numberAt s (at + 2) 8 → (eqb status 1 && eqb first proposer && eqb second counterparty) ≡ true
+      → eqb v code ≡ alike proposer counterparty code (rowIn (take 18 (drop at s)))
+  unfolding alike
+  code-decides d t = rw (row-at s at, ← a, ← b, ← c, ← d, t)
+
+  pub another-row : (eqb status 1 && eqb first proposer && eqb second counterparty) ≡ false
+      → false ≡ alike proposer counterparty code (rowIn (take 18 (drop at s)))
+  unfolding alike
+  another-row t = rw (row-at s at, ← a, ← b, ← c, t)
+
+-- ---- row by row
+
+-- the number of the row found, past those that were passed
+unfoldable pub numbered : ℕ → Option ℕ → ℕ
+numbered passed none = 0
+numbered passed (some i) = passed + i + 1
+
+module _ (p : Row → Bool) where
+  index-here : (x : Row) (xs : List Row) → p x ≡ true → indexOf p (x ∷ xs) ≡ some 0
+  unfolding indexOf
+  index-here x xs e = rw (e, indexOf)
+
+  index-next : (x : Row) (xs : List Row) (passed : ℕ) → p x ≡ false → numbered passed (indexOf p (x ∷ xs)) ≡ numbered (passed + 1) (indexOf p xs)
+  unfolding indexOf numbered
+  index-next x xs passed e = rw (e, indexOf) (go (indexOf p xs))
+    where
+      go : (o : Option ℕ) → numbered passed (elim o [ none ↦ none | some i ↦ some (suc i) ]) ≡ numbered (passed + 1) o
+      go none = refl
+      go (some i) = omega arith
+
+  -- at first none is passed
+  pub none-passed : (s : List ℕ) (at n m : ℕ) → m ≡ n → numberFrom (indexOf p (rowsFrom s at n)) ≡ numbered 0 (indexOf p (rowsFrom s at m))
+  unfolding numbered
+  none-passed s at n m e = rw e (go (indexOf p (rowsFrom s at n)))
+    where
+      go : (o : Option ℕ) → numberFrom o ≡ numbered 0 o
+      go none = refl
+      go (some i) = omega arith
+
+  module _ (s : List ℕ) (at n number passed : ℕ) (left : number ≡ numbered passed (indexOf p (rowsFrom s at n))) where
+    -- no row is left
+    pub number-none : n ≤ 0 → 0 ≡ number
+    unfolding indexOf numbered
+    number-none h = sym (left ∙ rw (rows-done s at n h))
+
+    module _ (m : ℕ) (more : n ≡ m + 1) where
+      -- the next row is it
+      pub number-here : p (rowIn (take 18 (drop at s))) ≡ true → passed + 1 ≡ number
+      unfolding numbered
+      number-here e = sym (left ∙ rw (rows-step s at n m more, index-here (rowIn (take 18 (drop at s))) (rowsFrom s (at + 18) m) e) (omega arith))
+
+      -- the next row is passed
+      pub number-next : p (rowIn (take 18 (drop at s))) ≡ false → number ≡ numbered (passed + 1) (indexOf p (rowsFrom s (at + 18) m))
+      number-next e = left ∙ rw (rows-step s at n m more) (index-next _ (rowsFrom s (at + 18) m) passed e)
+
+  -- a number found is that of a row
+  pub number-high : (rows : List Row) → numberFrom (indexOf p rows) ≤ length rows
+  number-high rows = go (indexOf p rows) refl
+    where
+      go : (o : Option ℕ) → indexOf p rows ≡ o → numberFrom o ≤ length rows
+      go none e = omega arith
+      go (some i) e = index-first p noRow rows i e .inside
+
+-- ---- whether there is one
+
+-- some row passes where a number is found
+pub any-found : (p : Row → Bool) (rows : List Row) → any p rows ≡ not (eqb (numberFrom (indexOf p rows)) 0)
+unfolding any indexOf
+any-found p [] = refl
+any-found p (x ∷ xs) = go (p x) refl (any-found p xs)
+  where
+    next : (o : Option ℕ) → not (eqb (numberFrom o) 0) ≡ not (eqb (numberFrom (elim o [ none ↦ none | some i ↦ some (suc i) ])) 0)
+    next none = refl
+    next (some i) = rw (ne-eqb (suc i) 0 (λ e. omega arith), ne-eqb (suc (suc i)) 0 (λ e. omega arith))
+
+    go : (t : Bool) → p x ≡ t → any p xs ≡ not (eqb (numberFrom (indexOf p xs)) 0) → any p (x ∷ xs) ≡ not (eqb (numberFrom (indexOf p (x ∷ xs))) 0)
+    go true e ih = rw (e, any, indexOf)
+    go false e ih = rw (e, any, indexOf) (ih ∙ next (indexOf p xs))

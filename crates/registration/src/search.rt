@@ -1,0 +1,60 @@
+// The search for a pending row by its parties and its code.
+ghost use mathlib.Core.Path.{_≡_};
+ghost use mathlib.Core.Bool.{true};
+ghost use Prim.Native.Nat.{_+_, _*_, _≤_};
+ghost use lib.ListN.{length, take, drop};
+ghost use Rattle.rules.specs.Basics.{indexOf};
+ghost use Rattle.rules.specs.Registration.{alike};
+ghost use Rattle.rules.specs.Calls.{numberFrom};
+ghost use Rattle.book.specs.Image.{rowIn};
+ghost use Rattle.book.specs.Valid.{isBook, bookIn};
+ghost use Rattle.book.specs.Sums.{rowsFrom};
+use book::layout::PRESENT_AT;
+use book::layout::ROW_WIDTH;
+use book::layout::ROWS_IN;
+use book::layout::STATUS_IN;
+use book::state::PENDING;
+use book::state::row_count;
+use wire::numbers::get_u8;
+use wire::numbers::get_u64;
+
+// The row from `at` on is pending with this proposer, counterparty and code. The code is read only where the rest agrees.
+fn alike_at(book: &[u8], at: usize, proposer: u8, counterparty: u8, code: u64) -> bool
+    requires { ⌜ at + 18 ≤ length (now book) ⌝ }
+    ensures { λ b. ⌜ b ≡ alike proposer counterparty code (rowIn (take 18 (drop at (now (book .entry))))) ⌝ }
+{
+    let status = get_u8(book, at + STATUS_IN);
+    let first = get_u8(book, at);
+    let second = get_u8(book, at + 1);
+    if (status == PENDING) & (first == proposer) & (second == counterparty) {
+        return get_u64(book, at + 2) == code;
+    }
+    false
+}
+
+// Of the `n` rows from `at` on, the number of the first that is so; 0 where there is none.
+fn number_among(book: &[u8], at: usize, n: u16, proposer: u8, counterparty: u8, code: u64) -> u16
+    requires { ⌜ at + 18 * n ≤ length (now book) ⌝ }
+    ensures { λ r. ⌜ r ≡ numberFrom (indexOf (alike proposer counterparty code) (rowsFrom (now (book .entry)) at n)) ⌝ }
+{
+    let mut k = at;
+    let mut passed: u16 = 0;
+    while passed < n {
+        if alike_at(book, k, proposer, counterparty, code) {
+            return passed + 1;
+        }
+        k = k + ROW_WIDTH;
+        passed = passed + 1;
+    }
+    0
+}
+
+// The number of the book's first row that is so, or 0.
+pub fn pending_number(book: &[u8], proposer: u8, counterparty: u8, code: u64) -> u16
+    requires { ⌜ isBook (now book) ≡ true ⌝ }
+    ensures { λ r. ⌜ r ≡ numberFrom (indexOf (alike proposer counterparty code) (bookIn (now (book .entry)) .part .rows)) ⌝ }
+    ensures bound { λ r. ⌜ r ≤ length (bookIn (now (book .entry)) .part .rows) ⌝ }
+{
+    let n = row_count(book);
+    number_among(book, PRESENT_AT + ROWS_IN, n, proposer, counterparty, code)
+}
