@@ -1,6 +1,10 @@
 -- Laws of the order of priority.
--- SortingLaws: a number inserted step by step, and a list sorted from its end.
+-- SortingLaws: numbers inserted one by one, and a list in order.
 pub mod SortingLaws
+-- MergeLaws: two lists in order merged from the front and from the back.
+pub mod MergeLaws
+-- RunLaws: a list whose runs of a width are each in order.
+pub mod RunLaws
 -- OrderLaws: ranks in ascending order name the schedules in order of priority.
 pub mod OrderLaws
 -- ExchangeLaws: two lists whose elements are exchanged one by one.
