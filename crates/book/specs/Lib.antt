@@ -9,6 +9,8 @@ pub mod Valid
 pub mod Sums
 -- Changes: what a loop over cells of a book puts to each.
 pub mod Changes
+-- Netted: a net position by itself.
+pub mod Netted
 -- Doors: what opening and the two readings answer, on any bytes.
 pub mod Doors
 -- Fresh: the loops by which opening writes a fresh book.

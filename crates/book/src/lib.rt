@@ -5,6 +5,7 @@ pub mod layout;
 pub mod margins;
 pub mod opening;
 pub mod part;
+pub mod positions;
 pub mod readings;
 pub mod rows;
 pub mod saved;
