@@ -85,6 +85,8 @@ pub mod BookStands
 pub mod BookRows
 -- ReadingLaws: what the two readings answer.
 pub mod ReadingLaws
+-- NettedLaws: a net position off its 4 bytes.
+pub mod NettedLaws
 -- Reachable: what holds of every book that calls reach from a freshly opened one.
 pub mod Reachable
 -- TableLaws: a table of sums and one row more, or one row marked.

@@ -87,6 +87,38 @@ margins-near account x operators k h =
     let w = and-both (leb owed lower) (leb due upper) .0 h in
     (omega (arith, leb-true owed lower (w .0), k .lower-high), omega (arith, leb-true due upper (w .1), k .upper-high))
 
+-- ---- the net of an account hour of a book
+
+module _ (s : List ℕ) (h : isBook s ≡ true) (a t : ℕ) (i : (1 ≤ a) × (a ≤ accountCount (bookIn s .setup))) (j : (1 ≤ t) × (t ≤ bookIn s .setup .hours))
+  where
+    -- it is within the margins
+    pub net-near : (sold (bookIn s .part .rows) a t ≤ bought (bookIn s .part .rows) a t + mostEnergy) × (bought (bookIn s .part .rows) a t ≤ sold (bookIn s .part .rows) a t + mostEnergy)
+    net-near =
+        let u : Setup = bookIn s .setup in
+        margins-near (accountAt u a) (accountHour (bookIn s .part .rows) a t) (operatorCount u) (account-in-range u _ a (values-in s h) (i .0) (i .1))
+        (book-is-sound s h .part-sound .keeps-margins a t (i .0) (i .1) (j .0) (j .1))
+
+    -- it has its place
+    pub net-has-place : InTable a t
+    net-has-place =
+        let k = book-is-sound s h .setup-sound in
+        record {
+          account-low = i .0;
+          account-high = omega (arith, i .1, k .accounts-high);
+          hour-low = j .0;
+          hour-high = omega (arith, j .1, k .hours-high);
+        }
+
+    -- where 4 bytes hold it
+    pub net-stored : (v : ℕ) → v ≡ numberAt s (presentAt + netAt mostHours a t) 4
+        → v ≡ (bought (bookIn s .part .rows) a t + (256 ^ 4 - 1) * sold (bookIn s .part .rows) a t) % 256 ^ 4
+    net-stored v q =
+        let k = net-has-place in
+        let at : ℕ = presentAt + netAt mostHours a t in
+        q
+        ∙ ap (λ (z : List ℕ). numberAt z at 4) (book-is-image mostHours bookSize s h .0)
+        ∙ net-read mostHours bookSize (bookIn s) (fits (bookIn s) (book-is-sound s h)) a t at (k .account-low) (k .account-high) (k .hour-low) (k .hour-high) refl
+
 -- ---- the readings of a book with these counts
 
 module _ (s : List ℕ) (h : isBook s ≡ true) (n : Counts) (e : n ≡ countsIn s) where
@@ -127,35 +159,17 @@ module _ (s : List ℕ) (h : isBook s ≡ true) (n : Counts) (e : n ≡ countsIn
       hour-inside : (1 ≤ t) × (t ≤ u .hours)
       hour-inside = within-true 1 t (u .hours) .0 (not-false _ (by-hour y))
 
-      -- the net is within the margins
-      net-near : (sold (bookIn s .part .rows) a t ≤ bought (bookIn s .part .rows) a t + mostEnergy) × (bought (bookIn s .part .rows) a t ≤ sold (bookIn s .part .rows) a t + mostEnergy)
-      net-near =
-          let i = account-inside in
-          let j = hour-inside in
-          margins-near (accountAt u a) (accountHour (bookIn s .part .rows) a t) (operatorCount u)
-          (account-in-range u _ a (values-in s h) (i .0) (i .1))
-          (book-is-sound s h .part-sound .keeps-margins a t (i .0) (i .1) (j .0) (j .1))
-
       pub net-in-table : InTable a t
-      net-in-table =
-          let k = book-is-sound s h .setup-sound in
-          record {
-            account-low = account-inside .0;
-            account-high = omega (arith, account-inside .1, k .accounts-high);
-            hour-low = hour-inside .0;
-            hour-high = omega (arith, hour-inside .1, k .hours-high);
-          }
+      net-in-table = net-has-place s h a t account-inside hour-inside
 
       pub net-stands : (v : ℕ) → v ≡ numberAt s (presentAt + netAt mostHours a t) 4
           → netReading (bookIn s) a t ≡ NetReading.Stands (if ltb v (2 ^ 31) then Long (kwh v) else Short (kwh (2 ^ 32 - v)))
       unfolding netReading
       net-stands v q =
-          let i = net-in-table in
-          let at : ℕ = presentAt + netAt mostHours a t in
-          let read = net-read mostHours bookSize (bookIn s) (fits (bookIn s) (book-is-sound s h)) a t at (i .account-low) (i .account-high) (i .hour-low) (i .hour-high) refl in
-          let stored = q ∙ ap (λ (z : List ℕ). numberAt z at 4) (book-is-image mostHours bookSize s h .0) ∙ read in
+          let near = net-near s h a t account-inside hour-inside in
+          let stored = net-stored s h a t account-inside hour-inside v q in
           ap (λ (o : Option Refusal). netReadingOf o net) (clear-lowest (netChecks (bookIn s) a t) (rw (by-account x), (rw (by-hour y), tt)))
-          ∙ ap NetReading.Stands (stored-position _ _ v stored (net-near .0) (net-near .1))
+          ∙ ap NetReading.Stands (stored-position _ _ v stored (near .0) (near .1))
 
   module _ (o : ℕ) where
     by-operator : {x : Bool} → not (within 1 o (n .operators)) ≡ x → not (within 1 o (operatorCount u)) ≡ x

@@ -11,6 +11,8 @@ pub mod Sums
 pub mod Owned
 -- Changes: what a loop over cells of a book puts to each.
 pub mod Changes
+-- Netted: a net position by itself.
+pub mod Netted
 -- Doors: what opening and the two readings answer, on any bytes.
 pub mod Doors
 -- Fresh: the loops by which opening writes a fresh book.

@@ -6,6 +6,7 @@ pub mod margins;
 pub mod opening;
 pub mod owned;
 pub mod part;
+pub mod positions;
 pub mod readings;
 pub mod rows;
 pub mod saved;

@@ -32,7 +32,7 @@ use units::Kwh;
 use wire::numbers::get_u32;
 
 // Half of what 4 bytes count to, from which on they are below zero.
-const HALF_TURN: u32 = 2_147_483_648;
+pub const HALF_TURN: u32 = 2_147_483_648;
 
 // The number is not among those from 1 to `most`.
 fn outside(number: u8, most: u8) -> bool
@@ -52,7 +52,7 @@ fn position_of(stored: u32) -> Position
 }
 
 // The 4 bytes that hold the net of an account in an hour.
-fn stored_net(book: &[u8], account: u8, hour: u8) -> u32
+pub fn stored_net(book: &[u8], account: u8, hour: u8) -> u32
     requires { ⌜ (isBook (now book) ≡ true) × InTable account hour ⌝ }
     ensures { λ r. ⌜ r ≡ numberAt (now (book .entry)) (presentAt + netAt mostHours account hour) 4 ⌝ }
 {

@@ -16,7 +16,7 @@ use Rattle.rules.specs.declared.Point.{Point}
 use Rattle.rules.specs.declared.Schedule.{Schedule}
 use Rattle.rules.specs.Basics.{if_then_else_, nth, Each}
 use Rattle.rules.specs.Limits.{mostPoints, mostAccounts}
-use Rattle.rules.specs.Books.{Setup, noPoint, pointAt}
+use Rattle.rules.specs.Books.{Setup, noPoint, accountCount, pointAt}
 use Rattle.rules.specs.Opening.{countsIn, pointsIn, setupOf}
 use Rattle.rules.specs.Settlement.{Judged, used, accountOf, sameHourSide, pointLimit, accountLimit, metPrice, taken, judge, priceCount}
 use Rattle.rules.proofs.Searches.{each-nth, each-map}
@@ -74,6 +74,11 @@ module _ (s : List ℕ) (h : isBook s ≡ true) (x : Schedule) (ok : scheduleOk 
   -- as was read
   pub account-read-in-cells : (p : Point) → p ≡ pointAt (setupIn s) (x .point) → InCells mostAccounts (p .account) x
   account-read-in-cells p e = rw e account-in-cells
+
+  -- its account and its hour are the book's
+  pub account-hour-stands : (p : Point) → p ≡ pointAt (setupIn s) (x .point)
+      → ((1 ≤ p .account) × (p .account ≤ accountCount (setupIn s))) × ((1 ≤ x .hour) × (x .hour ≤ setupIn s .hours))
+  account-hour-stands p e = rw e ((point-sound .account-low, point-sound .account-high), (in-range .hour-low, in-range .hour-high))
 
   -- the point that was read is its point
   pub on-point : (p : Point) → p ≡ nth (pointsIn s) (x .point) noPoint → OnPoint (setupIn s) p x

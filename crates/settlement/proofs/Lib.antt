@@ -27,6 +27,8 @@ pub mod PlacingLaws
 pub mod JudgingLaws
 -- TurnLaws: each schedule of a book in its turn.
 pub mod TurnLaws
+-- NettedLaws: settlement at net positions of the same differences.
+pub mod NettedLaws
 -- DrawingLaws: what settle writes to its buffers.
 pub mod DrawingLaws
 -- SettlingLaws: what settle answers.

@@ -8,18 +8,16 @@ ghost use lib.ListN.{length, getD, set};
 ghost use Rattle.units.specs.Units.{centsPerMwh};
 ghost use Rattle.units.specs.declared.CentsPerMwh.{CentsPerMwh};
 ghost use Rattle.rules.specs.declared.Net.{Net};
-ghost use Rattle.rules.specs.declared.Row.{Row};
 ghost use Rattle.rules.specs.Basics.{if_then_else_, nth, Each};
 ghost use Rattle.rules.specs.Limits.{mostPoints, mostAccounts};
 ghost use Rattle.rules.specs.Books.{Setup};
-ghost use Rattle.rules.specs.Registration.{netOf};
 ghost use Rattle.rules.specs.Settlement.{Judged, accountOf, judge, priceCount, pricesIn};
-ghost use Rattle.book.specs.Valid.{scheduleOk};
-ghost use Rattle.book.specs.Sums.{SumsOf, Room};
-ghost use Rattle.settlement.specs.Tables.{Settling, OnPoint, setupIn, netsIn, pricesOf, cellFor, pointCells, UsedBy};
+ghost use Rattle.book.specs.Valid.{isBook, scheduleOk};
+ghost use Rattle.book.specs.Sums.{Room};
+ghost use Rattle.settlement.specs.Tables.{Priced, OnPoint, setupIn, netsIn, pricesOf, cellFor, pointCells, UsedBy};
 ghost use Rattle.settlement.specs.Congruity.{InCells, nothingUsed, greatest, leftBy, priceNumber, takenAt, resultBy};
 use crate::prices::price;
-use book::sums::account_hour;
+use book::positions::net_at;
 use rules::Net;
 use rules::Point;
 use rules::Schedule;
@@ -104,13 +102,13 @@ fn over_point(used: &[u32], x: Schedule, point: Point) -> bool
 }
 
 // Whether a schedule passes what is left of its account's net position.
-fn over_account(sums: &[u32], used: &[u32], x: Schedule, account: u8) -> bool
-    requires { ⌜ (length (now sums) ≡ 3200) × (length (now used) ≡ 4800) × InCells mostAccounts account x ⌝ }
-    ensures { λ r. ⌜ ((rows : List Row) → SumsOf rows (now (sums .entry)) → r ≡ ltb (leftBy (netOf rows account (x .hour)) (x .side)) (getD (now (used .entry)) (pointCells + cellFor account x) 0 + x .quantity .0)) ⌝ }
+fn over_account(book: &[u8], used: &[u32], x: Schedule, point: Point) -> bool
+    requires { ⌜ (isBook (now book) ≡ true) × OnPoint (setupIn (now book)) point x × (length (now used) ≡ 4800) ⌝ }
+    ensures { λ r. ⌜ r ≡ ltb (leftBy (netsIn (now (book .entry)) (point .account) (x .hour)) (x .side)) (getD (now (used .entry)) (pointCells + cellFor (point .account) x) 0 + x .quantity .0) ⌝ }
 {
-    let k = POINT_CELLS + cell_for(account, x);
-    let held = account_hour(sums, account, x.hour);
-    let limit = account_limit(held.net, x.side);
+    let k = POINT_CELLS + cell_for(point.account, x);
+    let net = net_at(book, point.account, x.hour);
+    let limit = account_limit(net, x.side);
     passes(limit, used[k], x.quantity)
 }
 
@@ -161,22 +159,15 @@ fn ranked_result(point: bool, account: bool, taken: bool) -> u8
 }
 
 // The result of a schedule on its point, after those that used up what the table says.
-pub fn result_of(
-    book: &[u8],
-    sums: &[u32],
-    prices: &[u8],
-    used: &[u32],
-    point: Point,
-    x: Schedule,
-) -> u8
-    requires { ⌜ Settling (now book) (now sums) (now prices) ⌝ }
+pub fn result_of(book: &[u8], prices: &[u8], used: &[u32], point: Point, x: Schedule) -> u8
+    requires { ⌜ Priced (now book) (now prices) ⌝ }
     requires { ⌜ OnPoint (setupIn (now book)) point x × (length (now used) ≡ 4800) ⌝ }
     ensures meaning { λ r. ⌜ ((before : List Judged) → UsedBy (setupIn (now (book .entry))) (netsIn (now (book .entry))) (pricesOf (now (book .entry)) (now (prices .entry))) before (now (used .entry)) → Each (λ j. scheduleOk (setupIn (now (book .entry))) (j .schedule) ≡ true) before → r ≡ judge (setupIn (now (book .entry))) (netsIn (now (book .entry))) (pricesOf (now (book .entry)) (now (prices .entry))) before x) ⌝ }
     ensures bounded { λ r. ⌜ r ≤ 3 ⌝ }
 {
     let n = counts(book);
     let over_point = over_point(used, x, point);
-    let over_account = over_account(sums, used, x, point.account);
+    let over_account = over_account(book, used, x, point);
     let taken = is_taken(prices, n.hours, point, x);
     ranked_result(over_point, over_account, taken)
 }

@@ -7,7 +7,7 @@ ghost use Rattle.rules.specs.Limits.{mostSchedules};
 ghost use Rattle.rules.specs.Settlement.{Judged, placed, prioritised};
 ghost use Rattle.book.specs.Valid.{isBook, bookIn};
 ghost use Rattle.book.specs.Sums.{Room};
-ghost use Rattle.settlement.specs.Tables.{Priced, Settling, setupIn};
+ghost use Rattle.settlement.specs.Tables.{Priced, setupIn};
 ghost use Rattle.settlement.specs.Congruity.{nothingUsed};
 ghost use Rattle.settlement.specs.Balances.{credited, Creditable};
 ghost use Rattle.settlement.specs.Judging.{InPlace, nonePlaced, noResults, TablesIn, BeforeIn, judgedNext, settledIn, DrawnUp};
@@ -21,7 +21,6 @@ use crate::congruity::result_of;
 use crate::congruity::use_up;
 use book::layout::SCHEDULE_WIDTH;
 use book::layout::SCHEDULES_AT;
-use book::readings::sums_in;
 use book::schedules::schedule_at;
 use priority::order::in_order;
 use rules::Balance;
@@ -66,20 +65,19 @@ fn placed_in(book: &[u8], n: usize) -> [Placed; MOST_SCHEDULES]
 // Judges the next schedule: its result, what it uses up of the limits, and what it adds to its operator's balance.
 fn judge_next(
     book: &[u8],
-    sums: &[u32],
     prices: &[u8],
     used: &mut [u32],
     results: &mut [u8],
     next: Placed,
 ) -> Credit
-    requires { ⌜ Settling (now book) (now sums) (now prices) × InPlace (setupIn (now book)) next ⌝ }
+    requires { ⌜ Priced (now book) (now prices) × InPlace (setupIn (now book)) next ⌝ }
     requires { ⌜ (length (now used) ≡ 4800) × Room (now used) 0 (next .schedule .quantity .0) × (length (now results) ≡ mostSchedules) ⌝ }
     ensures tables { λ r. ⌜ ((before : List Judged) (all : List Balance) → TablesIn (now (book .entry)) (now (prices .entry)) before (now (used .entry)) all (now (results .entry)) → BeforeIn (now (book .entry)) (now (prices .entry)) before next → TablesIn (now (book .entry)) (now (prices .entry)) (judgedNext (now (book .entry)) (now (prices .entry)) before next ∷ before) (now (used .exit)) (credited all (r .operator) (r .share)) (now (results .exit))) ⌝ }
     ensures bounded { λ r. ⌜ Creditable r ⌝ }
 {
     let x = next.schedule;
     let site = point(book, x.point);
-    let result = result_of(book, sums, prices, used, site, x);
+    let result = result_of(book, prices, used, site, x);
     use_up(used, site.account, x, result);
     results[next.place as usize - 1] = result;
     credit_of(book, prices, site, x, result)
@@ -88,23 +86,22 @@ fn judge_next(
 // Judges the first `n` of an order, one after the other.
 fn judge_all(
     book: &[u8],
-    sums: &[u32],
     prices: &[u8],
     order: [Placed; MOST_SCHEDULES],
     n: usize,
     used: &mut [u32],
     results: &mut [u8],
 ) -> [Balance; OPERATORS]
-    requires { ⌜ Settling (now book) (now sums) (now prices) ⌝ }
+    requires { ⌜ Priced (now book) (now prices) ⌝ }
     requires { ⌜ (n ≡ length (bookIn (now book) .schedules)) × (take n order ≡ prioritised (placed 1 (bookIn (now book) .schedules))) ⌝ }
     requires { ⌜ (now used ≡ nothingUsed) × (now results ≡ noResults) ⌝ }
     ensures { λ r. ⌜ TablesIn (now (book .entry)) (now (prices .entry)) (settledIn (now (book .entry)) (now (prices .entry))) (now (used .exit)) r (now (results .exit)) ⌝ }
 {
-    let mut all = accounts_worth(book, sums, prices);
+    let mut all = accounts_worth(book, prices);
     let mut k = 0;
     while k < n {
         let x = order[k];
-        let credit = judge_next(book, sums, prices, used, results, x);
+        let credit = judge_next(book, prices, used, results, x);
         let at = credit.operator as usize - 1;
         let held = all[at];
         all[at] = join(held, credit.share);
@@ -123,9 +120,8 @@ pub fn judge_schedules(
     requires { ⌜ Priced (now book) (now prices) × (n ≡ length (bookIn (now book) .schedules)) × (now results ≡ noResults) ⌝ }
     ensures { λ r. ⌜ DrawnUp (now (book .entry)) (now (prices .entry)) r (now (results .exit)) ⌝ }
 {
-    let sums = sums_in(book);
     let all = placed_in(book, n);
     let order = in_order(all, n);
     let mut used = nothing_used();
-    judge_all(book, &sums, prices, order, n, &mut used, results)
+    judge_all(book, prices, order, n, &mut used, results)
 }

@@ -13,19 +13,19 @@ use Rattle.settlement.proofs.judging.judge_all.Statement.{statement}
 use Rattle.settlement.proofs.judging.judge_all.Tie as tie
 
 abbrev Inv-loop : tie.InvT-loop
-Inv-loop book sums prices n used₀ results₀ order all₀ k₀ used results all k =
+Inv-loop book prices n used₀ results₀ order all₀ k₀ used results all k =
     (k ≤ n) × (n ≤ 256) × TablesIn book prices (judgedIn book prices k) used all results
 
 abbrev μ-loop : tie.MeasureT-loop
-μ-loop book sums prices n used₀ results₀ order all₀ k₀ used results all k = n - k
+μ-loop book prices n used₀ results₀ order all₀ k₀ used results all k = n - k
 
 accounts-worth-requires : tie.Need-accounts-worth-requires Inv-loop μ-loop
 accounts-worth-requires c κs = search needs
 
 loop-holds : tie.Need-loop-holds Inv-loop μ-loop
 loop-holds c =
-    let start = c .before .before .before .before .before .before in
-    let few = schedule-count-high _ (start .pre .0 .priced .is-book) in
+    let start = c .before .before .before .before .before in
+    let few = schedule-count-high _ (start .pre .0 .is-book) in
     (search needs, omega (arith, start .pre .1 .0 .0, few), tables-begin _ _ _ _ _ (start .pre .1 .1 .0) (start .pre .1 .1 .1) (c .accounts-worth .ensures))
 
 mul-x : tie.Need-mul-x Inv-loop μ-loop
@@ -37,9 +37,9 @@ array-copy-out-x c = search needs
 judge-next-requires : tie.Need-judge-next-requires Inv-loop μ-loop
 judge-next-requires c κs =
     let l = c .before .before .before .before .loop in
-    let start = c .before .before .before .before .before .before .before .before .before .before .before in
+    let start = c .before .before .before .before .before .before .before .before .before .before in
     let here : l .k < start .args .n = omega arith in
-    let ready = next-ready _ _ (start .pre .0 .priced) (l .k) (omega (arith, here, start .pre .1 .0 .0)) _ (in-turn _ _ _ _ here (start .pre .1 .0 .1)) _ _ _ (l .inv .2) in
+    let ready = next-ready _ _ (start .pre .0) (l .k) (omega (arith, here, start .pre .1 .0 .0)) _ (in-turn _ _ _ _ here (start .pre .1 .0 .1)) _ _ _ (l .inv .2) in
     ((start .pre .0, ready .0), ready .1)
 
 cast-at : tie.Need-cast-at Inv-loop μ-loop
@@ -57,10 +57,10 @@ array-copy-out-held c = search needs
 join-requires : tie.Need-join-requires Inv-loop μ-loop
 join-requires c κs =
     let l = c .before .before .before .before .before .before .before .before .before .before .before .loop in
-    let start = c .before .before .before .before .before .before .before .before .before .before .before .before .before .before .before .before .before .before in
+    let start = c .before .before .before .before .before .before .before .before .before .before .before .before .before .before .before .before .before in
     let credit = c .before .before .before .before .before .before .judge-next in
     let h : l .k ≤ length (bookIn (start .args .book .now) .schedules) = omega (arith, start .pre .1 .0 .0) in
-    let held = first-fits _ _ (start .pre .0 .priced) (l .k) h _ (l .inv .2 .balances-of) (credit .result .operator - 1) in
+    let held = first-fits _ _ (start .pre .0) (l .k) h _ (l .inv .2 .balances-of) (credit .result .operator - 1) in
     let share = credit .ensures .1 .share-fits in
     (omega (arith, held .0, share .0), omega (arith, held .1, share .1))
 
@@ -79,28 +79,28 @@ loop-less c = search needs
 loop-again : tie.Need-loop-again Inv-loop μ-loop
 loop-again c =
     let l = c .before .before .before .before .before .before .before .before .before .before .before .before .loop in
-    let start = c .before .before .before .before .before .before .before .before .before .before .before .before .before .before .before .before .before .before .before in
+    let start = c .before .before .before .before .before .before .before .before .before .before .before .before .before .before .before .before .before .before in
     let credit = c .before .before .before .before .before .before .before .judge-next in
     let here : l .k < start .args .n = omega (arith, c .before .before .before .before .before .before .before .before .before .before .before .loop-test .taken) in
     let h : l .k < length (bookIn (start .args .book .now) .schedules) = omega (arith, here, start .pre .1 .0 .0) in
     let turn = in-turn _ _ _ _ here (start .pre .1 .0 .1) in
-    let known = next-known _ _ (start .pre .0 .priced) (l .k) h _ turn in
+    let known = next-known _ _ (start .pre .0) (l .k) h _ turn in
     let credited = credited-made (l .all) (credit .result .operator) (credit .result .share) (c .join .result) (c .join .ensures) in
-    (search needs, search needs, rw credited (tables-follow _ _ (start .pre .0 .priced) (l .k) h _ turn _ _ _ (credit .ensures .0 _ _ (l .inv .2) known)))
+    (search needs, search needs, rw credited (tables-follow _ _ (start .pre .0) (l .k) h _ turn _ _ _ (credit .ensures .0 _ _ (l .inv .2) known)))
 
 same-length : tie.Need-same-length Inv-loop μ-loop
 same-length c =
-    let start = c .before .before .before .before .before .before .before .before in
+    let start = c .before .before .before .before .before .before .before in
     c .before .loop .inv .2 .used-by .whole ∙ sym (length-unused _ (start .pre .1 .1 .0))
 
 same-length-2 : tie.Need-same-length-2 Inv-loop μ-loop
 same-length-2 c =
-    let start = c .before .before .before .before .before .before .before .before in
+    let start = c .before .before .before .before .before .before .before in
     c .before .loop .inv .2 .results-of .whole ∙ sym (length-unjudged _ (start .pre .1 .1 .1))
 
 returns : tie.Need-returns Inv-loop μ-loop
 returns c =
-    let start = c .before .before .before .before .before .before .before .before in
+    let start = c .before .before .before .before .before .before .before in
     let l = c .before .loop in
     let done : l .k ≡ start .args .n = omega arith in
     tables-end _ _ (l .k) _ _ _ (done ∙ start .pre .1 .0 .0) (l .inv .2)

@@ -9,18 +9,18 @@ use Rattle.settlement.proofs.judging.judge_next.Tie as tie
 
 point-requires : tie.Need-point-requires
 point-requires c κs =
-    let pre = c .before .before .before .before .before .before .pre in
-    point-stands _ (pre .0 .0 .priced .is-book) _ (pre .0 .1 .in-range)
+    let pre = c .before .before .before .before .before .pre in
+    point-stands _ (pre .0 .0 .is-book) _ (pre .0 .1 .in-range)
 
 result-of-requires : tie.Need-result-of-requires
 result-of-requires c κs =
-    let pre = c .before .before .before .before .before .before .before .before .pre in
-    (pre .0 .0, (on-point _ (pre .0 .0 .priced .is-book) _ (pre .0 .1 .in-range) _ (c .before .point .ensures), pre .1 .0))
+    let pre = c .before .before .before .before .before .before .before .pre in
+    (pre .0 .0, (on-point _ (pre .0 .0 .is-book) _ (pre .0 .1 .in-range) _ (c .before .point .ensures), pre .1 .0))
 
 use-up-requires : tie.Need-use-up-requires
 use-up-requires c κs =
-    let pre = c .before .before .before .before .before .before .before .before .before .before .pre in
-    let h = pre .0 .0 .priced .is-book in
+    let pre = c .before .before .before .before .before .before .before .before .before .pre in
+    let h = pre .0 .0 .is-book in
     let ok = pre .0 .1 .in-range in
     let on = on-point _ h _ ok _ (c .before .before .before .point .ensures) in
     (pre .1 .0, point-in-cells _ h _ ok, account-read-in-cells _ h _ ok _ (on .its-point), pre .1 .1)
@@ -37,8 +37,8 @@ slice-write-results c = search needs
 credit-of-requires : tie.Need-credit-of-requires
 credit-of-requires c κs =
     let read = c .before .before .before .before .before .before .before in
-    let pre = read .before .before .before .before .before .before .before .pre in
-    (pre .0 .0 .priced, on-point _ (pre .0 .0 .priced .is-book) _ (pre .0 .1 .in-range) _ (read .point .ensures))
+    let pre = read .before .before .before .before .before .before .pre in
+    (pre .0 .0, on-point _ (pre .0 .0 .is-book) _ (pre .0 .1 .in-range) _ (read .point .ensures))
 
 same-length : tie.Need-same-length
 same-length c = search needs
@@ -51,9 +51,9 @@ returns c =
     let used = c .before .before .before .before in
     let judgement = used .before .before in
     let read = judgement .before .before in
-    let start = read .before .before .before .before .before .before .before in
+    let start = read .before .before .before .before .before .before in
     let pre = start .pre in
-    let on = on-point _ (pre .0 .0 .priced .is-book) _ (pre .0 .1 .in-range) _ (read .point .ensures) in
+    let on = on-point _ (pre .0 .0 .is-book) _ (pre .0 .1 .in-range) _ (read .point .ensures) in
     let account = ap (λ (p : Point). p .account) (sym (on .its-point)) in (
       λ before all tables known.
           tables-next _ _ _ before _ _ _ _ _ (judgement .result-of .ensures .0 before (tables .used-by) (known .in-range)) (pre .0 .1) known

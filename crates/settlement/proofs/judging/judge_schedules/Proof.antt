@@ -8,15 +8,12 @@ use borrow.Author.Needs.{needs}
 use Rattle.settlement.proofs.judging.judge_schedules.Statement.{statement}
 use Rattle.settlement.proofs.judging.judge_schedules.Tie as tie
 
-sums-in-requires : tie.Need-sums-in-requires
-sums-in-requires c κs = search needs
-
 placed-in-requires : tie.Need-placed-in-requires
 placed-in-requires c κs = search needs
 
 in-order-requires : tie.Need-in-order-requires
 in-order-requires c κs =
-    let pre = c .before .before .before .before .before .pre in
+    let pre = c .before .before .before .before .pre in
     omega (arith, pre .1, schedule-count-high _ (pre .0 .is-book))
 
 nothing-used-requires : tie.Need-nothing-used-requires
@@ -25,16 +22,13 @@ nothing-used-requires c κs = search needs
 slice-aggregate-judge-all : tie.Need-slice-aggregate-judge-all
 slice-aggregate-judge-all c = search needs
 
-slice-aggregate-judge-all-2 : tie.Need-slice-aggregate-judge-all-2
-slice-aggregate-judge-all-2 c = search needs
-
 judge-all-requires : tie.Need-judge-all-requires
 judge-all-requires c κs =
-    let ordered = c .before .before .before .before in
-    let summed = ordered .before .before in
-    let pre = summed .before .before .before .before .pre in
-    let order = ordered .in-order .ensures ∙ ap prioritised (ordered .before .placed-in .ensures) in
-    (record { priced = pre .0; summed = summed .sums-in .ensures }, ((pre .1, order), (c .before .before .before .nothing-used .ensures, pre .2)))
+    let ordered = c .before .before .before in
+    let placed = ordered .before in
+    let pre = placed .before .before .before .before .pre in
+    let order = ordered .in-order .ensures ∙ ap prioritised (placed .placed-in .ensures) in
+    (pre .0, ((pre .1, order), (c .before .before .nothing-used .ensures, pre .2)))
 
 same-length : tie.Need-same-length
 same-length c = search needs
@@ -42,20 +36,18 @@ same-length c = search needs
 returns : tie.Need-returns
 returns c =
     let all = c .before .before .before in
-    let summed = all .before .before .before .before .before .before .before in
-    let pre = summed .before .before .before .before .pre in
+    let placed = all .before .before .before .before .before in
+    let pre = placed .before .before .before .before .pre in
     drawn-up _ _ (pre .0) _ _ _ (all .judge-all .ensures)
 
 pub judge-schedules-spec : {M : Type 1} → statement M
 judge-schedules-spec =
     tie.close
     (tie.spec
-    sums-in-requires
     placed-in-requires
     in-order-requires
     nothing-used-requires
     slice-aggregate-judge-all
-    slice-aggregate-judge-all-2
     judge-all-requires
     same-length
     returns)

@@ -1,0 +1,38 @@
+-- A book keeps its margins, so that below half a turn its 4 bytes say what was bought, and from there on what was sold.
+use native.Mathlib.Omega.{arith}
+use borrow.Author.Needs.{needs}
+use Rattle.book.proofs.ReadingLaws.{net-has-place}
+use Rattle.book.proofs.NettedLaws.{net-bought, net-sold}
+use Rattle.book.proofs.positions.net_at.Statement.{statement}
+use Rattle.book.proofs.positions.net_at.Tie as tie
+
+stored-net-requires : tie.Need-stored-net-requires
+stored-net-requires c κs =
+    let start = c .before in
+    let given = start .pre in
+    (given .0, net-has-place (start .args .book .now) (given .0) (start .args .account) (start .args .hour) (given .1) (given .2))
+
+returns : tie.Need-returns
+returns c =
+    let read = c .before in
+    let start = read .before .before in
+    let given = start .pre in
+    net-bought (start .args .book .now) (given .0) (start .args .account) (start .args .hour) (given .1) (given .2) (read .stored-net .result) (read .stored-net .ensures)
+    (c .if1 .taken)
+
+sub-t9 : tie.Need-sub-t9
+sub-t9 c = search needs
+
+add-t10 : tie.Need-add-t10
+add-t10 c = search needs
+
+returns-2 : tie.Need-returns-2
+returns-2 c =
+    let read = c .before in
+    let start = read .before .before in
+    let given = start .pre in
+    net-sold (start .args .book .now) (given .0) (start .args .account) (start .args .hour) (given .1) (given .2) (read .stored-net .result) (read .stored-net .ensures)
+    (c .if1 .left) _ (omega arith)
+
+pub net-at-spec : {M : Type 1} → statement M
+net-at-spec = tie.close (tie.spec stored-net-requires returns sub-t9 add-t10 returns-2)
