@@ -31,6 +31,10 @@ pub and-spared : (s t : Bool) → s ≡ true → s && t ≡ false → t ≡ fals
 and-spared true t e h = h
 and-spared false t e h = cc
 
+pub or-false : (t : Bool) → (t || false) ≡ t
+or-false true = refl
+or-false false = refl
+
 pub or-neither : (s t : Bool) → (s || t ≡ false) ↔ ((s ≡ false) × (t ≡ false))
 or-neither true t = ((λ e. (e, cc)), (λ h. h .0))
 or-neither false t = ((λ e. (refl, e)), (λ h. h .1))

@@ -20,12 +20,12 @@ use Rattle.rules.specs.Settlement.{results, figuresIn}
 use Rattle.rules.specs.Calls.{Call, kindIn, settles, refusal, answer, resultsAfter, _∈_, step}
 use Rattle.rules.specs.Lists.{isAcceptance, accepts, acceptsAs}
 use Rattle.rules.specs.Replay.{callOf, answered, answerLines, settledLines, lineText, text}
+use Rattle.rules.proofs.Tests.{or-false}
 use Rattle.rules.proofs.Searches.{each-map, counting-length}
 use Rattle.rules.proofs.Passed.{Passed, passed-2, passed-kind, readable}
 use Rattle.rules.proofs.CallLists.{accepts-passed}
 use Rattle.records.proofs.ReadingLaws.{kind-third}
 use Rattle.book.specs.Valid.{valid}
-use Rattle.registration.proofs.ProposalLaws.{or-false}
 use Rattle.day.proofs.SettleLaws.{worked, balances-many, settle-writes, balances-small}
 use Rattle.items.specs.Stream.{recordLength}
 use Rattle.items.specs.Written.{Written}

@@ -27,7 +27,7 @@ unfolding le
 signed width (pos n) = le width n
 signed width (negsuc n) = le width ((256 ^ width - 1) * suc n)
 
--- the signed number that 8 bytes say: from half a turn on it is a whole turn less
+-- the signed number that 8 bytes say in two's complement: from half a turn on it is a whole turn less
 unfoldable pub figureIn : List ℕ → ℤ
 figureIn s = cond (ltb (number s) (2 ^ 63)) (pos (number s)) (subℕ (number s) (2 ^ 64))
 
