@@ -5,19 +5,17 @@ use mathlib.Core.List.{List}
 use native.Mathlib.Nat.{zero-add}
 use native.Mathlib.Omega.{arith}
 use lib.ListN.{length}
-use lib.IntN.{pos, negℤ, subℕ}
+use lib.IntN.{pos, natAbs, negℤ}
 use borrow.Author.Tests.{lt-ltb, le-ltb}
-use Rattle.wire.specs.Numbers.{le, signed}
+use Rattle.wire.specs.Numbers.{le, signed, figureIn}
 use Rattle.wire.specs.Regions.{splice}
-use Rattle.wire.proofs.NumberLaws.{signed-minus}
+use Rattle.wire.proofs.NumberLaws.{signed-minus, figure-back}
 use Rattle.wire.proofs.RegionLaws.{splice-take-drop}
 use Rattle.rules.specs.declared.Position.{Position}
 use Rattle.rules.specs.declared.Position.the-variants.{Long, Short}
 use Rattle.rules.specs.declared.Refusal.the-variants.{BufferShort}
 use Rattle.rules.specs.Verdicts.{accepted, refused, lowest}
 use Rattle.rules.specs.Readings.{positionFigure}
-use Rattle.day.specs.Figures.{figureIn}
-use Rattle.day.proofs.FigureLaws.{figure-back}
 use Rattle.abi.specs.Lending.{lentRefusal, lentOutcome, lentBytes}
 
 -- ---- a lent buffer
@@ -43,17 +41,14 @@ minus-word (suc n) h f =
 
 -- ---- the figure of a position reads back
 
-less-none : (n : ℕ) → subℕ n 0 ≡ pos n
-less-none n = let e : n - 0 ≡ n = omega arith in rw (le-ltb n 0 (omega arith), e)
-
-from-none : (n : ℕ) → subℕ 0 n ≡ negℤ (pos n)
-from-none zero = refl
-from-none (suc n) = let e : suc n - 1 ≡ n = omega arith in rw (lt-ltb 0 (suc n) (omega arith), e)
+minus-as-far : (n : ℕ) → natAbs (negℤ (pos n)) ≡ n
+minus-as-far zero = refl
+minus-as-far (suc n) = refl
 
 abbrev pub energyOf : Position → ℕ
 energyOf (Long x) = x .0
 energyOf (Short x) = x .0
 
 pub position-back : (p : Position) → energyOf p < 2 ^ 63 → figureIn (signed 8 (positionFigure p)) ≡ positionFigure p
-position-back (Long x) h = rw (← less-none (x .0)) (figure-back (x .0) 0 h (omega arith))
-position-back (Short x) h = rw (← from-none (x .0)) (figure-back 0 (x .0) (omega arith) h)
+position-back (Long x) h = figure-back (pos (x .0)) h
+position-back (Short x) h = figure-back (negℤ (pos (x .0))) (rw (minus-as-far (x .0)) h)

@@ -12,10 +12,8 @@ use rules::Position;
 use rules::Reading;
 use rules::Refusal;
 use rules::Verdict;
+use wire::numbers::ALL_ONES;
 use wire::regions::copy_in;
-
-// The greatest number of 8 bytes.
-const ALL_ONES: u64 = 18_446_744_073_709_551_615;
 
 // Fills the first bytes of the buffer, or refuses by 10.
 fn lend(said: &[u8], buffer: &mut [u8]) -> Outcome

@@ -9,8 +9,6 @@ pub mod Stages
 pub mod RequestLaws
 -- CallLaws: what a call on a book answers, by what its record reads as.
 pub mod CallLaws
--- FigureLaws: signed figures in bytes, and their sum.
-pub mod FigureLaws
 -- SettleLaws: what an accepted settle writes, and that its figures are read back.
 pub mod SettleLaws
 -- Readings: every reading of a book is its ledger's.

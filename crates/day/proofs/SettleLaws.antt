@@ -2,35 +2,35 @@
 -- 8 bytes that it fills.
 use Prim.Native.Nat.{ℕ, _≤_}
 use mathlib.Core.Path.{_≡_, ap, _∙_}
-use mathlib.Core.List.{List, [], _∷_, map}
+use mathlib.Core.List.{List, [], _∷_, map, map-map}
 use mathlib.Core.Option.{Option, none, some}
 use mathlib.Core.Bool.{true}
 use native.Mathlib.Omega.{arith}
 use lib.ListN.{length, length-map}
+use lib.IntN.{ℤ, natAbs}
 use borrow.Author.Tests.{ltb-false}
 use Rattle.units.specs.declared.CentsPerMwh.{CentsPerMwh}
 use Rattle.rules.specs.declared.Refusal.{Refusal}
-use Rattle.rules.specs.Basics.{upTo, Each, nil, cons}
+use Rattle.rules.specs.Basics.{sumOf, upTo, Each, nil, cons}
 use Rattle.rules.specs.Limits.{mostPrice}
 use Rattle.rules.specs.Books.{Book, operatorCount}
 use Rattle.rules.specs.Requests.{Kind, settle, filled}
 use Rattle.rules.specs.Registration.{netOf}
-use Rattle.rules.specs.Settlement.{pricesIn, settled, balance, results, balances, balanceBytes}
+use Rattle.rules.specs.Settlement.{pricesIn, settled, balance, results, balances, balanceFigure, balanceBytes, figuresIn}
 use Rattle.rules.specs.Calls.{Call, Settled, kindIn, requestIn, settles, refusal, answer, balancesAfter, _∈_, inputChecks, step}
 use Rattle.rules.specs.Lists.{isAcceptance, accepts, acceptsAs}
-use Rattle.rules.specs.Replay.{sumOf}
 use Rattle.rules.proofs.Tests.{and-both}
 use Rattle.rules.proofs.Searches.{each-map, any-none, counting-length}
+use Rattle.rules.proofs.Differences.{difference-most}
+use Rattle.rules.proofs.Figures.{figures-back}
 use Rattle.rules.proofs.Clearing.{Clear}
 use Rattle.rules.proofs.Passed.{passed-6-prices}
 use Rattle.rules.proofs.CallLists.{accepts-passed}
 use Rattle.rules.proofs.Batches.{the-kind}
 use Rattle.book.specs.Valid.{valid}
-use Rattle.book.proofs.MoneyLaws.{settled-gained-most, settled-lost-most}
-use Rattle.day.specs.Figures.{figuresIn, sum}
-use Rattle.day.proofs.FigureLaws.{SmallBalance, figures-back, sum-of-balances}
+use Rattle.book.proofs.MoneyLaws.{mostMoney, settled-gained-most, settled-lost-most}
 
-pub each-made : {A B : Type 0} {P : B → Type 0} (f : A → B) (xs : List A) → ((x : A) → P (f x)) → Each P (map f xs)
+each-made : {A B : Type 0} {P : B → Type 0} (f : A → B) (xs : List A) → ((x : A) → P (f x)) → Each P (map f xs)
 each-made f [] h = nil
 each-made f (x ∷ xs) h = cons (h x) (each-made f xs h)
 
@@ -46,6 +46,10 @@ module _ (b : Book) (c : Call) where
         results = results (b .setup) (netOf (b .part .rows)) lentPrices (b .schedules);
         balances = balances (b .setup) (netOf (b .part .rows)) lentPrices (b .schedules);
       }
+
+  pub balances-many : length (worked .balances) ≡ operatorCount (b .setup)
+  unfolding balances
+  balances-many = length-map (upTo (operatorCount (b .setup))) _ ∙ counting-length (operatorCount (b .setup)) 1
 
   worked-go : (k : Kind) → k ≡ settle → settles k b c ≡ some worked
   unfolding settles
@@ -77,20 +81,16 @@ module _ (b : Book) (c : Call) where
         each-map (λ x e. ltb-false _ _ e) (any-none _ lentPrices (passed-6-prices b c (requestIn c) i))
 
     module _ (v : valid b ≡ true) where
-      small-balances : Each SmallBalance (worked .balances)
+      -- no balance goes beyond what a day can move
+      pub balances-small : Each (λ z. natAbs z ≤ mostMoney) (map balanceFigure (worked .balances))
       unfolding balances
-      small-balances =
+      balances-small =
           let js = settled (b .setup) (netOf (b .part .rows)) lentPrices (b .schedules) in
-          each-made {P = SmallBalance} (balance (b .setup) (netOf (b .part .rows)) lentPrices js) (upTo (operatorCount (b .setup))) (λ o.
-          (omega (arith, settled-gained-most b v lentPrices prices-in-range o), omega (arith, settled-lost-most b v lentPrices prices-in-range o)))
-
-      length-balances : length (worked .balances) ≡ operatorCount (b .setup)
-      unfolding balances
-      length-balances = length-map (upTo (operatorCount (b .setup))) _ ∙ counting-length (operatorCount (b .setup)) 1
+          let figure : ℕ → ℤ = λ o. balanceFigure (balance (b .setup) (netOf (b .part .rows)) lentPrices js o) in
+          rw map-map (each-made {P = λ z. natAbs z ≤ mostMoney} figure (upTo (operatorCount (b .setup))) (λ o.
+          difference-most _ _ mostMoney (settled-gained-most b v lentPrices prices-in-range o) (settled-lost-most b v lentPrices prices-in-range o)))
 
       -- the figures in the buffer sum to what the balances sum to
-      pub written-total : sum (figuresIn (operatorCount (b .setup)) (step b c .balances)) ≡ sumOf (worked .balances)
+      pub written-total : sumOf (figuresIn (operatorCount (b .setup)) (step b c .balances)) ≡ sumOf (map balanceFigure (worked .balances))
       written-total =
-          ap (λ (s : List ℕ). sum (figuresIn (operatorCount (b .setup)) s)) (settle-writes .1)
-          ∙ ap sum (figures-back (operatorCount (b .setup)) (c .balances) length-balances small-balances)
-          ∙ sum-of-balances (worked .balances)
+          rw (← balances-many, settle-writes .1) (ap sumOf (figures-back (worked .balances) (c .balances) (each-map (λ z m. omega arith) balances-small)))

@@ -8,18 +8,17 @@ use mathlib.Core.Bool.{true}
 use lib.ListN.{length, take, drop}
 use lib.IntN.{pos}
 use Rattle.rules.specs.declared.Net.{Net}
-use Rattle.rules.specs.Basics.{upTo, Each}
+use Rattle.rules.specs.Basics.{sumOf, upTo, Each}
 use Rattle.rules.specs.Verdicts.{numbers}
 use Rattle.rules.specs.Books.{Setup, Book, accountCount, operatorCount}
 use Rattle.rules.specs.Opening.{setupOf, setupRefusal, openRefusal, opened}
 use Rattle.rules.specs.Requests.{settle}
 use Rattle.rules.specs.Registration.{netOf, figure}
-use Rattle.rules.specs.Settlement.{pricesIn, registeredTotal}
+use Rattle.rules.specs.Settlement.{pricesIn, registeredTotal, figuresIn}
 use Rattle.rules.specs.Calls.{Call, step}
 use Rattle.rules.specs.Lists.{after, acceptsAs}
 use Rattle.rules.specs.Ledger.{newLedger, fedAll, ledgerNet}
 use Rattle.rules.proofs.Clearing.{clear, clear-lowest}
-use Rattle.rules.proofs.Balanced.{totalℤ}
 use Rattle.rules.proofs.Agreement.{day-agrees}
 use Rattle.rules.proofs.LedgerReadings.{net-is-the-ledgers, hour-is-the-ledgers, exposure-is-the-ledgers, available-is-the-ledgers}
 use Rattle.rules.proofs.LedgerDay.{dayBook, dayLedger, day-setup, day-settled}
@@ -34,10 +33,8 @@ use Rattle.book.proofs.Opened.{opened-valid}
 use Rattle.book.proofs.Reachable.{OfBytes, after-valid, reachable-valid, reachable-setup, reachable-nets-cancel, reachable-nets-within-margins, reachable-margins-kept, reachable-covered}
 use Rattle.day.specs.Doors.{Answered, inBytes, callAnswer}
 use Rattle.day.specs.Lists.{answersOn, bytesAfter, acceptsOnAs, ledgerOn, UndoneOn, CutOutOn}
-use Rattle.day.specs.Figures.{figuresIn, sum}
 use Rattle.day.specs.Promise.{Promise}
 use Rattle.day.proofs.Images.{call-on-image, accepts-as-on-image, answers-on-image, bytes-after-image, heard-on-image, undone-on-image}
-use Rattle.day.proofs.FigureLaws.{sum-of-map}
 use Rattle.day.proofs.SettleLaws.{settle-writes, written-total}
 use Rattle.day.proofs.Refusals.{runs-not-one}
 use Rattle.day.proofs.Readings.{net-answer-agrees, exposure-answer-agrees}
@@ -82,16 +79,15 @@ module _ (setup : List ℕ) (h : setupRefusal setup ≡ none) where
     nets-are = fun-ext (λ a. fun-ext (λ k. net-is-the-ledgers (dayBook setup cs) (dayLedger setup cs) (day-agrees setup cs) a k))
 
     -- in each hour net positions sum to zero
-    nets-cancel : (k : ℕ) → sum (map (λ a. figure (ledgerNet (dayLedger setup cs) a k)) (upTo (accountCount (setupOf setup)))) ≡ pos 0
+    nets-cancel : (k : ℕ) → sumOf (map (λ a. figure (ledgerNet (dayLedger setup cs) a k)) (upTo (accountCount (setupOf setup)))) ≡ pos 0
     nets-cancel k =
-        sum-of-map _ _
-        ∙ ap (λ (net : ℕ → ℕ → Net). totalℤ (λ a. figure (net a k)) (upTo (accountCount (setupOf setup)))) (sym nets-are)
-        ∙ ap (λ (u : Setup). totalℤ (λ a. figure (netOf (dayBook setup cs .part .rows) a k)) (upTo (accountCount u))) (sym (reachable-setup setup h cs bytes))
+        ap (λ (net : ℕ → ℕ → Net). sumOf (map (λ a. figure (net a k)) (upTo (accountCount (setupOf setup))))) (sym nets-are)
+        ∙ ap (λ (u : Setup). sumOf (map (λ a. figure (netOf (dayBook setup cs .part .rows) a k)) (upTo (accountCount u)))) (sym (reachable-setup setup h cs bytes))
         ∙ reachable-nets-cancel setup h cs bytes k
 
     -- an accepted settle on the bytes after the list
     settle-total : (c : Call) → acceptsOnAs (settle ∷ []) (bytesAfter fresh cs) c ≡ true
-        → sum (figuresIn (operatorCount (setupOf setup)) (callAnswer (bytesAfter fresh cs) c .balances))
+        → sumOf (figuresIn (operatorCount (setupOf setup)) (callAnswer (bytesAfter fresh cs) c .balances))
         ≡ registeredTotal (setupOf setup) (ledgerNet (dayLedger setup cs)) (pricesIn (setupOf setup) (c .prices)) (dayLedger setup cs .page .schedules)
     settle-total c e =
         let b = dayBook setup cs in
@@ -100,8 +96,8 @@ module _ (setup : List ℕ) (h : setupRefusal setup ≡ none) where
         let answer = ap (λ (s : List ℕ). callAnswer s c) bytes-are ∙ call-on-image b v c in
         let count : operatorCount (setupOf setup) ≡ operatorCount (b .setup) = ap (λ (u : Setup). operatorCount u) (sym (reachable-setup setup h cs bytes)) in
         let l = dayLedger setup cs in
-        ap (λ (x : Answered). sum (figuresIn (operatorCount (setupOf setup)) (x .balances))) answer
-        ∙ ap (λ (n : ℕ). sum (figuresIn n (step b c .balances))) count
+        ap (λ (x : Answered). sumOf (figuresIn (operatorCount (setupOf setup)) (x .balances))) answer
+        ∙ ap (λ (n : ℕ). sumOf (figuresIn n (step b c .balances))) count
         ∙ written-total b c accepted v
         ∙ day-settled setup cs owned c _ (settle-writes b c accepted .0) .total
         ∙ ap (λ (u : Setup). registeredTotal u (ledgerNet l) (pricesIn u (c .prices)) (l .page .schedules)) (day-setup setup cs)

@@ -3,7 +3,7 @@
 pub mod Doors
 -- Lists: a list of calls on bytes, and the batch that is cut out of it.
 pub mod Lists
--- Figures: the ledger's readings, signed figures in bytes, and their sum.
-pub mod Figures
+-- Readings: what the ledger would read out.
+pub mod Readings
 -- Promise: demand 3 whole, clause by clause.
 pub mod Promise

@@ -6,18 +6,18 @@ use mathlib.Core.List.{List, [], _∷_, _++_, map}
 use mathlib.Core.Bool.{true}
 use lib.IntN.{pos, negℤ}
 use lib.Signed.{_≤ℤ_}
-use Rattle.rules.specs.Basics.{upTo}
+use Rattle.rules.specs.Basics.{sumOf, upTo}
 use Rattle.rules.specs.Books.{accountAt, accountCount, operatorCount}
 use Rattle.rules.specs.Opening.{setupOf}
 use Rattle.rules.specs.Requests.{settle}
 use Rattle.rules.specs.Registration.{figure, low, high}
-use Rattle.rules.specs.Settlement.{pricesIn, registeredTotal}
+use Rattle.rules.specs.Settlement.{pricesIn, registeredTotal, figuresIn}
 use Rattle.rules.specs.Calls.{Call}
 use Rattle.rules.specs.Ledger.{ledgerNet, ledgerHour, ledgerExposure, ledgerAvailable}
 use Rattle.book.specs.Doors.{netAnswer, exposureAnswer}
 use Rattle.day.specs.Doors.{callAnswer}
 use Rattle.day.specs.Lists.{bytesAfter, acceptsOnAs, ledgerOn, UndoneOn, CutOutOn}
-use Rattle.day.specs.Figures.{ledgerNetReading, ledgerExposureReading, figuresIn, sum}
+use Rattle.day.specs.Readings.{ledgerNetReading, ledgerExposureReading}
 
 pub record Promise (setup start : List ℕ) (cs : List Call) : Type 0 where
   -- after the list every reading of net equals the ledger's: the signed sum of the account's confirmed trades that no undo struck
@@ -26,7 +26,7 @@ pub record Promise (setup start : List ℕ) (cs : List Call) : Type 0 where
   pub exposure-readings : (o : ℕ) → exposureAnswer (bytesAfter start cs) o ≡ ledgerExposureReading (ledgerOn setup start cs) o
   -- in each hour net positions sum to zero
   pub nets-sum-to-zero : (h : ℕ)
-      → sum (map (λ a. figure (ledgerNet (ledgerOn setup start cs) a h)) (upTo (accountCount (setupOf setup)))) ≡ pos 0
+      → sumOf (map (λ a. figure (ledgerNet (ledgerOn setup start cs) a h)) (upTo (accountCount (setupOf setup)))) ≡ pos 0
   -- each net position is within its margins
   pub nets-within-margins : (a h : ℕ) → 1 ≤ a → a ≤ accountCount (setupOf setup) → 1 ≤ h → h ≤ setupOf setup .hours
       → (negℤ (pos (accountAt (setupOf setup) a .lower .0)) ≤ℤ figure (ledgerNet (ledgerOn setup start cs) a h))
@@ -49,7 +49,7 @@ pub record Promise (setup start : List ℕ) (cs : List Call) : Type 0 where
   pub balances-total : (before : List Call) (c : Call) (rest : List Call)
       → cs ≡ before ++ c ∷ rest
       → acceptsOnAs (settle ∷ []) (bytesAfter start before) c ≡ true
-      → sum (figuresIn (operatorCount (setupOf setup)) (callAnswer (bytesAfter start before) c .balances))
+      → sumOf (figuresIn (operatorCount (setupOf setup)) (callAnswer (bytesAfter start before) c .balances))
       ≡ registeredTotal
       (setupOf setup)
       (ledgerNet (ledgerOn setup start before))

@@ -10,10 +10,8 @@ use rules::Outcome;
 use rules::Reading;
 use rules::Refusal;
 use rules::Verdict;
+use rules::kinds::SETTLE;
 use settlement::settling::settle;
-
-// The kind that is lent a price table and two buffers.
-const SETTLE: u8 = 10;
 
 // The inner door: a call on bytes that are known to be a book. It leaves a book.
 pub fn call_in(

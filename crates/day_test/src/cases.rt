@@ -6,6 +6,7 @@ use day::doors::exposure;
 use day::doors::net;
 use day::doors::open;
 use rules::Numbers;
+use rules::kinds::SETTLE;
 use rules::verdicts::outcome_numbers;
 use test_lines::begin;
 use test_lines::bytes;
@@ -21,8 +22,6 @@ pub const BOOK_SIZE: isize = 49_152;
 
 // What stands in each byte of an output buffer before a call.
 const UNWRITTEN: u8 = 0xAA;
-
-const SETTLE: u8 = 10;
 
 // Opens a book.
 fn show_open(body: &[u8], book: &mut [u8]) {

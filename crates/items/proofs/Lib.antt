@@ -7,7 +7,7 @@ pub mod DecimalLaws
 pub mod WrittenLaws
 -- LineLaws: a line is the pieces that the code puts.
 pub mod LineLaws
--- FigureLaws: signed figures of 8 bytes, and their sum.
+-- FigureLaws: what the code says of a figure of 8 bytes, and the sum of figures.
 pub mod FigureLaws
 -- ListLaws: lines put one after the other.
 pub mod ListLaws

@@ -8,12 +8,14 @@ use native.Mathlib.Nat.{add-zero}
 use lib.ListN.{length, getD, take, drop, length-append}
 use lib.Seq.{drop-cons}
 use lib.IntN.{ℤ}
-use Rattle.wire.specs.Numbers.{numberAt}
+use Rattle.wire.specs.Numbers.{figureIn}
 use Rattle.wire.specs.Regions.{splice}
 use Rattle.wire.proofs.RegionLaws.{splice-append, splice-none}
+use Rattle.rules.specs.Basics.{sumOf}
+use Rattle.rules.specs.Settlement.{figuresIn}
 use Rattle.rules.specs.Replay.{Line, numbered, result, balance, sum, lineText, text}
 use Rattle.items.specs.Written.{Written, lineRoom}
-use Rattle.items.specs.Figures.{wordFigure, figuresIn, sumFigures, resultsText, balanceLinesText, balancesText}
+use Rattle.items.specs.Figures.{resultsText, balanceLinesText, balancesText}
 use Rattle.items.proofs.WrittenLaws.{written-then}
 use Rattle.items.proofs.FigureLaws.{figures-step, figures-none}
 
@@ -78,7 +80,7 @@ unfolding balanceLinesText
 balances-whole balances n = refl
 
 pub balances-next : (balances : List ℕ) (k left m : ℕ) → left ≡ m + 1
-    → balancesLeft balances k left ≡ balance (k + 1) (wordFigure (numberAt balances (8 * k) 8)) ∷ balancesLeft balances (k + 1) m
+    → balancesLeft balances k left ≡ balance (k + 1) (figureIn (take 8 (drop (8 * k) balances))) ∷ balancesLeft balances (k + 1) m
 unfolding numbered
 balances-next balances k left m e = rw (figures-step balances k left m e, add-one (k + 1))
 
@@ -89,6 +91,6 @@ balances-none balances k left h = rw (figures-none (drop (8 * k) balances) left 
 -- the lines of the balances, and then their sum
 pub balances-written : {s s₁ s₂ : List ℕ} {at at₁ at₂ : ℕ} (z : ℤ) (balances : List ℕ) (n : ℕ) → at ≤ length s
     → Written s at (balanceLinesText (figuresIn n balances)) s₁ at₁ → Written s₁ at₁ (lineText (sum z)) s₂ at₂
-    → z ≡ sumFigures (figuresIn n balances) → Written s at (balancesText n balances) s₂ at₂
+    → z ≡ sumOf (figuresIn n balances) → Written s at (balancesText n balances) s₂ at₂
 unfolding balancesText
 balances-written z balances n h w v e = written-then h w (rw e at v)

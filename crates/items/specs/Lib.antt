@@ -3,5 +3,5 @@
 pub mod Stream
 -- Written: text put into a lent buffer.
 pub mod Written
--- Figures: signed figures of 8 bytes, and the text of results and balances.
+-- Figures: what a balance says, and the text of results and balances.
 pub mod Figures

@@ -2,10 +2,8 @@
 ghost use mathlib.Core.Path.{_≡_};
 ghost use Rattle.items.specs.Stream.{foundAt, pastFound, recordLength};
 use crate::Found;
+use rules::kinds::SETTLE;
 use wire::numbers::get_u16;
-
-// The settle's kind, which is an item's third byte.
-const SETTLE: u8 = 10;
 
 // The bytes of a record with no fields: its map and its kind.
 const BARE_RECORD: usize = 3;

@@ -2,12 +2,12 @@
 -- as sold.
 use Prim.Native.Nat.{ℕ, _≤_}
 use mathlib.Core.Path.{_≡_, refl, sym, ap, _∙_}
-use mathlib.Core.List.{List, [], _∷_}
+use mathlib.Core.List.{List, [], _∷_, map}
 use mathlib.Core.Bool.{Bool, true, false, _&&_}
 use lib.Dec.{eqb}
 use lib.IntN.{ℤ, pos, subℕ, _+ℤ_}
 use Rattle.rules.specs.declared.Row.{Row}
-use Rattle.rules.specs.Basics.{if_then_else_, total, upTo, Each}
+use Rattle.rules.specs.Basics.{if_then_else_, total, sumOf, upTo, Each}
 use Rattle.rules.specs.Registration.{confirmed, covers, buyer, seller, counted, moved, bought, sold, netOf, figure}
 use Rattle.rules.proofs.Differences.{difference-add, difference-none}
 use Rattle.rules.proofs.Searches.{each-map}
@@ -64,13 +64,12 @@ balanced n h rows e =
 -- ---- the same of the signed figures
 
 -- the sum of f over a list
-unfoldable pub totalℤ {ℓ} : {A : Type ℓ} → (A → ℤ) → List A → ℤ
-totalℤ f [] = pos 0
-totalℤ f (x ∷ xs) = f x +ℤ totalℤ f xs
+abbrev pub totalℤ {ℓ} : {A : Type ℓ} → (A → ℤ) → List A → ℤ
+totalℤ f xs = sumOf (map f xs)
 
 -- a sum of differences is the difference of the sums
 pub total-differences {ℓ} : {A : Type ℓ} (f g : A → ℕ) (xs : List A) → totalℤ (λ x. subℕ (f x) (g x)) xs ≡ subℕ (total f xs) (total g xs)
-unfolding total totalℤ
+unfolding total sumOf
 total-differences f g [] = refl
 total-differences f g (x ∷ xs) =
     ap (λ (z : ℤ). subℕ (f x) (g x) +ℤ z) (total-differences f g xs) ∙ difference-add (f x) (g x) (total f xs) (total g xs)

@@ -5,7 +5,7 @@ use mathlib.Core.Path.{_≡_, refl, sym, ap, _∙_}
 use mathlib.Core.Logic.{_⊎_, inl, inr}
 use mathlib.Core.List.{List, [], _∷_, _++_}
 use mathlib.Core.Option.{Option, none, some}
-use mathlib.Core.Bool.{Bool, true, false, _||_}
+use mathlib.Core.Bool.{Bool, true, false, or-false}
 use native.Mathlib.Nat.{zero-add, add-zero, add-comm, add-assoc}
 use native.Mathlib.Omega.{arith}
 use lib.ListN.{length, length-append}
@@ -27,13 +27,9 @@ use Rattle.rules.proofs.CallLists.{after-append, cut-out, kept-refused,
 
 -- ---- kinds
 
-or-false : (t : Bool) → t || false ≡ true → t ≡ true
-or-false true h = refl
-or-false false h = h
-
 -- a kind that is among one kind is that one
 pub the-kind : (k j : Kind) → k ∈ (j ∷ []) ≡ true → k ≡ j
-the-kind k j h = same-kind k j (or-false _ h)
+the-kind k j h = same-kind k j (sym (or-false _) ∙ h)
 
 passed-as : (b : Book) (c : Call) (k : Kind) → acceptsAs (k ∷ []) b c ≡ true → Passed b c × (kindIn c ≡ k)
 passed-as b c k h = let w = and-both _ _ .0 h in (accepts-passed b c (w .0), the-kind (kindIn c) k (w .1))

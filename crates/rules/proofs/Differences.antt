@@ -5,7 +5,7 @@ use mathlib.Core.Logic.{_↔_}
 use mathlib.Core.Bool.{Bool, true, false, cond}
 use native.Mathlib.Omega.{arith}
 use lib.Dec.{T, leb, ltb}
-use lib.IntN.{ℤ, pos, negsuc, negℤ, subℕ, _+ℤ_, _-ℤ_, +ℤ-idr}
+use lib.IntN.{ℤ, pos, negsuc, negℤ, natAbs, subℕ, _+ℤ_, _-ℤ_, +ℤ-idr}
 use lib.Signed.{leZ, _≤ℤ_, leZ-yes}
 use borrow.Author.Tests.{ltb-true, ltb-false, leb-true, le-leb, lt-leb, lt-ltb, le-ltb}
 use Rattle.rules.proofs.Tests.{test-same}
@@ -115,6 +115,14 @@ negated-go a b false false p q =
 -- minus (a - b)
 pub difference-negated : (a b : ℕ) → negℤ (subℕ a b) ≡ subℕ b a
 difference-negated a b = negated-go a b (ltb a b) (ltb b a) refl refl
+
+most-go : (a b most : ℕ) (s : Bool) → ltb a b ≡ s → a ≤ most → b ≤ most → natAbs (cond s (negsuc (b - suc a)) (pos (a - b))) ≤ most
+most-go a b most true e h k = let l = ltb-true a b e in omega arith
+most-go a b most false e h k = omega arith
+
+-- a - b goes no further from zero than the greater of the two
+pub difference-most : (a b most : ℕ) → a ≤ most → b ≤ most → natAbs (subℕ a b) ≤ most
+difference-most a b most h k = most-go a b most (ltb a b) refl h k
 
 -- ---- signed numbers cut off at zero
 

@@ -2,7 +2,7 @@
 -- agree after any list of calls, so that readings and an accepted settle are the ledger's.
 use Prim.Native.Nat.{ℕ}
 use mathlib.Core.Path.{_≡_, refl, _∙_}
-use mathlib.Core.List.{List, [], _∷_}
+use mathlib.Core.List.{List, [], _∷_, map}
 use mathlib.Core.Option.{Option, none, some}
 use mathlib.Core.Bool.{Bool, true, false}
 use native.Mathlib.Omega.{arith}
@@ -10,15 +10,14 @@ use Rattle.units.specs.Units.{milliCents}
 use Rattle.rules.specs.declared.Refusal.{Refusal}
 use Rattle.rules.specs.declared.NetReading.{NetReading}
 use Rattle.rules.specs.declared.ExposureReading.{ExposureReading}
-use Rattle.rules.specs.Basics.{within}
+use Rattle.rules.specs.Basics.{sumOf, within}
 use Rattle.rules.specs.Books.{Book, accountCount, operatorCount}
 use Rattle.rules.specs.Opening.{opened, setupOf}
 use Rattle.rules.specs.Requests.{Kind, register, confirm, withdraw, guarantee, openBatch, undo, keep, closeGate, schedule, settle}
 use Rattle.rules.specs.Registration.{netOf, available}
 use Rattle.rules.specs.Readings.{position, netReading, exposureReading}
-use Rattle.rules.specs.Settlement.{pricesIn, results, balances, registeredTotal}
+use Rattle.rules.specs.Settlement.{pricesIn, results, balances, registeredTotal, balanceFigure}
 use Rattle.rules.specs.Calls.{Call, Settled, kindIn, settles, refusal, answer, step}
-use Rattle.rules.specs.Replay.{sumOf}
 use Rattle.rules.specs.Lists.{after}
 use Rattle.rules.specs.Ledger.{Ledger, newLedger, feed, fed, heard, fedAll, ledgerNet, ledgerExposure, ledgerAvailable}
 use Rattle.rules.proofs.Ranged.{Ranged, opened-ranged, last-ranged}
@@ -33,7 +32,7 @@ pub record SettledBy (l : Ledger) (c : Call) (w : Settled) : Type 0 where
   pub results : w .results ≡ results (l .setup) (ledgerNet l) (pricesIn (l .setup) (c .prices)) (l .page .schedules)
   pub balances : w .balances ≡ balances (l .setup) (ledgerNet l) (pricesIn (l .setup) (c .prices)) (l .page .schedules)
   -- the balances total what the ledger's registered schedules are worth
-  pub total : sumOf (w .balances) ≡ registeredTotal (l .setup) (ledgerNet l) (pricesIn (l .setup) (c .prices)) (l .page .schedules)
+  pub total : sumOf (map balanceFigure (w .balances)) ≡ registeredTotal (l .setup) (ledgerNet l) (pricesIn (l .setup) (c .prices)) (l .page .schedules)
 
 never : (w : Settled) → none ≡ some w → ⊥
 never w h = let z : _≡_ {A = ℕ} 0 1 = cc in omega arith

@@ -49,6 +49,8 @@ pub mod LedgerReadings
 pub mod PriorityLaws
 -- SettledTotal: the balances total what the registered schedules are worth at the prices that they meet.
 pub mod SettledTotal
+-- Figures: the balances that settle writes are read back from its buffer.
+pub mod Figures
 -- SettledApart: the schedules of one account, hour and side are settled as if no others stood.
 pub mod SettledApart
 -- LedgerDay: after any list of calls on a day, readings and an accepted settle are the ledger's.

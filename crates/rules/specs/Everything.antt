@@ -1,7 +1,7 @@
 -- All definitions that compute a replay, opened at once: an example says `unfolding everything`.
 use Rattle.wire.specs.Numbers.{number, numberAt, le, signed}
 use Rattle.wire.specs.Parts.{flat, pieces, pack}
-use Rattle.rules.specs.Basics.{total, any, every, find, indexOf, entries, joined, allOf, counting, bit}
+use Rattle.rules.specs.Basics.{total, any, every, find, indexOf, entries, joined, sumOf, allOf, counting, bit}
 use Rattle.rules.specs.Verdicts.{lowest}
 use Rattle.rules.specs.Opening.{priceIn, operatorIn, accountIn, pointIn, estimatesIn, operatorsIn, accountsIn, pointsIn, setupOf, guaranteesOf, badCounts, misshapen, operatorsOf, setupBytes, valuesOf, estimateValues, operatorValues, accountValues, pointValues, values, faultyOffset, setupRefusal, openRefusal, openOutcome, opened}
 use Rattle.rules.specs.Requests.{bits, mapOf, room, offset, fieldIn, requestOf, more, unreadable, readChecks, reading, fieldBytes, write, writeOutcome, written, inRange, faultyField, faultyBit, sameAccounts}
@@ -9,12 +9,12 @@ use Rattle.rules.specs.Registration.{mark, closed, alike, confirms, with
 use Rattle.rules.specs.Settlement.{pricesIn, placed, insert, prioritised, used, judge, judged, settled, resultAt, results, ofRegistered, gained, lost, balances, injectionsWorth, withdrawalsWorth, registeredTotal, balanceBytes}
 use Rattle.rules.specs.Calls.{next, given, inputChecks, stateChecks, checks, refusal, settles, answer, step}
 use Rattle.rules.specs.Readings.{position, netReading, exposureReading}
-use Rattle.rules.specs.Replay.{itemsWithin, items, callOf, numbered, sumOf, answerLines, calls, day, replay, digits, decimal, signedDecimal, lineText, text}
+use Rattle.rules.specs.Replay.{itemsWithin, items, callOf, numbered, answerLines, calls, day, replay, digits, decimal, signedDecimal, lineText, text}
 use Rattle.rules.specs.Ledger.{blank, newLedger, without, turn, feed, fed, heard, fedAll, traded, ledgerNet, ledgerWaiting, ledgerHour, ledgerExposure, ledgerAvailable, ledgerSettled}
 
 unfoldable pub everything : Unit {0}
 unfolding number numberAt le signed flat pieces pack
-    total any every find indexOf entries joined allOf counting bit
+    total any every find indexOf entries joined sumOf allOf counting bit
     lowest
     priceIn operatorIn accountIn pointIn estimatesIn operatorsIn accountsIn pointsIn setupOf guaranteesOf badCounts misshapen operatorsOf
     setupBytes valuesOf estimateValues operatorValues accountValues pointValues values faultyOffset setupRefusal openRefusal openOutcome opened
@@ -25,6 +25,6 @@ unfolding number numberAt le signed flat pieces pack
     injectionsWorth withdrawalsWorth registeredTotal balanceBytes
     next given inputChecks stateChecks checks refusal settles answer step
     position netReading exposureReading
-    itemsWithin items callOf numbered sumOf answerLines calls day replay digits decimal signedDecimal lineText text
+    itemsWithin items callOf numbered answerLines calls day replay digits decimal signedDecimal lineText text
     blank newLedger without turn feed fed heard fedAll traded ledgerNet ledgerWaiting ledgerHour ledgerExposure ledgerAvailable ledgerSettled
 everything = tt

@@ -2,7 +2,7 @@
 -- in the two buffers, as many results as schedules and as many balances as operators.
 use Prim.Native.Nat.{ℕ, _≤_, _<_}
 use mathlib.Core.Path.{_≡_, refl, sym, ap, _∙_}
-use mathlib.Core.List.{List, [], _∷_, map, append-nil}
+use mathlib.Core.List.{List, [], _∷_, append-nil}
 use mathlib.Core.Option.{Option, none, some}
 use mathlib.Core.Bool.{Bool, true, false, _&&_, or-false}
 use native.Mathlib.Omega.{arith}
@@ -12,48 +12,43 @@ use lib.Dec.{eqb}
 use Rattle.wire.proofs.NumberLaws.{number-at-one}
 use Rattle.rules.specs.declared.Outcome.{Outcome}
 use Rattle.rules.specs.declared.Refusal.{Refusal}
-use Rattle.rules.specs.Basics.{Each, nil, cons, bit, upTo}
+use Rattle.rules.specs.Basics.{Each, upTo}
 use Rattle.rules.specs.Verdicts.{Numbers, numbers}
 use Rattle.rules.specs.Books.{Book, operatorCount}
-use Rattle.rules.specs.Requests.{Kind, register, confirm, withdraw, guarantee, openBatch, undo, keep, closeGate, schedule, settle, kindNumber, mapOf, fieldIn, requestOf}
-use Rattle.rules.specs.Registration.{netOf}
-use Rattle.rules.specs.Settlement.{settled, balance, results, balances}
+use Rattle.rules.specs.Requests.{Kind, register, confirm, withdraw, guarantee, openBatch, undo, keep, closeGate, schedule, settle, kindNumber, requestOf}
+use Rattle.rules.specs.Settlement.{results, figuresIn}
 use Rattle.rules.specs.Calls.{Call, kindIn, settles, refusal, answer, resultsAfter, _∈_, step}
 use Rattle.rules.specs.Lists.{isAcceptance, accepts, acceptsAs}
 use Rattle.rules.specs.Replay.{callOf, answered, answerLines, settledLines, lineText, text}
-use Rattle.rules.proofs.Searches.{counting-length}
-use Rattle.rules.proofs.Fields.{offset-first}
+use Rattle.rules.proofs.Searches.{each-map, counting-length}
 use Rattle.rules.proofs.Passed.{Passed, passed-2, passed-kind, readable}
 use Rattle.rules.proofs.CallLists.{accepts-passed}
+use Rattle.records.proofs.ReadingLaws.{kind-third}
 use Rattle.book.specs.Valid.{valid}
-use Rattle.book.proofs.MoneyLaws.{settled-gained-most, settled-lost-most}
-use Rattle.day.proofs.SettleLaws.{lentPrices, each-made, worked, settle-writes, prices-in-range}
+use Rattle.day.proofs.SettleLaws.{worked, balances-many, settle-writes, balances-small}
 use Rattle.items.specs.Stream.{recordLength}
 use Rattle.items.specs.Written.{Written}
-use Rattle.items.specs.Figures.{figuresIn, SmallFigure, settledText}
+use Rattle.items.specs.Figures.{SmallFigure, settledText}
 use Rattle.items.proofs.StreamLaws.{record-bytes, record-within}
 use Rattle.items.proofs.WrittenLaws.{written-then}
-use Rattle.items.proofs.SettledLaws.{SmallBalance, settled-text, settled-small}
+use Rattle.items.proofs.SettledLaws.{SmallBalances, settled-text, settled-small}
 use Rattle.walk.specs.Lent.{answerText}
 
 -- ---- which items settle
 
--- the kind that a record says is its third byte
-kind-third : (s : List ℕ) → bit (mapOf s) 0 ≡ true → fieldIn s 0 ≡ getD s 2 0
-unfolding fieldIn
-kind-third s h = rw (h, offset-first (mapOf s)) (number-at-one s 2)
-
 module _ (b : Book) (item : List ℕ) where
-  -- and the item's
+  -- the kind that a call passed with is the item's third byte
   third-byte : Passed b (callOf item) → kindNumber (kindIn (callOf item)) ≡ getD item 2 0
   unfolding requestOf
   third-byte p =
       let s : List ℕ = callOf item .bytes in
-      let r = readable s (passed-2 s (p .read)) in
+      let read = passed-2 s (p .read) in
+      let r = readable s read in
       let n = length-take-le (recordLength item) item (record-within item) in
       let l : 2 < recordLength item = omega (arith, ap length (record-bytes item)) in
       passed-kind p
-      ∙ kind-third s (r .1)
+      ∙ kind-third s read
+      ∙ number-at-one s 2
       ∙ ap (λ (x : List ℕ). getD x 2 0) (sym (record-bytes item))
       ∙ getD-take (recordLength item) item 2 0 l
 
@@ -113,27 +108,19 @@ module _ (b : Book) (c : Call) where
   unfolding results
   results-many = length-map (upTo (length (b .schedules))) _ ∙ counting-length (length (b .schedules)) 1
 
-  balances-many : length (worked b c .balances) ≡ operatorCount (b .setup)
-  unfolding balances
-  balances-many = length-map (upTo (operatorCount (b .setup))) _ ∙ counting-length (operatorCount (b .setup)) 1
-
   module _ (v : valid b ≡ true) (h : acceptsAs (settle ∷ []) b c ≡ true) where
-    small : Each SmallBalance (worked b c .balances)
-    unfolding balances
-    small =
-        let js = settled (b .setup) (netOf (b .part .rows)) (lentPrices b c) (b .schedules) in
-        each-made {P = SmallBalance} (balance (b .setup) (netOf (b .part .rows)) (lentPrices b c) js) (upTo (operatorCount (b .setup))) (λ o.
-        (omega (arith, settled-gained-most b v (lentPrices b c) (prices-in-range b c h) o), omega (arith, settled-lost-most b v (lentPrices b c) (prices-in-range b c h) o)))
+    small : SmallBalances (worked b c .balances)
+    small = each-map (λ z m. omega arith) (balances-small b c h v)
 
     -- the figures in the buffer of an accepted settle are small
     figures-small : Each SmallFigure (figuresIn (operatorCount (b .setup)) (step b c .balances))
-    figures-small = rw (← balances-many, settle-writes b c h .1) (settled-small (worked b c) (c .balances) small)
+    figures-small = rw (← balances-many b c, settle-writes b c h .1) (settled-small (worked b c) (c .balances) small)
 
     -- and the two buffers print its lines
     settled-prints : settledText (length (b .schedules)) (step b c .results) (operatorCount (b .setup)) (step b c .balances)
         ≡ text (settledLines (step b c .settled))
     settled-prints =
-        rw (← balances-many, ← results-many, results-by, settle-writes b c h .0, settle-writes b c h .1) (settled-text (worked b c) (c .results) (c .balances) small)
+        rw (← balances-many b c, ← results-many, results-by, settle-writes b c h .0, settle-writes b c h .1) (settled-text (worked b c) (c .results) (c .balances) small)
 
 -- ---- the text of an answer, piece by piece
 

@@ -6,12 +6,13 @@ ghost use lib.ListN.{length, getD, replicate};
 ghost use lib.Dec.{eqb};
 ghost use Rattle.rules.specs.Basics.{Each};
 ghost use Rattle.rules.specs.Limits.{mostSchedules, mostOperators};
+ghost use Rattle.rules.specs.Settlement.{figuresIn};
 ghost use Rattle.rules.specs.Calls.{step};
 ghost use Rattle.rules.specs.Lists.{isAcceptance};
 ghost use Rattle.rules.specs.Replay.{callOf, answerLines, text};
 ghost use Rattle.book.specs.Valid.{isBook, bookIn, bookBytes};
 ghost use Rattle.items.specs.Written.{Written, lineRoom};
-ghost use Rattle.items.specs.Figures.{figuresIn, SmallFigure};
+ghost use Rattle.items.specs.Figures.{SmallFigure};
 ghost use Rattle.walk.specs.Lent.{stepRoom, answerText};
 use book::state::schedule_count;
 use day::calls::call_in;
@@ -20,12 +21,10 @@ use items::lists::put_settled;
 use items::stream::record_length;
 use rules::Outcome;
 use rules::Verdict;
+use rules::kinds::SETTLE;
 use rules::limits::MOST_SCHEDULES;
 use rules::verdicts::outcome_numbers;
 use setup::counts::counts;
-
-// The settle's kind, which is an item's third byte.
-const SETTLE: u8 = 10;
 
 // Bytes of the balances of the most operators.
 const MOST_BALANCES: usize = 128;

@@ -8,11 +8,11 @@ use native.Mathlib.Omega.{arith}
 use lib.ListN.{length, getD, take, drop, length-take, length-drop}
 use lib.Seq.{take-nil, length-take-le}
 use lib.Dec.{ltb}
-use lib.IntN.{pos, negsuc, subℕ}
+use lib.IntN.{ℤ, pos, negsuc, natAbs, subℕ}
 use mir.Syntax.{w8}
 use mir.Val.{Fits}
-use borrow.Author.Tests.{ltb-true, ltb-false}
-use Rattle.wire.specs.Numbers.{number, numberAt, le, signed, Bytes, none, more}
+use borrow.Author.Tests.{ltb-true, ltb-false, lt-ltb, le-ltb}
+use Rattle.wire.specs.Numbers.{number, numberAt, le, signed, figureIn, Bytes, none, more}
 
 -- ---- bytes
 
@@ -153,6 +153,11 @@ le-number-at {s} h at w f =
 
 -- ---- signed numbers
 
+pub length-signed : (w : ℕ) (z : ℤ) → length (signed w z) ≡ w
+unfolding signed
+length-signed w (pos n) = length-le w n
+length-signed w (negsuc n) = length-le w _
+
 -- whole turns change no byte
 turn : (w x y n : ℕ) → y ≡ x + 256 ^ w * n → le w x ≡ le w y
 turn w x y n e = le-same w x y (sym (ap (λ (v : ℕ). v % 256 ^ w) e ∙ add-mul-mod-self-left x (256 ^ w) n))
@@ -182,3 +187,20 @@ pub signed-minus : (w n : ℕ) → n < 256 ^ w → signed w (negsuc n) ≡ le w 
 unfolding signed
 signed-minus w n h =
     sym (turn w (256 ^ w - suc n) ((256 ^ w - 1) * suc n) n (omega (arith, ones (256 ^ w) (suc n) (omega arith))))
+
+plus-back : (n : ℕ) → n < 2 ^ 63 → figureIn (signed 8 (pos n)) ≡ pos n
+unfolding figureIn signed
+plus-back n h = rw (number-le 8 n (omega arith), lt-ltb n (2 ^ 63) h)
+
+minus-back : (n : ℕ) → n < 2 ^ 63 → figureIn (signed 8 (negsuc n)) ≡ negsuc n
+unfolding figureIn
+minus-back n h =
+    let m : ℕ = 256 ^ 8 - suc n in
+    let back : number (le 8 m) ≡ m = number-le 8 m (omega arith) in
+    let lacks : 2 ^ 64 - suc m ≡ n = omega arith in
+    rw (signed-minus 8 n (omega arith), back, le-ltb m (2 ^ 63) (omega arith), lt-ltb m (2 ^ 64) (omega arith), lacks)
+
+-- a signed number less than half a turn from zero reads back from its 8 bytes
+pub figure-back : (z : ℤ) → natAbs z < 2 ^ 63 → figureIn (signed 8 z) ≡ z
+figure-back (pos n) h = plus-back n h
+figure-back (negsuc n) h = minus-back n (omega arith)

@@ -1,8 +1,10 @@
 -- Numbers in bytes (document 01, "What the book covers"): unsigned unless called signed (two's complement), low byte first.
 use Prim.Native.Nat.{ℕ, zero, suc, _+_, _-_, _*_, _/_, _%_, _^_, _<_}
 use mathlib.Core.List.{List, [], _∷_}
+use mathlib.Core.Bool.{cond}
 use lib.ListN.{take, drop}
-use lib.IntN.{ℤ, pos, negsuc}
+use lib.Dec.{ltb}
+use lib.IntN.{ℤ, pos, negsuc, subℕ}
 
 -- the number that these bytes make, low byte first
 unfoldable pub number : List ℕ → ℕ
@@ -24,6 +26,10 @@ unfoldable pub signed : ℕ → ℤ → List ℕ
 unfolding le
 signed width (pos n) = le width n
 signed width (negsuc n) = le width ((256 ^ width - 1) * suc n)
+
+-- the signed number that 8 bytes say in two's complement: from half a turn on it is a whole turn less
+unfoldable pub figureIn : List ℕ → ℤ
+figureIn s = cond (ltb (number s) (2 ^ 63)) (pos (number s)) (subℕ (number s) (2 ^ 64))
 
 -- each element is a byte
 pub data Bytes : List ℕ → Type 0 where

@@ -6,6 +6,9 @@ ghost use Rattle.wire.specs.Numbers.{numberAt, le};
 ghost use Rattle.wire.specs.Regions.{splice};
 use crate::regions::copy_in;
 
+// The greatest number of 8 bytes.
+pub const ALL_ONES: u64 = 18_446_744_073_709_551_615;
+
 // The byte at `at`.
 pub fn get_u8(s: &[u8], at: usize) -> u8
     requires { ⌜ at + 1 ≤ length (now s) ⌝ }

@@ -3,8 +3,9 @@ use Prim.Native.Nat.{_+_, _-_, _*_}
 use mathlib.Core.Path.{_≡_}
 use native.Mathlib.Omega.{arith}
 use borrow.Author.Needs.{needs}
+use Rattle.rules.specs.Settlement.{figuresIn}
 use Rattle.items.specs.Written.{lineRoom}
-use Rattle.items.specs.Figures.{figuresIn, balanceLinesText}
+use Rattle.items.specs.Figures.{balanceLinesText}
 use Rattle.items.proofs.ListLaws.{Underway, underway-start, underway-line, underway-done, balancesLeft, balances-whole, balances-next, balances-none}
 use Rattle.items.proofs.lists.put_balance_lines.Statement.{statement}
 use Rattle.items.proofs.lists.put_balance_lines.Tie as tie
