@@ -11,17 +11,12 @@ ghost use Rattle.rules.specs.Limits.{mostHours};
 ghost use Rattle.rules.specs.Readings.{netReading, exposureReading};
 ghost use Rattle.book.specs.Layout.{presentAt, netAt};
 ghost use Rattle.book.specs.Valid.{isBook, bookIn};
-ghost use Rattle.book.specs.Sums.{InTable, SumsOf};
+ghost use Rattle.book.specs.Sums.{InTable};
 ghost use Rattle.book.specs.Doors.{netAnswer, exposureAnswer};
 use crate::exposure::exposure_of;
 use crate::layout::MOST_IN_4;
-use crate::layout::PRESENT_AT;
-use crate::layout::ROWS_IN;
-use crate::layout::TABLE_SIZE;
 use crate::owned::operator_sums;
 use crate::state::net_place;
-use crate::state::row_count;
-use crate::sums::sums_of;
 use crate::whole::is_book;
 use rules::ExposureReading;
 use rules::NetReading;
@@ -72,15 +67,6 @@ pub fn net_in(book: &[u8], account: u8, hour: u8) -> NetReading
         return NetReading::Unread(Refusal::OutOfRange { bit: 5 });
     }
     NetReading::Stands(position_of(stored_net(book, account, hour)))
-}
-
-// The sums of all account hours by the book's rows.
-pub fn sums_in(book: &[u8]) -> [u32; TABLE_SIZE]
-    requires { ⌜ isBook (now book) ≡ true ⌝ }
-    ensures { λ r. ⌜ SumsOf (bookIn (now (book .entry)) .part .rows) r ⌝ }
-{
-    let n = row_count(book) as usize;
-    sums_of(book, PRESENT_AT + ROWS_IN, n)
 }
 
 // The exposure of an operator.
