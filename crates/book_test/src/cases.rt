@@ -4,6 +4,7 @@ use book::readings::exposure;
 use book::readings::net;
 use book::whole::is_book;
 use rules::verdicts::outcome_numbers;
+use test_lines::HEAD;
 use test_lines::begin;
 use test_lines::bytes;
 use test_lines::end;
@@ -14,9 +15,6 @@ use test_lines::small;
 use test_lines::verdict;
 use wire::numbers::get_u16;
 use wire::regions::copy_in;
-
-// The bytes of a case before its body: a tag and a length.
-const HEAD: usize = 3;
 
 // The bytes of the room that are judged and read.
 const BOOK_SIZE: u16 = 49_152;

@@ -4,10 +4,8 @@ mod cases;
 
 use cases::BOOK_SIZE;
 use libc::STDIN_FILENO;
+use test_lines::HEAD;
 use wire::numbers::get_u16;
-
-// The bytes of a case before its body: a tag and a length.
-const HEAD: usize = 3;
 
 // No input has more cases.
 const MOST_CASES: u32 = 1_000_000;

@@ -11,6 +11,7 @@ use rules::Reading;
 use rules::Request;
 use rules::verdicts::outcome_numbers;
 use rules::verdicts::refusal_numbers;
+use test_lines::HEAD;
 use test_lines::begin;
 use test_lines::bytes;
 use test_lines::end;
@@ -25,9 +26,6 @@ use wire::numbers::get_u64;
 
 // The bytes of the buffer of which the writer is lent the first.
 const ROOM: u8 = 24;
-
-// The bytes of a case before its body: a tag and a length.
-const HEAD: usize = 3;
 
 // The bytes of a request as a case gives it: every field, in the order of the bits.
 const REQUEST: usize = 34;

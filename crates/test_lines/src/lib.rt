@@ -9,20 +9,23 @@ use rules::Position;
 use rules::verdicts::refusal_numbers;
 use wire::numbers::get_u16;
 
+// The bytes of a case before its body: a tag and a length.
+pub const HEAD: usize = 3;
+
 // Where the case at `at` ends: a tag, a 2-byte length and that many bytes, or what is left of the input.
 pub fn case_end(input: &[u8], at: usize) -> usize
     requires { ⌜ at < length (now input) ⌝ }
     ensures { λ r. ⌜ (at < r) × (r ≤ length (now (input .entry))) ⌝ }
 {
     let left = input.len() - at;
-    if left < 3 {
+    if left < HEAD {
         return input.len();
     }
     let size = get_u16(input, at + 1) as usize;
-    if left - 3 < size {
+    if left - HEAD < size {
         return input.len();
     }
-    at + 3 + size
+    at + HEAD + size
 }
 
 // Begins a line.
