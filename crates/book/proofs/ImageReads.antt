@@ -8,7 +8,7 @@ use lib.ListN.{length, getD, take, drop, length-map}
 use lib.Seq.{take-all}
 use Rattle.wire.specs.Numbers.{number, numberAt, le, signed}
 use Rattle.wire.specs.Parts.{startOf, Small, padded}
-use Rattle.wire.proofs.NumberLaws.{length-le, number-le, number-le-rest, signed-sub}
+use Rattle.wire.proofs.NumberLaws.{length-le, length-signed, number-le, number-le-rest, signed-sub}
 use Rattle.wire.proofs.PartLaws.{read-part, read-whole, number-part}
 use Rattle.wire.proofs.PackLaws.{number-in-pack}
 use Rattle.wire.proofs.SlotLaws.{uniform-map, read-cell, slots-get}
@@ -22,7 +22,7 @@ use Rattle.rules.specs.Registration.{bought, sold, netOf, figure}
 use Rattle.rules.proofs.Searches.{counting-length}
 use Rattle.book.specs.Layout.{setupRoom, rowWidths, rowWidth, scheduleWidths, scheduleWidth, accountWidth, partWidths, partSize, bookWidths, phaseAt, flagAt, scheduleCountAt, schedulesAt, presentAt, savedAt, guaranteesAt, rowCountAt, rowAt, netAt}
 use Rattle.book.specs.Image.{rowValues, rowBytes, scheduleValues, scheduleBytes, accountNets, netsBytes, partSections, partBytes, flag, savedBytes, storedSetup, sectionsWith, sections, image}
-use Rattle.book.proofs.Sizes.{PartFits, Fits, length-row, length-schedule, length-guarantee, length-signed, length-account, wide-part, wide-book}
+use Rattle.book.proofs.Sizes.{PartFits, Fits, length-row, length-schedule, length-guarantee, length-account, wide-part, wide-book}
 use Rattle.book.proofs.Nets.{upTo-at, nets-end}
 
 -- a number alone in its bytes

@@ -14,7 +14,7 @@ use lib.IntN.{subℕ}
 use borrow.Author.Tests.{eqb-true, eq-eqb}
 use Rattle.wire.specs.Numbers.{number, numberAt, le, signed, Bytes}
 use Rattle.wire.specs.Parts.{flat}
-use Rattle.wire.proofs.NumberLaws.{number-le-rest, le-same, le-number-wide, number-small, signed-sub, bytes-take, bytes-drop}
+use Rattle.wire.proofs.NumberLaws.{length-signed, number-le-rest, le-same, le-number-wide, number-small, signed-sub, bytes-take, bytes-drop}
 use Rattle.wire.proofs.PartLaws.{inner}
 use Rattle.wire.proofs.SlotLaws.{uniform-map, read-cell, flat-by-cells}
 use Rattle.rules.specs.declared.Row.{Row}
@@ -26,7 +26,7 @@ use Rattle.book.specs.Layout.{accountWidth, netAt, netsAt}
 use Rattle.book.specs.Image.{accountNets, netsBytes}
 use Rattle.book.specs.Plain.{netHeld, netsHeld}
 use Rattle.book.proofs.Soundness.{every-upTo, upTo-every}
-use Rattle.book.proofs.Sizes.{length-signed, length-account}
+use Rattle.book.proofs.Sizes.{length-account}
 use Rattle.book.proofs.Nets.{upTo-at}
 
 -- ---- one net

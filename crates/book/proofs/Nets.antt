@@ -14,7 +14,7 @@ use lib.IntN.{subℕ}
 use borrow.Author.Tests.{le-leb, lt-leb, eq-eqb, ne-eqb}
 use Rattle.wire.specs.Numbers.{number, le, signed}
 use Rattle.wire.specs.Parts.{flat, sweep, over}
-use Rattle.wire.proofs.NumberLaws.{length-le, number-le-rest, le-same, signed-sub}
+use Rattle.wire.proofs.NumberLaws.{length-le, length-signed, number-le-rest, le-same, signed-sub}
 use Rattle.wire.proofs.PartLaws.{before}
 use Rattle.wire.proofs.SlotLaws.{Uniform, uniform-map, before-uniform, length-uniform, map-get}
 use Rattle.wire.proofs.SweepLaws.{sweep-flat, sweep-cells, length-over, over-in, over-out}
@@ -30,7 +30,7 @@ use Rattle.book.specs.Layout.{accountWidth}
 use Rattle.book.specs.Image.{accountNets, netsBytes}
 use Rattle.book.specs.Changes.{raised}
 use Rattle.book.proofs.SumLaws.{lt-or-ge}
-use Rattle.book.proofs.Sizes.{RowFits, length-signed}
+use Rattle.book.proofs.Sizes.{RowFits}
 
 -- ---- a signed number raised
 

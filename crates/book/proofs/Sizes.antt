@@ -5,10 +5,9 @@ use mathlib.Core.List.{List, [], _∷_, map}
 use mathlib.Core.Option.{Option, none, some}
 use native.Mathlib.Omega.{arith}
 use lib.ListN.{length, length-append, length-map, length-replicate}
-use lib.IntN.{ℤ, pos, negsuc}
 use Rattle.wire.specs.Numbers.{le, signed}
 use Rattle.wire.specs.Parts.{Wide, Small}
-use Rattle.wire.proofs.NumberLaws.{length-le}
+use Rattle.wire.proofs.NumberLaws.{length-le, length-signed}
 use Rattle.wire.proofs.ZeroLaws.{length-zeros, length-padded}
 use Rattle.wire.proofs.PartLaws.{length-flat}
 use Rattle.wire.proofs.PackLaws.{length-pack}
@@ -67,11 +66,6 @@ length-row r = length-pack rowWidths (rowValues r) refl
 pub length-schedule : (x : Schedule) → length (scheduleBytes x) ≡ scheduleWidth
 unfolding scheduleBytes
 length-schedule x = length-pack scheduleWidths (scheduleValues x) refl
-
-pub length-signed : (w : ℕ) (n : ℤ) → length (signed w n) ≡ w
-unfolding signed
-length-signed w (pos n) = length-le w n
-length-signed w (negsuc n) = length-le w _
 
 -- a guarantee has 8 bytes
 pub length-guarantee : (g : Cents) → length (le 8 (g .0)) ≡ 8

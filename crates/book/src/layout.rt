@@ -41,9 +41,6 @@ pub const STATUS_IN: usize = 17;
 // Rows that may have numbers in a day.
 pub const MOST_ROWS: usize = 256;
 
-// Schedules that may stand.
-pub const MOST_SCHEDULES: usize = 256;
-
 // Bytes of an account's net positions: 4 for each of 25 periods.
 pub const ACCOUNT_NETS: usize = 100;
 

@@ -15,7 +15,6 @@ ghost use Rattle.book.specs.Layout.{scheduleWidths, scheduleWidth, schedulesAt,
 ghost use Rattle.book.specs.Image.{scheduleValues, scheduleBytes};
 ghost use Rattle.book.specs.Valid.{isBook, bookIn, bookBytes};
 ghost use Rattle.registration.specs.Kinds.{decided, outcomeOn, bookAfter, Ready};
-use book::layout::MOST_SCHEDULES;
 use book::layout::SCHEDULE_COUNT_AT;
 use book::layout::SCHEDULE_WIDTH;
 use book::layout::SCHEDULES_AT;
@@ -28,6 +27,7 @@ use rules::Refusal;
 use rules::Request;
 use rules::Schedule;
 use rules::Verdict;
+use rules::limits::MOST_SCHEDULES;
 use wire::numbers::put_u16;
 use wire::regions::copy_in;
 
