@@ -22,7 +22,7 @@ use Rattle.rules.specs.Books.{Setup, Book, noRow, accountAt, operatorOf, accoun
 use Rattle.rules.specs.Requests.{confirm}
 use Rattle.rules.specs.Registration.{pending, seller, buyer, withStatus, mark, alike, confirms, mirrors, accountHour, takes, keepsMargins, brokenHour, covered}
 use Rattle.rules.specs.Calls.{numberFrom, confirmedNumber, next}
-use Rattle.rules.proofs.Searches.{each-nth, index-first}
+use Rattle.rules.proofs.Searches.{index-first}
 use Rattle.rules.proofs.RowTests.{Alike, alike-true, passed-confirm}
 use Rattle.rules.proofs.Passed.{passed-16-confirm}
 use Rattle.rules.proofs.AccountHours.{hour-takes-confirmed}
@@ -36,7 +36,7 @@ use Rattle.book.proofs.StateLaws.{book-is-sound}
 use Rattle.book.proofs.BookRows.{sound-tabled}
 use Rattle.book.proofs.TableLaws.{sums-hold, released-room, sums-marked}
 use Rattle.book.proofs.OwnedLaws.{Among, among, concerns-counterparty, same-concerning, same-mark}
-use Rattle.book.proofs.OwnedTable.{owned-room}
+use Rattle.book.proofs.OwnedTable.{numbered-sound, owned-room}
 use Rattle.registration.specs.Kinds.{decided, Confirming}
 use Rattle.registration.specs.Margins.{brokenBy, broken}
 use Rattle.registration.specs.declared.margins.Broken.the-variants.{Hour, Nowhere}
@@ -97,7 +97,7 @@ confirmed-high b q = number-high (alike (q .other) (q .account) (q .code)) (b .p
 -- the row of a number is sound
 row-sound : (s : List ℕ) (h : isBook s ≡ true) (n : ℕ) (r : Row) → 1 ≤ n → n ≤ length (bookIn s .part .rows)
     → r ≡ nth (bookIn s .part .rows) n noRow → SoundRow (bookIn s .setup) r
-row-sound s h n r low high e = rw e (each-nth noRow n (book-is-sound s h .part-sound .rows-sound) low high)
+row-sound s h n r low high e = rw e (numbered-sound s h n low high)
 
 module _ (s : List ℕ) (q : Request) (r : Row) (h : isBook s ≡ true) (w : Confirming (bookIn s) q r) where
   -- it is a row of the book

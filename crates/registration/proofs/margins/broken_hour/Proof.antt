@@ -87,8 +87,8 @@ loop-again c =
       l .inv .0,
       l .inv .1,
       l .inv .2,
-      search needs,
-      search needs,
+      omega arith,
+      omega arith,
       l .inv .5 ∙ find-next _ _ _ _ (omega arith) (test ∙ ap not (c .if2 .taken)),
     )
 
