@@ -1,6 +1,8 @@
 -- Laws of the order of priority.
 -- SortingLaws: numbers inserted one by one, and a list in order.
 pub mod SortingLaws
+-- FewLaws: a few numbers put in order by comparing two at a time.
+pub mod FewLaws
 -- MergeLaws: two lists in order merged from the front and from the back.
 pub mod MergeLaws
 -- RunLaws: a list whose runs of a width are each in order.
