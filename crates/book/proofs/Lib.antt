@@ -97,3 +97,5 @@ pub mod OwnedLaws
 pub mod OwnedTable
 -- MoneyLaws: how much money a day's settlement can move.
 pub mod MoneyLaws
+-- WorthLaws: exposure as what lies below zero and what waits, and what a trade does to it.
+pub mod WorthLaws
