@@ -16,6 +16,18 @@ use Rattle.rules.specs.Registration.{pending, covers, accountHour, takes, ofOpe
 unfoldable pub shortWorth : Setup → (ℕ → ℕ → Net) → ℕ → ℕ
 shortWorth u net o = ofOperator u (λ a. total (λ h. estimateAt u h .0 * (net a h .sold .0 - net a h .bought .0)) (upTo (u .hours))) o
 
+-- what lies below zero of an account's net positions, at estimated prices
+unfoldable pub accountShort : Setup → (ℕ → ℕ → Net) → ℕ → ℕ
+accountShort u net a = total (λ h. estimateAt u h .0 * (net a h .sold .0 - net a h .bought .0)) (upTo (u .hours))
+
+-- what an account adds to that of an operator: nothing where it is another's
+unfoldable pub shortShare : Setup → (ℕ → ℕ → Net) → ℕ → ℕ → ℕ
+shortShare u net o a = if eqb (operatorOf u a) o then accountShort u net a else 0
+
+-- the net positions once the trade is taken
+abbrev pub netWith : List Row → Row → ℕ → ℕ → Net
+netWith rows trade a h = takes a h (accountHour rows a h) trade .net
+
 -- the estimated prices of a row's hours together
 unfoldable pub spanPrice : Setup → Row → ℕ
 spanPrice u r = total (λ h. if covers h r then estimateAt u h .0 else 0) (upTo (u .hours))
