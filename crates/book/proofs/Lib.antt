@@ -97,3 +97,9 @@ pub mod OwnedLaws
 pub mod OwnedTable
 -- MoneyLaws: how much money a day's settlement can move.
 pub mod MoneyLaws
+-- WorthLaws: exposure as what lies below zero and what waits, and what a trade does to it.
+pub mod WorthLaws
+-- WorthParts: pending sales at sums of estimated prices, row by row, and the exposure of its parts.
+pub mod WorthParts
+-- ShortLaws: what lies below zero of net positions, by hour, account and operator.
+pub mod ShortLaws

@@ -20,7 +20,7 @@ use units::Kwh;
 use units::MilliCents;
 
 // What of a net position lies below zero.
-fn short(net: Net) -> Kwh
+pub fn short(net: Net) -> Kwh
     ensures { λ r. ⌜ r .0 ≡ net .sold .0 - net .bought .0 ⌝ }
 {
     if net.bought.0 < net.sold.0 {

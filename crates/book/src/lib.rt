@@ -15,3 +15,4 @@ pub mod state;
 pub mod sums;
 pub mod twins;
 pub mod whole;
+pub mod worth;

@@ -24,7 +24,7 @@ use wire::numbers::get_u8;
 const ACCOUNT_WIDTH: usize = 10;
 
 // The operator of an account, of a book whose accounts begin at `from`.
-fn owner(book: &[u8], from: usize, number: u8) -> u8
+pub fn owner(book: &[u8], from: usize, number: u8) -> u8
     requires { ⌜ (isBook (now book) ≡ true) × (from ≡ accountsFrom (countsIn (now book))) × (1 ≤ number) × (number ≤ accountCount (bookIn (now book) .setup)) ⌝ }
     ensures { λ r. ⌜ r ≡ operatorOf (bookIn (now (book .entry)) .setup) number ⌝ }
 {

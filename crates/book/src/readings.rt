@@ -13,11 +13,11 @@ ghost use Rattle.book.specs.Layout.{presentAt, netAt};
 ghost use Rattle.book.specs.Valid.{isBook, bookIn};
 ghost use Rattle.book.specs.Sums.{InTable};
 ghost use Rattle.book.specs.Doors.{netAnswer, exposureAnswer};
-use crate::exposure::exposure_of;
 use crate::layout::MOST_IN_4;
-use crate::owned::operator_sums;
 use crate::state::net_place;
 use crate::whole::is_book;
+use crate::worth::exposure_with;
+use crate::worth::no_trade;
 use rules::ExposureReading;
 use rules::NetReading;
 use rules::Position;
@@ -78,8 +78,7 @@ pub fn exposure_in(book: &[u8], operator: u8) -> ExposureReading
     if outside(operator, n.operators) {
         return ExposureReading::Unread(Refusal::OutOfRange { bit: 9 });
     }
-    let table = operator_sums(book, operator);
-    ExposureReading::Stands(exposure_of(book, &table, operator))
+    ExposureReading::Stands(exposure_with(book, operator, no_trade()))
 }
 
 // The net position of an account in an hour, of any bytes: 1 where they are no book, else as `net_in`.

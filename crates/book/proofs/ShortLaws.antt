@@ -1,0 +1,101 @@
+-- What lies below zero of the net positions: off the bytes of a book, in an hour, for an account and for an operator.
+use Prim.Native.Nat.{ℕ, _-_, _*_, _≤_}
+use mathlib.Core.Path.{_≡_, refl, sym, ap, _∙_}
+use mathlib.Core.List.{List}
+use mathlib.Core.Bool.{Bool, true, false, _&&_, _||_, and-false}
+use native.Mathlib.Nat.{mul-comm, mul-le-mul}
+use native.Mathlib.Omega.{arith}
+use lib.Dec.{eqb}
+use borrow.Author.Tests.{eq-eqb, ne-eqb}
+use Rattle.units.specs.declared.CentsPerMwh.{CentsPerMwh}
+use Rattle.units.specs.Units.{kwh}
+use Rattle.rules.specs.declared.Row.{Row}
+use Rattle.rules.specs.declared.Net.{Net}
+use Rattle.rules.specs.Basics.{if_then_else_, total, counting}
+use Rattle.rules.specs.Limits.{mostEnergy, mostPrice}
+use Rattle.rules.specs.Books.{Setup, estimateAt, operatorOf, accountCount}
+use Rattle.rules.specs.Registration.{confirmed, covers, seller, netOf, takes, ofOperator}
+use Rattle.rules.proofs.Tests.{or-neither}
+use Rattle.book.specs.Valid.{isBook, bookIn}
+use Rattle.book.specs.Netted.{netted}
+use Rattle.book.specs.Worth.{shortWorth, accountShort, shortShare, netWith}
+use Rattle.book.proofs.MoneyLaws.{where-most}
+use Rattle.book.proofs.ReadingLaws.{net-near}
+
+-- ---- an hour
+
+-- a confirmed trade moves something of the account
+abbrev pub moves : ℕ → Row → Bool
+moves a r = confirmed r && (eqb (r .proposer) a || eqb (r .counterparty) a)
+
+-- neither party is the account
+idle-share : (x cov s : Bool) (y z a q : ℕ) → (x ≡ true → (eqb y a ≡ false) × (eqb z a ≡ false)) → (if x && cov && eqb (if s then y else z) a then q else 0) ≡ 0
+idle-share false cov s y z a q h = refl
+idle-share true cov true y z a q h = rw (h refl .0, and-false)
+idle-share true cov false y z a q h = rw (h refl .1, and-false)
+
+neither : (x y z : Bool) → x && (y || z) ≡ false → x ≡ true → (y ≡ false) × (z ≡ false)
+neither true y z h e = or-neither y z .0 h
+neither false y z h e = let w : false ≡ true = e in (cc, cc)
+
+module _ (s : List ℕ) (k : isBook s ≡ true) (a h : ℕ) (i : (1 ≤ a) × (a ≤ accountCount (bookIn s .setup))) (j : (1 ≤ h) × (h ≤ bookIn s .setup .hours))
+    (net : Net) (e : net ≡ netted (netOf (bookIn s .part .rows) a h)) where
+  -- what was read is in range
+  pub net-small : (net .bought .0 ≤ mostEnergy) × (net .sold .0 ≤ mostEnergy)
+  unfolding netted
+  net-small = let near = net-near s k a h i j in rw e (omega arith, omega arith)
+
+  module _ (trade : Row) (small : trade .quantity .0 ≤ mostEnergy) (r : ℕ) where
+    pub short-moved : r ≡ takes a h (record { net = net; sales = kwh 0; purchases = kwh 0 }) trade .net .sold .0
+        - takes a h (record { net = net; sales = kwh 0; purchases = kwh 0 }) trade .net .bought .0
+        → (r ≡ netWith (bookIn s .part .rows) trade a h .sold .0 - netWith (bookIn s .part .rows) trade a h .bought .0) × (r ≤ 2 * mostEnergy)
+    unfolding netted takes
+    short-moved d =
+        let b = ap (λ (n : Net). n .bought .0) e in
+        let o = ap (λ (n : Net). n .sold .0) e in
+        let near = net-small in
+        let m = where-most (trade .quantity .0) mostEnergy (confirmed trade && covers h trade && eqb (seller trade) a) small in
+        (omega arith, omega arith)
+
+    pub short-still : moves a trade ≡ false → r ≡ net .sold .0 - net .bought .0
+        → (r ≡ netWith (bookIn s .part .rows) trade a h .sold .0 - netWith (bookIn s .part .rows) trade a h .bought .0) × (r ≤ 2 * mostEnergy)
+    unfolding netted takes
+    short-still idle d =
+        let b = ap (λ (n : Net). n .bought .0) e in
+        let o = ap (λ (n : Net). n .sold .0) e in
+        let near = net-small in
+        let none = neither (confirmed trade) (eqb (trade .proposer) a) (eqb (trade .counterparty) a) idle in
+        let buys = idle-share (confirmed trade) (covers h trade) (eqb (trade .side) 1) (trade .counterparty) (trade .proposer) a (trade .quantity .0) (λ x. (none x .1, none x .0)) in
+        let sells = idle-share (confirmed trade) (covers h trade) (eqb (trade .side) 1) (trade .proposer) (trade .counterparty) a (trade .quantity .0) none in
+        (omega arith, omega arith)
+
+-- at the hour's price
+unfoldable pub hourShort : Setup → (ℕ → ℕ → Net) → ℕ → ℕ → ℕ
+hourShort u net a h = estimateAt u h .0 * (net a h .sold .0 - net a h .bought .0)
+
+pub hour-short-read : (u : Setup) (net : ℕ → ℕ → Net) (a h below : ℕ) (price : CentsPerMwh) {r : ℕ} → below ≡ net a h .sold .0 - net a h .bought .0
+    → price ≡ estimateAt u h → r ≡ below * price .0 → r ≡ hourShort u net a h
+unfolding hourShort
+hour-short-read u net a h below price e d f = f ∙ mul-comm below (price .0) ∙ rw (← e, ← d)
+
+pub short-most : (below price : ℕ) → below ≤ 2 * mostEnergy → price ≤ mostPrice → below * price ≤ 2 * mostEnergy * mostPrice
+short-most below price a b = mul-le-mul a b
+
+-- ---- an account and an operator
+
+pub short-by-hour : (u : Setup) (net : ℕ → ℕ → Net) (a : ℕ) → accountShort u net a ≡ total (hourShort u net a) (counting (u .hours) 1)
+unfolding accountShort hourShort
+short-by-hour u net a = refl
+
+pub short-by-account : (u : Setup) (net : ℕ → ℕ → Net) (o : ℕ) → shortWorth u net o ≡ total (shortShare u net o) (counting (accountCount u) 1)
+unfolding shortWorth shortShare accountShort ofOperator
+short-by-account u net o = refl
+
+-- an account whose operator was read
+pub short-of-own : (u : Setup) (net : ℕ → ℕ → Net) (o a x : ℕ) → x ≡ operatorOf u a → x ≡ o → shortShare u net o a ≡ accountShort u net a
+unfolding shortShare
+short-of-own u net o a x e d = rw (eq-eqb (operatorOf u a) o (sym e ∙ d))
+
+pub short-of-others : (u : Setup) (net : ℕ → ℕ → Net) (o a x : ℕ) → x ≡ operatorOf u a → (x ≡ o → ⊥) → shortShare u net o a ≡ 0
+unfolding shortShare
+short-of-others u net o a x e d = rw (ne-eqb (operatorOf u a) o (λ f. d (e ∙ f)))

@@ -1,0 +1,163 @@
+-- Exposure as the sum of two parts: each pending sale weighs on its proposer's operator by itself, and what lies below zero is the rest.
+-- What the exposure is once a trade is taken, for a row that is proposed and for one that is confirmed.
+use Prim.Native.Nat.{ℕ, _+_, _-_, _*_, _≤_}
+use mathlib.Core.Path.{_≡_, refl, sym, ap, _∙_}
+use mathlib.Core.List.{List, [], _∷_, _++_}
+use mathlib.Core.Bool.{Bool, true, false, _&&_}
+use native.Mathlib.Nat.{mul-zero, zero-mul, mul-comm, mul-add}
+use native.Mathlib.Omega.{arith}
+use lib.ListN.{length}
+use lib.Dec.{eqb}
+use borrow.Author.Tests.{eqb-true}
+use Rattle.rules.specs.declared.Row.{Row}
+use Rattle.rules.specs.Basics.{if_then_else_, total, nth, upTo, Each, nil, cons}
+use Rattle.rules.specs.Books.{Setup, noRow, estimateAt, operatorOf, accountCount}
+use Rattle.rules.specs.Registration.{pending, covers, buyer, seller, counted, waiting, withStatus, mark, pendingSales, accountHour, takes, exposed, ofOperator, exposureOf, exposure}
+use Rattle.rules.proofs.Totals.{total-zero, total-add, total-times, total-cong, shared}
+use Rattle.rules.proofs.AccountHours.{moved-confirm, waiting-end, hour-takes}
+use Rattle.book.specs.Worth.{shortWorth, spanPrice, saleWorth, exposureWith}
+
+-- ---- tests
+
+-- nothing, whether or not it counts
+idle : (t : Bool) → _≡_ {A = ℕ} (if t then 0 else 0) 0
+idle true = refl
+idle false = refl
+
+-- what a row waits with in an hour, at the hour's price
+at-price : (price q : ℕ) (t c e d : Bool) → price * (if t && c && e && d then q else 0) ≡ (if t && d && e then (if c then price else 0) * q else 0)
+at-price price q false c e d = mul-zero price
+at-price price q true true true true = refl
+at-price price q true false true true = mul-zero price ∙ sym (zero-mul q)
+at-price price q true true true false = mul-zero price
+at-price price q true false true false = mul-zero price
+at-price price q true true false true = mul-zero price
+at-price price q true false false true = mul-zero price
+at-price price q true true false false = mul-zero price
+at-price price q true false false false = mul-zero price
+
+-- of one account where x holds, whose operator's test is w
+of-one : (v : ℕ) (t d x w y : Bool) → (x ≡ true → w ≡ y) → (if w then (if t && d && x then v else 0) else 0) ≡ (if t && d && y && x then v else 0)
+of-one v false d x w y h = idle w
+of-one v true false x w y h = idle w
+of-one v true true false w true h = idle w
+of-one v true true false w false h = idle w
+of-one v true true true w true h = rw (h refl)
+of-one v true true true w false h = rw (h refl)
+
+-- a share that falls to one of 1 to n where all tests hold, which is known where the first holds
+shared-known : (n x q : ℕ) (t d y : Bool) → (t ≡ true → (1 ≤ x) × (x ≤ n)) → total (λ a. if t && d && y && eqb x a then q else 0) (upTo n) ≡ (if t && d && y then q else 0)
+shared-known n x q true d y k = shared n x q (d && y) (k refl .0) (k refl .1)
+shared-known n x q false d y k = total-zero (upTo n)
+
+-- ---- amounts of energy by account and hour, at estimated prices
+
+module _ (u : Setup) (o : ℕ) where
+  unfoldable worthOf : (ℕ → ℕ → ℕ) → ℕ
+  worthOf f = ofOperator u (λ a. total (λ h. estimateAt u h .0 * f a h) (upTo (u .hours))) o
+
+  where-cong : (t : Bool) (x y : ℕ) → x ≡ y → (if t then x else 0) ≡ (if t then y else 0)
+  where-cong t x y e = rw e
+
+  worth-cong : (f g : ℕ → ℕ → ℕ) → ((a h : ℕ) → f a h ≡ g a h) → worthOf f ≡ worthOf g
+  unfolding worthOf ofOperator
+  worth-cong f g e =
+      total-cong _ _ (upTo (accountCount u)) (λ a.
+      where-cong (eqb (operatorOf u a) o) _ _ (total-cong _ _ (upTo (u .hours)) (λ h. ap (λ (x : ℕ). estimateAt u h .0 * x) (e a h))))
+
+  where-add : (t : Bool) (x y : ℕ) → (if t then x + y else 0) ≡ (if t then x else 0) + (if t then y else 0)
+  where-add true x y = refl
+  where-add false x y = refl
+
+  worth-add : (f g : ℕ → ℕ → ℕ) → worthOf (λ a h. f a h + g a h) ≡ worthOf f + worthOf g
+  unfolding worthOf ofOperator
+  worth-add f g =
+      total-cong _ _ (upTo (accountCount u)) (λ a.
+      where-cong (eqb (operatorOf u a) o) _ _
+      (total-cong _ _ (upTo (u .hours)) (λ h. mul-add (estimateAt u h .0) (f a h) (g a h)) ∙ total-add _ _ (upTo (u .hours)))
+      ∙ where-add (eqb (operatorOf u a) o) _ _)
+      ∙ total-add _ _ (upTo (accountCount u))
+
+  worth-none : worthOf (λ a h. 0) ≡ 0
+  unfolding worthOf ofOperator
+  worth-none =
+      total-cong _ (λ a. 0) (upTo (accountCount u)) (λ a.
+      where-cong (eqb (operatorOf u a) o) _ _ (total-cong _ (λ h. 0) (upTo (u .hours)) (λ h. mul-zero (estimateAt u h .0)) ∙ total-zero (upTo (u .hours)))
+      ∙ idle (eqb (operatorOf u a) o))
+      ∙ total-zero (upTo (accountCount u))
+
+  -- ---- pending sales
+
+  -- what a row waits with in the hour as a sale of the account
+  abbrev saleShare : Row → ℕ → ℕ → ℕ
+  saleShare r a h = counted (λ r. pending r && covers h r && eqb (r .proposer) a && eqb (r .side) 1) r
+
+  -- over the hours of an account
+  account-sale : (r : Row) (a : ℕ)
+      → total (λ h. estimateAt u h .0 * saleShare r a h) (upTo (u .hours))
+      ≡ (if pending r && eqb (r .side) 1 && eqb (r .proposer) a then r .quantity .0 * spanPrice u r else 0)
+  unfolding spanPrice
+  account-sale r a =
+      total-cong _ _ (upTo (u .hours)) (λ h. at-price (estimateAt u h .0) (r .quantity .0) (pending r) (covers h r) (eqb (r .proposer) a) (eqb (r .side) 1))
+      ∙ go (pending r && eqb (r .side) 1 && eqb (r .proposer) a)
+    where
+      go : (t : Bool) → total (λ h. if t then (if covers h r then estimateAt u h .0 else 0) * r .quantity .0 else 0) (upTo (u .hours))
+          ≡ (if t then r .quantity .0 * total (λ h. if covers h r then estimateAt u h .0 else 0) (upTo (u .hours)) else 0)
+      go true = total-times (λ h. if covers h r then estimateAt u h .0 else 0) (r .quantity .0) (upTo (u .hours)) ∙ mul-comm _ (r .quantity .0)
+      go false = total-zero (upTo (u .hours))
+
+  -- over the operator's accounts it is what the row weighs
+  sale-worth : (r : Row) → (pending r ≡ true → (1 ≤ r .proposer) × (r .proposer ≤ accountCount u)) → worthOf (saleShare r) ≡ saleWorth u o r
+  unfolding worthOf ofOperator saleWorth
+  sale-worth r known =
+      total-cong _ _ (upTo (accountCount u)) (λ a.
+      where-cong (eqb (operatorOf u a) o) _ _ (account-sale r a)
+      ∙ of-one (r .quantity .0 * spanPrice u r) (pending r) (eqb (r .side) 1) (eqb (r .proposer) a) (eqb (operatorOf u a) o) (eqb (operatorOf u (r .proposer)) o)
+      (λ e. ap (λ (x : ℕ). eqb (operatorOf u x) o) (sym (eqb-true (r .proposer) a e))))
+      ∙ shared-known (accountCount u) (r .proposer) (r .quantity .0 * spanPrice u r) (pending r) (eqb (r .side) 1) (eqb (operatorOf u (r .proposer)) o) known
+
+  -- what waits is the sum of what each row weighs
+  sales-worth : {rows : List Row} → Each (λ r. (1 ≤ r .proposer) × (r .proposer ≤ accountCount u)) rows
+      → worthOf (pendingSales rows) ≡ total (saleWorth u o) rows
+  unfolding waiting total
+  sales-worth nil = worth-none
+  sales-worth (cons {x = r} {xs = rows} known e) =
+      worth-add (saleShare r) (pendingSales rows) ∙ omega (arith, sale-worth r (λ p. known), sales-worth e)
+
+  -- ---- the exposure once a trade is taken
+
+  pub with-none : (rows : List Row) → exposureWith u rows noRow o ≡ exposure u rows o
+  unfolding exposureOf takes worthOf
+  with-none rows = worth-cong (λ a h. exposed (takes a h (accountHour rows a h) noRow)) (λ a h. exposed (accountHour rows a h)) (λ a h. omega arith)
+
+  pub with-proposed : (rows : List Row) (trade : Row) → exposureWith u rows trade o ≡ exposure u (rows ++ trade ∷ []) o
+  unfolding exposureOf worthOf
+  with-proposed rows trade =
+      worth-cong (λ a h. exposed (takes a h (accountHour rows a h) trade)) (λ a h. exposed (accountHour (rows ++ trade ∷ []) a h)) (λ a h. ap exposed (sym (hour-takes rows trade a h)))
+
+  -- it is what lies below zero, what waits, and what the trade weighs
+  pub exposure-split : (rows : List Row) (trade : Row) → Each (λ r. (1 ≤ r .proposer) × (r .proposer ≤ accountCount u)) rows
+      → (pending trade ≡ true → (1 ≤ trade .proposer) × (trade .proposer ≤ accountCount u))
+      → exposureWith u rows trade o ≡ shortWorth u (λ a h. takes a h (accountHour rows a h) trade .net) o + total (saleWorth u o) rows + saleWorth u o trade
+  unfolding exposureOf takes worthOf shortWorth
+  exposure-split rows trade known one =
+      let below : ℕ → ℕ → ℕ = λ a h. takes a h (accountHour rows a h) trade .net .sold .0 - takes a h (accountHour rows a h) trade .net .bought .0 in
+      let waits : ℕ → ℕ → ℕ = λ a h. pendingSales rows a h + saleShare trade a h in
+      omega (arith, worth-add below waits, worth-add (pendingSales rows) (saleShare trade), sales-worth known, sale-worth trade one)
+
+  -- an hour that takes a pending row as one that is confirmed still has it waiting too
+  confirmed-hour : (rows : List Row) (n a h : ℕ) → pending (nth rows n noRow) ≡ true
+      → exposed (takes a h (accountHour rows a h) (withStatus 2 (nth rows n noRow))) ≡ exposed (accountHour (mark n 2 rows) a h) + saleShare (nth rows n noRow) a h
+  unfolding takes
+  confirmed-hour rows n a h e =
+      rw e (omega (arith, moved-confirm buyer a h (λ status r. refl) rows n e, moved-confirm seller a h (λ status r. refl) rows n e, waiting-end 1 a h rows n 2 e refl))
+
+  pub with-confirmed : (rows : List Row) (row : Row) (n : ℕ) → 1 ≤ n → n ≤ length rows → row ≡ nth rows n noRow → pending row ≡ true
+      → (1 ≤ row .proposer) × (row .proposer ≤ accountCount u)
+      → exposureWith u rows (withStatus 2 row) o ≡ exposure u (mark n 2 rows) o + saleWorth u o row
+  unfolding exposureOf worthOf
+  with-confirmed rows row n low high e p known =
+      worth-cong (λ a h. exposed (takes a h (accountHour rows a h) (withStatus 2 row))) (λ a h. exposed (accountHour (mark n 2 rows) a h) + saleShare row a h)
+      (λ a h. rw e (confirmed-hour rows n a h (rw e at p)))
+      ∙ worth-add (λ a h. exposed (accountHour (mark n 2 rows) a h)) (saleShare row)
+      ∙ ap (λ (x : ℕ). exposure u (mark n 2 rows) o + x) (sale-worth row (λ q. known))

@@ -1,0 +1,68 @@
+-- The three parts together are the exposure.
+use mathlib.Core.Path.{ap, _∙_}
+use native.Mathlib.Omega.{arith}
+use borrow.Author.Needs.{needs}
+use Rattle.rules.specs.Opening.{accountsFrom}
+use Rattle.book.proofs.StateLaws.{book-length}
+use Rattle.book.proofs.WorthParts.{exposure-joined}
+use Rattle.book.proofs.worth.exposure_with.Statement.{statement}
+use Rattle.book.proofs.worth.exposure_with.Tie as tie
+
+price-sums-requires : tie.Need-price-sums-requires
+price-sums-requires c κs = search needs
+
+counts-requires : tie.Need-counts-requires
+counts-requires c κs = omega (arith, book-length _ (c .before .before .pre .0))
+
+accounts-from-requires : tie.Need-accounts-from-requires
+accounts-from-requires c κs = search needs
+
+short-worth-requires : tie.Need-short-worth-requires
+short-worth-requires c κs = search needs
+
+slice-aggregate-sales-worth : tie.Need-slice-aggregate-sales-worth
+slice-aggregate-sales-worth c = search needs
+
+sales-worth-requires : tie.Need-sales-worth-requires
+sales-worth-requires c κs = search needs
+
+slice-aggregate-sale-of : tie.Need-slice-aggregate-sale-of
+slice-aggregate-sale-of c = search needs
+
+sale-of-requires : tie.Need-sale-of-requires
+sale-of-requires c κs =
+    let from = c .before .before .before .before in
+    let pre = c .before .before .before .before .before .before .before .before .pre in
+    (pre .0, c .before .before .before .before .before .before .price-sums .ensures, from .accounts-from .ensures ∙ ap accountsFrom (from .before .counts .ensures), pre .1)
+
+plus-requires : tie.Need-plus-requires
+plus-requires c κs = search needs
+
+plus-requires-2 : tie.Need-plus-requires-2
+plus-requires-2 c κs = search needs
+
+returns : tie.Need-returns
+returns c =
+    let own = c .before .before .sale-of .ensures in
+    let waits = c .before .before .before .before .sales-worth .ensures in
+    let below = c .before .before .before .before .before .before .short-worth .ensures in
+    let start = c .before .before .before .before .before .before .before .before .before .before .before in (
+      exposure-joined _ (start .pre .0) (start .args .operator) (start .args .trade) (start .pre .1) _ _ _ _ _ (below .0) (waits .0) (own .0) (c .before .plus .ensures) (c .plus2 .ensures),
+      omega (arith, c .plus2 .ensures, c .before .plus .ensures, below .1, waits .1, own .1),
+    )
+
+pub exposure-with-spec : {M : Type 1} → statement M
+exposure-with-spec =
+    tie.close
+    (tie.spec
+    price-sums-requires
+    counts-requires
+    accounts-from-requires
+    short-worth-requires
+    slice-aggregate-sales-worth
+    sales-worth-requires
+    slice-aggregate-sale-of
+    sale-of-requires
+    plus-requires
+    plus-requires-2
+    returns)

@@ -1,0 +1,99 @@
+-- The sum and what the rows of later numbers weigh make what all rows weigh.
+use Prim.Native.Nat.{_+_, _-_, _*_, _≤_}
+use mathlib.Core.Path.{_≡_, ap, _∙_}
+use native.Mathlib.Nat.{zero-add}
+use native.Mathlib.Omega.{arith}
+use lib.ListN.{length, drop}
+use borrow.Author.Needs.{needs}
+use Rattle.rules.specs.Basics.{total}
+use Rattle.rules.specs.Limits.{mostEnergy, mostPrice, mostHours, mostRows}
+use Rattle.rules.specs.Opening.{countsIn, accountsFrom}
+use Rattle.book.specs.Valid.{bookIn}
+use Rattle.book.specs.Worth.{saleWorth}
+use Rattle.book.proofs.StateLaws.{book-length}
+use Rattle.book.proofs.WorthParts.{rows-next, rows-done}
+use Rattle.book.proofs.worth.sales_worth.Statement.{statement}
+use Rattle.book.proofs.worth.sales_worth.Tie as tie
+
+abbrev Inv-loop : tie.InvT-loop
+Inv-loop book sums operator from n sum₀ number₀ sum number =
+    let b = bookIn book in
+    (from ≡ accountsFrom (countsIn book))
+    × (n ≡ length (b .part .rows))
+    × (n ≤ mostRows)
+    × (1 ≤ number)
+    × (number ≤ n + 1)
+    × (sum .0 ≤ (number - 1) * (mostEnergy * (mostHours * mostPrice)))
+    × (sum .0 + total (saleWorth (b .setup) operator) (drop (number - 1) (b .part .rows)) ≡ total (saleWorth (b .setup) operator) (b .part .rows))
+
+abbrev μ-loop : tie.MeasureT-loop
+μ-loop book sums operator from n sum₀ number₀ sum number = n + 1 - number
+
+counts-requires : tie.Need-counts-requires Inv-loop μ-loop
+counts-requires c κs = omega (arith, book-length _ (c .before .before .pre .0))
+
+accounts-from-requires : tie.Need-accounts-from-requires Inv-loop μ-loop
+accounts-from-requires c κs = search needs
+
+row-count-requires : tie.Need-row-count-requires Inv-loop μ-loop
+row-count-requires c κs = search needs
+
+loop-holds : tie.Need-loop-holds Inv-loop μ-loop
+loop-holds c = (
+  c .before .accounts-from .ensures ∙ ap accountsFrom (c .before .before .counts .ensures),
+  c .row-count .ensures .0,
+  c .row-count .ensures .1,
+  omega arith,
+  omega arith,
+  omega arith,
+  zero-add _,
+)
+
+row-sale-requires : tie.Need-row-sale-requires Inv-loop μ-loop
+row-sale-requires c κs =
+    let l = c .before .loop in
+    let pre = c .before .before .before .before .before .before .before .pre in
+    (pre .0, pre .1, l .inv .0, l .inv .3, omega (arith, l .inv .1))
+
+plus-requires : tie.Need-plus-requires Inv-loop μ-loop
+plus-requires c κs = omega arith
+
+add-number : tie.Need-add-number Inv-loop μ-loop
+add-number c = search needs
+
+loop-less : tie.Need-loop-less Inv-loop μ-loop
+loop-less c = search needs
+
+loop-again : tie.Need-loop-again Inv-loop μ-loop
+loop-again c =
+    let l = c .before .before .before .loop in
+    let sale = c .before .row-sale .ensures in (
+      l .inv .0,
+      l .inv .1,
+      l .inv .2,
+      omega arith,
+      omega arith,
+      omega (arith, c .plus .ensures, sale .1, l .inv .5),
+      rows-next _ _ (l .number) _ _ _ _ (l .inv .3) (omega (arith, l .inv .1)) (c .plus .ensures) (sale .0) (l .inv .6),
+    )
+
+returns : tie.Need-returns Inv-loop μ-loop
+returns c =
+    let l = c .before .loop in (rows-done _ _ (l .number - 1) _ _ (omega (arith, l .inv .1)) (l .inv .6), omega (arith, l .inv .5, l .inv .2))
+
+pub sales-worth-spec : {M : Type 1} → statement M
+sales-worth-spec =
+    tie.close
+    (tie.spec
+    Inv-loop
+    μ-loop
+    counts-requires
+    accounts-from-requires
+    row-count-requires
+    loop-holds
+    row-sale-requires
+    plus-requires
+    add-number
+    loop-less
+    loop-again
+    returns)

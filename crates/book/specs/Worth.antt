@@ -1,0 +1,52 @@
+-- Exposure in two parts (document 01, "Registration"): what lies below zero of the net positions, and the pending sales row by row.
+use Prim.Native.Nat.{ℕ, _-_, _*_, _≤_}
+use mathlib.Core.Path.{_≡_}
+use mathlib.Core.List.{List}
+use mathlib.Core.Bool.{true, _&&_}
+use lib.ListN.{length, getD}
+use lib.Dec.{eqb}
+use Rattle.rules.specs.declared.Row.{Row}
+use Rattle.rules.specs.declared.Net.{Net}
+use Rattle.rules.specs.Basics.{if_then_else_, total, upTo}
+use Rattle.rules.specs.Limits.{mostEnergy}
+use Rattle.rules.specs.Books.{Setup, estimateAt, operatorOf, accountCount}
+use Rattle.rules.specs.Registration.{pending, covers, accountHour, takes, ofOperator, exposureOf}
+
+-- what lies below zero of the operator's net positions, at estimated prices
+unfoldable pub shortWorth : Setup → (ℕ → ℕ → Net) → ℕ → ℕ
+shortWorth u net o = ofOperator u (λ a. total (λ h. estimateAt u h .0 * (net a h .sold .0 - net a h .bought .0)) (upTo (u .hours))) o
+
+-- what lies below zero of an account's net positions, at estimated prices
+unfoldable pub accountShort : Setup → (ℕ → ℕ → Net) → ℕ → ℕ
+accountShort u net a = total (λ h. estimateAt u h .0 * (net a h .sold .0 - net a h .bought .0)) (upTo (u .hours))
+
+-- what an account adds to that of an operator: nothing where it is another's
+unfoldable pub shortShare : Setup → (ℕ → ℕ → Net) → ℕ → ℕ → ℕ
+shortShare u net o a = if eqb (operatorOf u a) o then accountShort u net a else 0
+
+-- the net positions once the trade is taken
+abbrev pub netWith : List Row → Row → ℕ → ℕ → Net
+netWith rows trade a h = takes a h (accountHour rows a h) trade .net
+
+-- the estimated prices of a row's hours together
+unfoldable pub spanPrice : Setup → Row → ℕ
+spanPrice u r = total (λ h. if covers h r then estimateAt u h .0 else 0) (upTo (u .hours))
+
+-- entry k of a list of 26 is the sum of the estimated prices of the hours 1 to k
+pub record PriceSums (u : Setup) (sums : List ℕ) : Type 0 where
+  pub whole : length sums ≡ 26
+  pub sum : (k : ℕ) → k ≤ u .hours → getD sums k 0 ≡ total (λ h. estimateAt u h .0) (upTo k)
+
+-- what a row weighs on the operator as a pending sale of one of its accounts; nothing where it is none
+unfoldable pub saleWorth : Setup → ℕ → Row → ℕ
+saleWorth u o r = if pending r && eqb (r .side) 1 && eqb (operatorOf u (r .proposer)) o then r .quantity .0 * spanPrice u r else 0
+
+-- the operator's exposure once the trade is taken
+abbrev pub exposureWith : Setup → List Row → Row → ℕ → ℕ
+exposureWith u rows trade o = exposureOf u (λ a h. takes a h (accountHour rows a h) trade) o
+
+-- a trade that can be taken: where it waits, its proposer and its hours are those of the set-up; its quantity is in range
+pub record Takeable (u : Setup) (trade : Row) : Type 0 where
+  pub quantity-high : trade .quantity .0 ≤ mostEnergy
+  pub proposer-known : pending trade ≡ true → (1 ≤ trade .proposer) × (trade .proposer ≤ accountCount u)
+  pub hours-known : pending trade ≡ true → (1 ≤ trade .first) × (trade .first ≤ trade .last) × (trade .last ≤ u .hours)

@@ -1,0 +1,225 @@
+// The exposure of an operator in two parts: what lies below zero of its net positions, and its pending sales row by row.
+ghost use mathlib.Core.Path.{_≡_};
+ghost use mathlib.Core.Bool.{true};
+ghost use Prim.Native.Nat.{_-_, _*_, _^_, _≤_, _<_};
+ghost use lib.ListN.{length, getD};
+ghost use Rattle.rules.specs.Basics.{total, nth};
+ghost use Rattle.rules.specs.Limits.{mostEnergy, mostPrice, mostHours, mostAccounts, mostRows};
+ghost use Rattle.rules.specs.Books.{noRow, estimateAt, accountCount};
+ghost use Rattle.rules.specs.Opening.{countsIn, accountsFrom};
+ghost use Rattle.book.specs.Valid.{isBook, bookIn};
+ghost use Rattle.book.specs.Worth.{shortWorth, saleWorth, exposureWith, PriceSums, Takeable, accountShort, shortShare, netWith};
+use crate::exposure::short;
+use crate::owned::owner;
+use crate::positions::net_at;
+use crate::rows::row_at;
+use crate::state::row_count;
+use crate::state::row_place;
+use rules::AccountHour;
+use rules::Row;
+use setup::counts::accounts_from;
+use setup::counts::counts;
+use setup::entries::estimate;
+use units::CentsPerMwh;
+use units::Kwh;
+use units::MilliCents;
+use wire::numbers::get_u8;
+
+// The hours that a day can have, and none.
+const PRICE_SUMS: usize = 26;
+
+// ---- prices
+
+// The estimated price of an hour.
+fn price(book: &[u8], hour: u8) -> CentsPerMwh
+    requires { ⌜ (isBook (now book) ≡ true) × (1 ≤ hour) × (hour ≤ bookIn (now book) .setup .hours) ⌝ }
+    ensures { λ r. ⌜ (r ≡ estimateAt (bookIn (now (book .entry)) .setup) hour) × (r .0 ≤ mostPrice) ⌝ }
+{
+    estimate(book, hour)
+}
+
+// Puts the sums of the estimated prices, hour by hour.
+fn fill_prices(sums: &mut [u64], book: &[u8])
+    requires { ⌜ (length (now sums) ≡ 26) × (isBook (now book) ≡ true) ⌝ }
+    ensures { λ _. ⌜ PriceSums (bookIn (now (book .entry)) .setup) (now (sums .exit)) ⌝ }
+{
+    let n = counts(book);
+    sums[0] = 0;
+    let mut hour: u8 = 1;
+    while hour <= n.hours {
+        let price = price(book, hour);
+        sums[hour as usize] = sums[hour as usize - 1] + price.0 as u64;
+        hour = hour + 1;
+    }
+}
+
+// The sums of the estimated prices: entry k is that of the hours 1 to k.
+fn price_sums(book: &[u8]) -> [u64; PRICE_SUMS]
+    requires { ⌜ isBook (now book) ≡ true ⌝ }
+    ensures { λ r. ⌜ PriceSums (bookIn (now (book .entry)) .setup) r ⌝ }
+{
+    let mut sums = [0u64; PRICE_SUMS];
+    fill_prices(&mut sums, book);
+    sums
+}
+
+// ---- pending sales
+
+// The quantity at the estimated prices of its hours together.
+fn span_worth(sums: &[u64], first: u8, last: u8, quantity: Kwh) -> MilliCents
+    requires { ⌜ (length (now sums) ≡ 26) × (1 ≤ first) × (first ≤ last) × (last ≤ 25) × (getD (now sums) (first - 1) 0 ≤ getD (now sums) last 0) × (getD (now sums) last 0 ≤ mostHours * mostPrice) × (quantity .0 ≤ mostEnergy) ⌝ }
+    ensures { λ m. ⌜ m .0 ≡ quantity .0 * (getD (now (sums .entry)) last 0 - getD (now (sums .entry)) (first - 1) 0) ⌝ }
+{
+    let end = sums[last as usize];
+    let start = sums[first as usize - 1];
+    MilliCents((quantity.0 as u64) * (end - start))
+}
+
+// What a row weighs on the operator as a pending sale, of a book whose accounts begin at `from`.
+fn sale_of(book: &[u8], sums: &[u64], from: usize, operator: u8, r: Row) -> MilliCents
+    requires { ⌜ (isBook (now book) ≡ true) × PriceSums (bookIn (now book) .setup) (now sums) × (from ≡ accountsFrom (countsIn (now book))) × Takeable (bookIn (now book) .setup) r ⌝ }
+    ensures { λ m. ⌜ (m .0 ≡ saleWorth (bookIn (now (book .entry)) .setup) operator r) × (m .0 ≤ mostEnergy * (mostHours * mostPrice)) ⌝ }
+{
+    if (r.status != 1) | (r.side != 1) {
+        return MilliCents(0);
+    }
+    if owner(book, from, r.proposer) == operator {
+        return span_worth(sums, r.first, r.last, r.quantity);
+    }
+    MilliCents(0)
+}
+
+// What the row of that number weighs on the operator as a pending sale.
+fn row_sale(book: &[u8], sums: &[u64], from: usize, operator: u8, number: u16) -> MilliCents
+    requires { ⌜ (isBook (now book) ≡ true) × PriceSums (bookIn (now book) .setup) (now sums) × (from ≡ accountsFrom (countsIn (now book))) × (1 ≤ number) × (number ≤ length (bookIn (now book) .part .rows)) ⌝ }
+    ensures { λ m. ⌜ (m .0 ≡ saleWorth (bookIn (now (book .entry)) .setup) operator (nth (bookIn (now (book .entry)) .part .rows) number noRow)) × (m .0 ≤ mostEnergy * (mostHours * mostPrice)) ⌝ }
+{
+    let at = row_place(number);
+    if (get_u8(book, at + 17) != 1) | (get_u8(book, at + 10) != 1) {
+        return MilliCents(0);
+    }
+    sale_of(book, sums, from, operator, row_at(book, at))
+}
+
+// What the rows weigh on the operator as pending sales.
+fn sales_worth(book: &[u8], sums: &[u64], operator: u8) -> MilliCents
+    requires { ⌜ (isBook (now book) ≡ true) × PriceSums (bookIn (now book) .setup) (now sums) ⌝ }
+    ensures { λ m. ⌜ (m .0 ≡ total (saleWorth (bookIn (now (book .entry)) .setup) operator) (bookIn (now (book .entry)) .part .rows)) × (m .0 ≤ mostRows * (mostEnergy * (mostHours * mostPrice))) ⌝ }
+{
+    let from = accounts_from(counts(book));
+    let n = row_count(book);
+    let mut sum = MilliCents(0);
+    let mut number: u16 = 1;
+    while number <= n {
+        sum = sum.plus(row_sale(book, sums, from, operator, number));
+        number = number + 1;
+    }
+    sum
+}
+
+// ---- net positions
+
+// What of an account's net position in an hour lies below zero once the trade is taken.
+fn short_at(book: &[u8], account: u8, hour: u8, trade: Row) -> Kwh
+    requires { ⌜ (isBook (now book) ≡ true) × ((1 ≤ account) × (account ≤ accountCount (bookIn (now book) .setup))) × ((1 ≤ hour) × (hour ≤ bookIn (now book) .setup .hours)) × (trade .quantity .0 ≤ mostEnergy) ⌝ }
+    ensures { λ r. ⌜ (r .0 ≡ netWith (bookIn (now (book .entry)) .part .rows) trade account hour .sold .0 - netWith (bookIn (now (book .entry)) .part .rows) trade account hour .bought .0) × (r .0 ≤ 2 * mostEnergy) ⌝ }
+{
+    let net = net_at(book, account, hour);
+    if (trade.status == 2) & ((trade.proposer == account) | (trade.counterparty == account)) {
+        let held = AccountHour {
+            net,
+            sales: Kwh(0),
+            purchases: Kwh(0),
+        };
+        let after = held.take(trade, account, hour);
+        return short(after.net);
+    }
+    short(net)
+}
+
+// What of an account's net positions lies below zero once the trade is taken, at estimated prices.
+fn account_short(book: &[u8], account: u8, trade: Row) -> MilliCents
+    requires { ⌜ (isBook (now book) ≡ true) × ((1 ≤ account) × (account ≤ accountCount (bookIn (now book) .setup))) × (trade .quantity .0 ≤ mostEnergy) ⌝ }
+    ensures { λ r. ⌜ (r .0 ≡ accountShort (bookIn (now (book .entry)) .setup) (netWith (bookIn (now (book .entry)) .part .rows) trade) account) × (r .0 ≤ mostHours * (2 * mostEnergy * mostPrice)) ⌝ }
+{
+    let n = counts(book);
+    let mut sum = MilliCents(0);
+    let mut hour: u8 = 1;
+    while hour <= n.hours {
+        let below = short_at(book, account, hour, trade);
+        let price = price(book, hour);
+        sum = sum.plus(below.at(price));
+        hour = hour + 1;
+    }
+    sum
+}
+
+// The same of one account, where it is the operator's; nothing where it is another's.
+fn short_share(book: &[u8], from: usize, account: u8, operator: u8, trade: Row) -> MilliCents
+    requires { ⌜ (isBook (now book) ≡ true) × (from ≡ accountsFrom (countsIn (now book))) × ((1 ≤ account) × (account ≤ accountCount (bookIn (now book) .setup))) × (trade .quantity .0 ≤ mostEnergy) ⌝ }
+    ensures { λ r. ⌜ (r .0 ≡ shortShare (bookIn (now (book .entry)) .setup) (netWith (bookIn (now (book .entry)) .part .rows) trade) operator account) × (r .0 ≤ mostHours * (2 * mostEnergy * mostPrice)) ⌝ }
+{
+    if owner(book, from, account) == operator {
+        return account_short(book, account, trade);
+    }
+    MilliCents(0)
+}
+
+// What of the operator's net positions lies below zero once the trade is taken, at estimated prices.
+fn short_worth(book: &[u8], operator: u8, trade: Row) -> MilliCents
+    requires { ⌜ (isBook (now book) ≡ true) × (trade .quantity .0 ≤ mostEnergy) ⌝ }
+    ensures { λ r. ⌜ (r .0 ≡ shortWorth (bookIn (now (book .entry)) .setup) (netWith (bookIn (now (book .entry)) .part .rows) trade) operator) × (r .0 ≤ mostAccounts * (mostHours * (2 * mostEnergy * mostPrice))) ⌝ }
+{
+    let n = counts(book);
+    let from = accounts_from(n);
+    let mut sum = MilliCents(0);
+    let mut account: u8 = 1;
+    while account <= n.accounts {
+        sum = sum.plus(short_share(book, from, account, operator, trade));
+        account = account + 1;
+    }
+    sum
+}
+
+// ---- exposure
+
+// No trade: nobody's, of no quantity and no status.
+pub fn no_trade() -> Row
+    ensures { λ r. ⌜ r ≡ noRow ⌝ }
+{
+    Row {
+        proposer: 0,
+        counterparty: 0,
+        code: 0,
+        side: 0,
+        first: 0,
+        last: 0,
+        quantity: Kwh(0),
+        status: 0,
+    }
+}
+
+// What a row weighs on the operator as a pending sale.
+pub fn sale_worth(book: &[u8], operator: u8, r: Row) -> MilliCents
+    requires { ⌜ (isBook (now book) ≡ true) × Takeable (bookIn (now book) .setup) r ⌝ }
+    ensures meaning { λ m. ⌜ m .0 ≡ saleWorth (bookIn (now (book .entry)) .setup) operator r ⌝ }
+    ensures bounded { λ m. ⌜ m .0 < 2 ^ 62 ⌝ }
+{
+    let sums = price_sums(book);
+    let from = accounts_from(counts(book));
+    sale_of(book, &sums, from, operator, r)
+}
+
+// The exposure of an operator once the trade is taken.
+pub fn exposure_with(book: &[u8], operator: u8, trade: Row) -> MilliCents
+    requires { ⌜ (isBook (now book) ≡ true) × Takeable (bookIn (now book) .setup) trade ⌝ }
+    ensures meaning { λ r. ⌜ r .0 ≡ exposureWith (bookIn (now (book .entry)) .setup) (bookIn (now (book .entry)) .part .rows) trade operator ⌝ }
+    ensures bounded { λ r. ⌜ r .0 < 2 ^ 63 ⌝ }
+{
+    let sums = price_sums(book);
+    let from = accounts_from(counts(book));
+    let below = short_worth(book, operator, trade);
+    let waits = sales_worth(book, &sums, operator);
+    let own = sale_of(book, &sums, from, operator, trade);
+    below.plus(waits).plus(own)
+}
