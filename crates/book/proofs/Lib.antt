@@ -87,6 +87,8 @@ pub mod BookRows
 pub mod ReadingLaws
 -- NettedLaws: a net position off its 4 bytes.
 pub mod NettedLaws
+-- WaitLaws: what waits on one account, row by row.
+pub mod WaitLaws
 -- Reachable: what holds of every book that calls reach from a freshly opened one.
 pub mod Reachable
 -- TableLaws: a table of sums and one row more, or one row marked.

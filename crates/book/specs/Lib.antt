@@ -13,6 +13,8 @@ pub mod Owned
 pub mod Changes
 -- Netted: a net position by itself.
 pub mod Netted
+-- Waits: what waits on one account.
+pub mod Waits
 -- Worth: exposure in two parts, net positions and pending sales.
 pub mod Worth
 -- Doors: what opening and the two readings answer, on any bytes.

@@ -14,5 +14,6 @@ pub mod schedules;
 pub mod state;
 pub mod sums;
 pub mod twins;
+pub mod waits;
 pub mod whole;
 pub mod worth;

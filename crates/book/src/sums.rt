@@ -36,7 +36,7 @@ const PURCHASES: usize = 3;
 const ACCOUNT_CELLS: usize = 25;
 
 // Adds `q` to the `n` cells from `at` on.
-fn add_range(table: &mut [u32], at: usize, n: usize, q: u32)
+pub fn add_range(table: &mut [u32], at: usize, n: usize, q: u32)
     requires { ⌜ (at + n ≤ length (now table)) × Room (now table) at q ⌝ }
     ensures { λ _. ⌜ Raised (now (table .entry)) (now (table .exit)) at n q ⌝ }
 {
