@@ -15,18 +15,15 @@ use Rattle.rules.specs.Basics.{if_then_else_, total, nth}
 use Rattle.rules.specs.Limits.{mostEnergy}
 use Rattle.rules.specs.Books.{noRow}
 use Rattle.rules.specs.Registration.{pending, covers, waiting}
-use Rattle.rules.proofs.Searches.{each-nth}
 use Rattle.rules.proofs.Tests.{and-both}
 use Rattle.book.specs.Layout.{presentAt, rowAt}
 use Rattle.book.specs.Valid.{isBook, bookIn}
 use Rattle.book.specs.Sums.{cellOf, InTable, Tabled, Raised}
 use Rattle.book.specs.Waits.{waitCell, Waits, WaitsOf, noWaits, WaitTaken}
-use Rattle.book.proofs.Soundness.{SoundRow}
 use Rattle.book.proofs.SumLaws.{raised-cell, raised-most}
 use Rattle.book.proofs.FillLaws.{zero-at}
 use Rattle.book.proofs.RowBytes.{row-at}
 use Rattle.book.proofs.StateLaws.{book-is-sound, numbered-row-stands}
-use Rattle.book.proofs.BookRows.{sound-tabled}
 
 -- ---- one row
 
@@ -122,20 +119,12 @@ waiting-last a rows k table e n f =
 
 -- ---- a book
 
-module _ (s : List ℕ) (h : isBook s ≡ true) (n : ℕ) (low : 1 ≤ n) (high : n ≤ length (bookIn s .part .rows)) where
-  -- the row of a number is sound, and the table has room for it
-  pub own-sound : SoundRow (bookIn s .setup) (nth (bookIn s .part .rows) n noRow)
-  own-sound = each-nth noRow n (book-is-sound s h .part-sound .rows-sound) low high
-
-  pub own-tabled : Tabled (nth (bookIn s .part .rows) n noRow)
-  own-tabled = sound-tabled (bookIn s .setup) (book-is-sound s h .setup-sound) _ own-sound
-
-  -- its proposer stands in its first byte, its status in its last
-  pub own-stands : (at : ℕ) → at ≡ presentAt + rowAt (n - 1)
-      → (numberAt s at 1 ≡ nth (bookIn s .part .rows) n noRow .proposer) × (numberAt s (at + 17) 1 ≡ nth (bookIn s .part .rows) n noRow .status)
-  own-stands at e =
-      let r = sym (row-at s at) ∙ numbered-row-stands s h n at low high e in
-      (ap (λ (x : Row). x .proposer) r, ap (λ (x : Row). x .status) r)
+-- the proposer of the row of a number stands in its first byte, its status in its last
+pub own-stands : (s : List ℕ) (h : isBook s ≡ true) (n at : ℕ) → 1 ≤ n → n ≤ length (bookIn s .part .rows) → at ≡ presentAt + rowAt (n - 1)
+    → (numberAt s at 1 ≡ nth (bookIn s .part .rows) n noRow .proposer) × (numberAt s (at + 17) 1 ≡ nth (bookIn s .part .rows) n noRow .status)
+own-stands s h n at low high e =
+    let r = sym (row-at s at) ∙ numbered-row-stands s h n at low high e in
+    (ap (λ (x : Row). x .proposer) r, ap (λ (x : Row). x .status) r)
 
 -- the test of the row as code makes it of what it read
 pub own-tested : (x y a status proposer : ℕ) (t : Bool) → status ≡ x → proposer ≡ y → eqb status 1 && eqb proposer a ≡ t → eqb x 1 && eqb y a ≡ t

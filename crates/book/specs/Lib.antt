@@ -7,8 +7,6 @@ pub mod Image
 pub mod Valid
 -- Sums: the sums of all account hours in one table.
 pub mod Sums
--- Owned: the rows that concern an operator.
-pub mod Owned
 -- Changes: what a loop over cells of a book puts to each.
 pub mod Changes
 -- Netted: a net position by itself.

@@ -4,7 +4,6 @@ pub mod exposure;
 pub mod layout;
 pub mod margins;
 pub mod opening;
-pub mod owned;
 pub mod part;
 pub mod positions;
 pub mod readings;

@@ -2,7 +2,8 @@
 use mathlib.Core.Path.{_∙_}
 use native.Mathlib.Omega.{arith}
 use Rattle.book.proofs.StateLaws.{book-length, row-count-high, numbered-row-stands}
-use Rattle.book.proofs.WaitLaws.{own-sound, own-tabled, own-stands, own-tested, own-taken, taken-none}
+use Rattle.book.proofs.BookRows.{numbered-sound, numbered-tabled}
+use Rattle.book.proofs.WaitLaws.{own-stands, own-tested, own-taken, taken-none}
 use borrow.Author.Needs.{needs}
 use Rattle.book.proofs.waits.take_own.Statement.{statement}
 use Rattle.book.proofs.waits.take_own.Tie as tie
@@ -32,8 +33,8 @@ take-waiting-requires c κs =
     let pre = start .pre in
     let n = start .args .number in
     let same = row .row-at .ensures ∙ numbered-row-stands _ (pre .2) n _ (pre .3) (pre .4) (row .before .before .before .before .row-place .ensures) in
-    let sound = own-sound _ (pre .2) n (pre .3) (pre .4) in
-    let tabled = own-tabled _ (pre .2) n (pre .3) (pre .4) in
+    let sound = numbered-sound _ (pre .2) n (pre .3) (pre .4) in
+    let tabled = numbered-tabled _ (pre .2) n (pre .3) (pre .4) in
     (pre .0, rw same tabled, rw same (sound .side-low), rw same (sound .side-high), λ k l. rw same (omega (arith, pre .1 k l, tabled .quantity-high)))
 
 same-length : tie.Need-same-length
@@ -49,8 +50,8 @@ returns c =
     let pre = start .pre in
     let n = start .args .number in
     let same = row .row-at .ensures ∙ numbered-row-stands _ (pre .2) n _ (pre .3) (pre .4) (place .row-place .ensures) in
-    let stands = own-stands _ (pre .2) n (pre .3) (pre .4) _ (place .row-place .ensures) in
-    own-taken _ _ _ _ (own-tabled _ (pre .2) n (pre .3) (pre .4)) (own-sound _ (pre .2) n (pre .3) (pre .4) .side-low) (own-sound _ (pre .2) n (pre .3) (pre .4) .side-high)
+    let stands = own-stands _ (pre .2) n _ (pre .3) (pre .4) (place .row-place .ensures) in
+    own-taken _ _ _ _ (numbered-tabled _ (pre .2) n (pre .3) (pre .4)) (numbered-sound _ (pre .2) n (pre .3) (pre .4) .side-low) (numbered-sound _ (pre .2) n (pre .3) (pre .4) .side-high)
     (own-tested _ _ _ _ _ _ (test .before .before .get-u8 .ensures ∙ stands .1) (test .before .get-u82 .ensures ∙ stands .0) (test .if1 .taken))
     (rw same at (taken .take-waiting .ensures))
 
@@ -59,7 +60,7 @@ returns-2 c =
     let place = c .before .before .before in
     let start = place .before .before .before in
     let pre = start .pre in
-    let stands = own-stands _ (pre .2) (start .args .number) (pre .3) (pre .4) _ (place .row-place .ensures) in
+    let stands = own-stands _ (pre .2) (start .args .number) _ (pre .3) (pre .4) (place .row-place .ensures) in
     taken-none _ _ _ (own-tested _ _ _ _ _ _ (c .before .before .get-u8 .ensures ∙ stands .1) (c .before .get-u82 .ensures ∙ stands .0) (c .if1 .left))
 
 pub take-own-spec : {M : Type 1} → statement M
