@@ -1,6 +1,6 @@
 -- The set-up and the rows of bytes that are a book stand at their places, and what they say is in range: all that the sums, the margins and
 -- the exposure ask of such bytes.
-use Prim.Native.Nat.{ℕ, _+_, _*_, _≤_}
+use Prim.Native.Nat.{ℕ, _+_, _-_, _*_, _≤_}
 use mathlib.Core.Path.{_≡_, sym, ap, _∙_}
 use mathlib.Core.List.{List, []}
 use mathlib.Core.Bool.{true}
@@ -11,14 +11,15 @@ use Rattle.wire.specs.Parts.{cut}
 use Rattle.wire.proofs.PartLaws.{cut-at, inner}
 use Rattle.wire.proofs.SlotLaws.{chunks-front}
 use Rattle.units.specs.Units.{cents}
+use Rattle.rules.specs.declared.Account.{Account}
 use Rattle.rules.specs.declared.Counts.{Counts}
 use Rattle.rules.specs.declared.Row.{Row}
-use Rattle.rules.specs.Basics.{Each}
+use Rattle.rules.specs.Basics.{nth, Each}
 use Rattle.rules.specs.Limits.{mostPrice, mostRows, mostHours, bookSize}
-use Rattle.rules.specs.Books.{Setup, Book, countsOf, operatorCount}
-use Rattle.rules.specs.Opening.{countsIn, estimatesIn, setupOf, operatorsOf}
-use Rattle.rules.proofs.Searches.{each-map}
-use Rattle.rules.proofs.SetupEntries.{counts-of-setup}
+use Rattle.rules.specs.Books.{Setup, Book, noAccount, noRow, operatorOf, countsOf, operatorCount, accountCount}
+use Rattle.rules.specs.Opening.{countsIn, accountsIn, accountIn, accountsFrom, estimatesIn, setupOf, operatorsOf}
+use Rattle.rules.proofs.Searches.{each-map, each-nth}
+use Rattle.rules.proofs.SetupEntries.{nth-entry, account-at, counts-of-setup}
 use Rattle.book.specs.Layout.{setupRoom, rowWidth, partWidths, partSize, presentAt, rowCountAt, rowsAt}
 use Rattle.book.specs.Image.{partOf, partIn}
 use Rattle.book.specs.Valid.{isBook, bookIn}
@@ -96,6 +97,23 @@ module _ (s : List ℕ) (h : isBook s ≡ true) where
 
   pub rows-tabled : Each Tabled (bookIn s .part .rows)
   rows-tabled = each-map (sound-tabled (bookIn s .setup) (book-is-sound s h .setup-sound)) (book-is-sound s h .part-sound .rows-sound)
+
+  -- the operator of an account stands in the account's first byte
+  pub owner-stands : (a from : ℕ) → from ≡ accountsFrom (countsIn s) → 1 ≤ a → a ≤ accountCount (bookIn s .setup)
+      → numberAt s (from + 10 * (a - 1)) 1 ≡ operatorOf (bookIn s .setup) a
+  unfolding setupOf accountsIn
+  owner-stands a from e low high =
+      let place : ℕ = accountsFrom (countsIn s) + 10 * (a - 1) in
+      let inside = ap (λ (m : Counts). m .accounts) counts-in in
+      let entry = nth-entry 10 accountIn (countsIn s .accounts) a (accountsFrom (countsIn s)) s noAccount low (omega arith) ∙ account-at s place in
+      rw e (sym (ap (λ (u : Setup). operatorOf u a) setup-in ∙ ap (λ (x : Account). x .operator) entry))
+
+  -- the row of a number is sound, and the table has room for it
+  pub numbered-sound : (n : ℕ) → 1 ≤ n → n ≤ length (bookIn s .part .rows) → SoundRow (bookIn s .setup) (nth (bookIn s .part .rows) n noRow)
+  numbered-sound n low high = each-nth noRow n (book-is-sound s h .part-sound .rows-sound) low high
+
+  pub numbered-tabled : (n : ℕ) → 1 ≤ n → n ≤ length (bookIn s .part .rows) → Tabled (nth (bookIn s .part .rows) n noRow)
+  numbered-tabled n low high = sound-tabled (bookIn s .setup) (book-is-sound s h .setup-sound) _ (numbered-sound n low high)
 
   module _ (n : ℕ) (e : n ≡ length (bookIn s .part .rows)) where
     few : n ≤ mostRows

@@ -41,7 +41,7 @@ pub record Filling (all left : List Row) (table : List ℕ) (most : ℕ) : Type 
   pub sums : (lane a h : ℕ) → lane ≤ 3 → InTable a h → getD table (cellOf lane a h) 0 + laneSum lane left a h ≡ laneSum lane all a h
   pub bounded : (k : ℕ) → getD table k 0 ≤ most
 
-zero-at : (n k : ℕ) → _≡_ {A = ℕ} (getD (replicate n 0) k 0) 0
+pub zero-at : (n k : ℕ) → _≡_ {A = ℕ} (getD (replicate n 0) k 0) 0
 zero-at zero k = refl
 zero-at (suc n) zero = refl
 zero-at (suc n) (suc k) = zero-at n k

@@ -51,9 +51,9 @@ pub mod Places
 pub mod Local
 -- RowBytes: a row read at its place in the whole bytes.
 pub mod RowBytes
--- SumLaws: what raising or lowering a range of cells does to the table of sums.
+-- SumLaws: what raising a range of cells does to the table of sums.
 pub mod SumLaws
--- ShareLaws: what one row adds to each lane, and what it gives up.
+-- ShareLaws: what one row adds to each lane.
 pub mod ShareLaws
 -- FillLaws: the table row by row.
 pub mod FillLaws
@@ -87,14 +87,10 @@ pub mod BookRows
 pub mod ReadingLaws
 -- NettedLaws: a net position off its 4 bytes.
 pub mod NettedLaws
+-- WaitLaws: what waits on one account, row by row.
+pub mod WaitLaws
 -- Reachable: what holds of every book that calls reach from a freshly opened one.
 pub mod Reachable
--- TableLaws: a table of sums and one row more, or one row marked.
-pub mod TableLaws
--- OwnedLaws: the rows that concern an operator make the hours of its accounts.
-pub mod OwnedLaws
--- OwnedTable: the table of those rows, and a row's parties in the bytes of a book.
-pub mod OwnedTable
 -- MoneyLaws: how much money a day's settlement can move.
 pub mod MoneyLaws
 -- WorthLaws: exposure as what lies below zero and what waits, and what a trade does to it.

@@ -11,11 +11,11 @@ use lib.Dec.{eqb}
 use borrow.Author.Tests.{ne-eqb}
 use Rattle.rules.specs.declared.Row.{Row}
 use Rattle.rules.specs.Basics.{if_then_else_, total}
-use Rattle.rules.specs.Limits.{mostAccounts, mostHours}
+use Rattle.rules.specs.Limits.{mostAccounts}
 use Rattle.rules.specs.Registration.{moved, waiting, buyer, seller}
 use Rattle.rules.proofs.Balanced.{picked-in}
-use Rattle.book.specs.Sums.{cellOf, InTable, Tabled, Raised, Taken, Held, Holds, Released, laneSum}
-use Rattle.book.proofs.SumLaws.{lt-or-ge, hits, hits-inside, raised-cell, raised-most, raised-least}
+use Rattle.book.specs.Sums.{cellOf, InTable, Tabled, Raised, Taken, laneSum}
+use Rattle.book.proofs.SumLaws.{lt-or-ge, hits, raised-cell, raised-most}
 
 -- ---- the parties of a row are accounts of the table
 
@@ -140,48 +140,3 @@ taken-sideless before r e f g = taken-nothing before r (λ a h. share-sideless r
 
 pub taken-idle : (before : List ℕ) (r : Row) → (r .status ≡ 1 → ⊥) → (r .status ≡ 2 → ⊥) → Taken before before r
 taken-idle before r f g = taken-nothing before r (λ a h. share-idle r a h f g)
-
--- ---- one row less
-
--- a pending row, of which the share falls to that lane for its proposer: each cell of its hours has its quantity
-held-pending : (table : List ℕ) (r : Row) (lane : ℕ) → Tabled r → lane ≤ 3
-    → ((a h other : ℕ) → other ≤ 3 → laneSum other (r ∷ []) a h ≡ share r a h lane (r .proposer) other)
-    → Holds table r → Held table (cellOf lane (r .proposer) (r .first)) (r .last - r .first + 1) (r .quantity .0)
-unfolding share
-held-pending table r lane t l e w k low high =
-    let p : ℕ = r .proposer in
-    let h : ℕ = r .first + (k - cellOf lane p (r .first)) in
-    let at : (n : ℕ) → 1 ≤ n → n ≤ mostHours → InTable p n =
-    λ n a b. record { account-low = t .proposer-low; account-high = t .proposer-high; hour-low = a; hour-high = b } in
-    let first = at (r .first) (t .first-low) (omega (arith, t)) in
-    let last = at (r .last) (omega (arith, t)) (t .last-high) in
-    let i = at h (omega (arith, t)) (omega (arith, t)) in
-    let here : k ≡ cellOf lane p h = omega (arith, t) in
-    let hit = hits-inside lane p (r .first) (r .last) lane p h first last (t .in-order) i (omega arith) (omega arith) in
-    rw here (rw (e p h lane l, hit) at (w lane p h l i))
-
-pub held-sale : (table : List ℕ) (r : Row) → Tabled r → r .status ≡ 1 → r .side ≡ 1 → Holds table r
-    → Held table (cellOf 2 (r .proposer) (r .first)) (r .last - r .first + 1) (r .quantity .0)
-held-sale table r t e d w = held-pending table r 2 t (omega arith) (λ a h. share-sale r a h e d) w
-
-pub held-purchase : (table : List ℕ) (r : Row) → Tabled r → r .status ≡ 1 → r .side ≡ 2 → Holds table r
-    → Held table (cellOf 3 (r .proposer) (r .first)) (r .last - r .first + 1) (r .quantity .0)
-held-purchase table r t e d w = held-pending table r 3 t (omega arith) (λ a h. share-purchase r a h e d) w
-
--- the table that took the row back is the one before
-released-back : (before after : List ℕ) (r : Row) → Taken after before r → ((k : ℕ) → getD after k 0 ≤ getD before k 0) → Released before after r
-released-back before after r t f = record { share = λ lane a h l i. sym (t .share lane a h l i); fallen = f }
-
-pub released-sale : (before after : List ℕ) (r : Row) → Tabled r → r .status ≡ 1 → r .side ≡ 1
-    → Raised after before (cellOf 2 (r .proposer) (r .first)) (r .last - r .first + 1) (r .quantity .0)
-    → Released before after r
-released-sale before after r t e d w = released-back before after r (taken-sale after before r t e d w) (raised-least after before _ _ _ w)
-
-pub released-purchase : (before after : List ℕ) (r : Row) → Tabled r → r .status ≡ 1 → r .side ≡ 2
-    → Raised after before (cellOf 3 (r .proposer) (r .first)) (r .last - r .first + 1) (r .quantity .0)
-    → Released before after r
-released-purchase before after r t e d w =
-    released-back before after r (taken-purchase after before r t e d w) (raised-least after before _ _ _ w)
-
-pub released-sideless : (table : List ℕ) (r : Row) → r .status ≡ 1 → (r .side ≡ 1 → ⊥) → (r .side ≡ 2 → ⊥) → Released table table r
-released-sideless table r e f g = released-back table table r (taken-sideless table r e f g) (λ k. omega arith)

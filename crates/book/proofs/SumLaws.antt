@@ -12,7 +12,7 @@ use lib.Dec.{eqb}
 use borrow.Author.Tests.{eqb-true, eq-eqb}
 use Rattle.rules.specs.Basics.{if_then_else_, within}
 use Rattle.rules.proofs.Tests.{and-both, within-true}
-use Rattle.book.specs.Sums.{cellOf, InTable, Room, Raised, Held}
+use Rattle.book.specs.Sums.{cellOf, InTable, Room, Raised}
 
 -- of two numbers, the first is below the second or it is not
 pub lt-or-ge : (a b : ℕ) → (a < b) ⊎ (b ≤ a)
@@ -39,41 +39,6 @@ raised-next before after at n m k q e d h r =
           (lt-or-ge j k);
       above = λ j l. getD-set-other after k j _ 0 (λ z. omega arith) ∙ r .above j (omega arith);
     }
-
--- the cell past a lowered range has what it had to give
-pub still-held : (before after : List ℕ) (at n m k q : ℕ) → Raised after before at n q → Held before at m q → k ≡ at + n → n < m
-    → q ≤ getD after k 0
-still-held before after at n m k q r held e l = omega (arith, r .above k (omega arith), held k (omega arith) (omega arith))
-
--- the cell past the range is lowered too: it is the table before that has q more
-pub lowered-next : (before after : List ℕ) (at n m k q : ℕ) → k ≡ at + n → m ≡ n + 1 → k < length after → q ≤ getD after k 0
-    → Raised after before at n q → Raised (set after k (getD after k 0 - q)) before at m q
-lowered-next before after at n m k q e d h l r =
-    record {
-      below = λ j low. r .below j low ∙ sym (getD-set-other after k j _ 0 (λ z. omega arith));
-      inside = λ j low u.
-          ⊎-elim
-          (λ (w : j < k). r .inside j low (omega arith) ∙ ap (λ (x : ℕ). x + q) (sym (getD-set-other after k j _ 0 (λ z. omega arith))))
-          (λ (w : k ≤ j).
-          let same : j ≡ k = omega arith in
-          let up = r .above k (omega arith) in
-          let back : getD after k 0 ≡ (getD after k 0 - q) + q = omega arith in
-          rw same (up ∙ back ∙ ap (λ (x : ℕ). x + q) (sym (getD-set-same after k _ 0 h))))
-          (lt-or-ge j k);
-      above = λ j low. r .above j (omega arith) ∙ sym (getD-set-other after k j _ 0 (λ z. omega arith));
-    }
-
--- no cell is lowered
-pub raised-least : (before after : List ℕ) (at n q : ℕ) → Raised before after at n q → (k : ℕ) → getD before k 0 ≤ getD after k 0
-raised-least before after at n q r k =
-    ⊎-elim
-    (λ (w : k < at). omega (arith, r .below k w))
-    (λ (w : at ≤ k).
-    ⊎-elim
-    (λ (v : k < at + n). omega (arith, r .inside k w v))
-    (λ (v : at + n ≤ k). omega (arith, r .above k v))
-    (lt-or-ge k (at + n)))
-    (lt-or-ge k at)
 
 -- no cell is raised by more
 pub raised-most : (before after : List ℕ) (at n q : ℕ) → Raised before after at n q → (k : ℕ) → getD after k 0 ≤ getD before k 0 + q
@@ -105,7 +70,7 @@ abbrev pub hits : ℕ → ℕ → ℕ → ℕ → ℕ → ℕ → ℕ → Bool
 hits lane account first last other a h = eqb lane other && within first h last && eqb account a
 
 module _ (lane account first last other a h : ℕ) (low : InTable account first) (high : InTable account last) (order : first ≤ last) (i : InTable a h) where
-  pub hits-inside : cellOf lane account first ≤ cellOf other a h → cellOf other a h < cellOf lane account first + (last - first + 1)
+  hits-inside : cellOf lane account first ≤ cellOf other a h → cellOf other a h < cellOf lane account first + (last - first + 1)
       → hits lane account first last other a h ≡ true
   hits-inside l u =
       let e1 : lane ≡ other = same-by lane other (λ w. omega arith) (λ w. omega arith) in

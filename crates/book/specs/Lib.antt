@@ -7,12 +7,12 @@ pub mod Image
 pub mod Valid
 -- Sums: the sums of all account hours in one table.
 pub mod Sums
--- Owned: the rows that concern an operator.
-pub mod Owned
 -- Changes: what a loop over cells of a book puts to each.
 pub mod Changes
 -- Netted: a net position by itself.
 pub mod Netted
+-- Waits: what waits on one account.
+pub mod Waits
 -- Worth: exposure in two parts, net positions and pending sales.
 pub mod Worth
 -- Doors: what opening and the two readings answer, on any bytes.

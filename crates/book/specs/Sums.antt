@@ -104,20 +104,6 @@ pub record Taken (before after : List ℕ) (r : Row) : Type 0 where
       → getD after (cellOf lane a h) 0 ≡ getD before (cellOf lane a h) 0 + laneSum lane (r ∷ []) a h
   pub grown : (k : ℕ) → getD after k 0 ≤ getD before k 0 + r .quantity .0
 
--- each of the n cells from `at` on has q to give
-abbrev pub Held : List ℕ → ℕ → ℕ → ℕ → Type 0
-Held table at n q = (k : ℕ) → at ≤ k → k < at + n → q ≤ getD table k 0
-
--- the table holds the row's share of each account hour in each lane
-abbrev pub Holds : List ℕ → Row → Type 0
-Holds table r = (lane a h : ℕ) → lane ≤ 3 → InTable a h → laneSum lane (r ∷ []) a h ≤ getD table (cellOf lane a h) 0
-
--- one row less: each account hour of each lane gives up its share, and no cell grows
-pub record Released (before after : List ℕ) (r : Row) : Type 0 where
-  pub share : (lane a h : ℕ) → lane ≤ 3 → InTable a h
-      → getD after (cellOf lane a h) 0 + laneSum lane (r ∷ []) a h ≡ getD before (cellOf lane a h) 0
-  pub fallen : (k : ℕ) → getD after k 0 ≤ getD before k 0
-
 -- ---- what is stored of the sums
 
 -- the 4 bytes of each net position are bought less sold in two's complement: with what is sold added they come to what is bought

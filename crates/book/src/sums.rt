@@ -7,7 +7,7 @@ ghost use Rattle.rules.specs.declared.Row.{Row};
 ghost use Rattle.rules.specs.Basics.{every, upTo, Each};
 ghost use Rattle.rules.specs.Limits.{mostAccounts, mostHours};
 ghost use Rattle.rules.specs.Registration.{accountHour};
-ghost use Rattle.book.specs.Sums.{rowsFrom, cellOf, InTable, SumsOf, Tabled, noSums, Room, Raised, Taken, Held, Holds, Released, netStored, netsStored};
+ghost use Rattle.book.specs.Sums.{rowsFrom, cellOf, InTable, SumsOf, Tabled, noSums, Room, Raised, Taken, netStored, netsStored};
 use crate::layout::ACCOUNT_NETS;
 use crate::layout::LANE_SIZE;
 use crate::layout::ROW_WIDTH;
@@ -36,7 +36,7 @@ const PURCHASES: usize = 3;
 const ACCOUNT_CELLS: usize = 25;
 
 // Adds `q` to the `n` cells from `at` on.
-fn add_range(table: &mut [u32], at: usize, n: usize, q: u32)
+pub fn add_range(table: &mut [u32], at: usize, n: usize, q: u32)
     requires { ⌜ (at + n ≤ length (now table)) × Room (now table) at q ⌝ }
     ensures { λ _. ⌜ Raised (now (table .entry)) (now (table .exit)) at n q ⌝ }
 {
@@ -44,19 +44,6 @@ fn add_range(table: &mut [u32], at: usize, n: usize, q: u32)
     let mut k = at;
     while k < end {
         table[k] = table[k] + q;
-        k = k + 1;
-    }
-}
-
-// Takes `q` from the `n` cells from `at` on: with it added they are what they were.
-fn subtract_range(table: &mut [u32], at: usize, n: usize, q: u32)
-    requires { ⌜ (at + n ≤ length (now table)) × Held (now table) at n q ⌝ }
-    ensures { λ _. ⌜ Raised (now (table .exit)) (now (table .entry)) at n q ⌝ }
-{
-    let end = at + n;
-    let mut k = at;
-    while k < end {
-        table[k] = table[k] - q;
         k = k + 1;
     }
 }
@@ -78,17 +65,6 @@ fn add_hours(table: &mut [u32], lane: usize, account: u8, r: Row)
     let n = (r.last - r.first) as usize + 1;
     let quantity = r.quantity;
     add_range(table, at, n, quantity.0);
-}
-
-// Takes the row's quantity from the account's cells of its hours in a lane.
-fn subtract_hours(table: &mut [u32], lane: usize, account: u8, r: Row)
-    requires { ⌜ (length (now table) ≡ 3200) × (lane ≤ 3) × (1 ≤ account) × (account ≤ mostAccounts) × Tabled r × Held (now table) (cellOf lane account (r .first)) (r .last - r .first + 1) (r .quantity .0) ⌝ }
-    ensures { λ _. ⌜ Raised (now (table .exit)) (now (table .entry)) (cellOf lane account (r .first)) (r .last - r .first + 1) (r .quantity .0) ⌝ }
-{
-    let at = cell(lane, account, r.first);
-    let n = (r.last - r.first) as usize + 1;
-    let quantity = r.quantity;
-    subtract_range(table, at, n, quantity.0);
 }
 
 // A confirmed row: its buyer bought, and its seller sold.
@@ -115,7 +91,7 @@ fn take_pending(table: &mut [u32], r: Row)
 }
 
 // One row more. A withdrawn one counts for nobody.
-pub fn take_row(table: &mut [u32], r: Row)
+fn take_row(table: &mut [u32], r: Row)
     requires { ⌜ (length (now table) ≡ 3200) × Tabled r × Room (now table) 0 (r .quantity .0) ⌝ }
     ensures { λ _. ⌜ Taken (now (table .entry)) (now (table .exit)) r ⌝ }
 {
@@ -126,20 +102,8 @@ pub fn take_row(table: &mut [u32], r: Row)
     }
 }
 
-// A pending row less, whose share the table holds: it no longer waits on its proposer.
-pub fn release_row(table: &mut [u32], r: Row)
-    requires { ⌜ (length (now table) ≡ 3200) × Tabled r × (r .status ≡ 1) × Holds (now table) r ⌝ }
-    ensures { λ _. ⌜ Released (now (table .entry)) (now (table .exit)) r ⌝ }
-{
-    if r.side == 1 {
-        subtract_hours(table, SALES, r.proposer, r);
-    } else if r.side == 2 {
-        subtract_hours(table, PURCHASES, r.proposer, r);
-    }
-}
-
 // A table of no rows.
-pub fn zeros() -> [u32; TABLE_SIZE]
+fn zeros() -> [u32; TABLE_SIZE]
     ensures { λ r. ⌜ r ≡ noSums ⌝ }
 {
     [0u32; TABLE_SIZE]

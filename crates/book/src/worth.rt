@@ -5,12 +5,11 @@ ghost use Prim.Native.Nat.{_-_, _*_, _^_, _≤_, _<_};
 ghost use lib.ListN.{length, getD};
 ghost use Rattle.rules.specs.Basics.{total, nth};
 ghost use Rattle.rules.specs.Limits.{mostEnergy, mostPrice, mostHours, mostAccounts, mostRows};
-ghost use Rattle.rules.specs.Books.{noRow, estimateAt, accountCount};
+ghost use Rattle.rules.specs.Books.{noRow, estimateAt, operatorOf, accountCount};
 ghost use Rattle.rules.specs.Opening.{countsIn, accountsFrom};
 ghost use Rattle.book.specs.Valid.{isBook, bookIn};
 ghost use Rattle.book.specs.Worth.{shortWorth, saleWorth, exposureWith, PriceSums, Takeable, accountShort, shortShare, netWith};
 use crate::exposure::short;
-use crate::owned::owner;
 use crate::positions::net_at;
 use crate::rows::row_at;
 use crate::state::row_count;
@@ -27,6 +26,17 @@ use wire::numbers::get_u8;
 
 // The hours that a day can have, and none.
 const PRICE_SUMS: usize = 26;
+
+// The bytes of an account in the set-up, of which the first is its operator.
+const ACCOUNT_WIDTH: usize = 10;
+
+// The operator of an account, of a book whose accounts begin at `from`.
+fn owner(book: &[u8], from: usize, number: u8) -> u8
+    requires { ⌜ (isBook (now book) ≡ true) × (from ≡ accountsFrom (countsIn (now book))) × (1 ≤ number) × (number ≤ accountCount (bookIn (now book) .setup)) ⌝ }
+    ensures { λ r. ⌜ r ≡ operatorOf (bookIn (now (book .entry)) .setup) number ⌝ }
+{
+    get_u8(book, from + ACCOUNT_WIDTH * (number as usize - 1))
+}
 
 // ---- prices
 

@@ -7,8 +7,8 @@ use mathlib.Core.Option.{Option, none, some}
 use mathlib.Core.Bool.{Bool, true, false, not}
 use native.Mathlib.Omega.{arith}
 use lib.ListN.{length, getD}
-use lib.Dec.{eqb}
-use borrow.Author.Tests.{eqb-true, ne-eqb}
+use lib.Dec.{eqb, leb}
+use borrow.Author.Tests.{ne-eqb}
 use Rattle.wire.specs.Numbers.{le}
 use Rattle.wire.specs.Regions.{splice}
 use Rattle.wire.specs.Parts.{sweep}
@@ -20,7 +20,7 @@ use Rattle.rules.specs.Limits.{mostEnergy, mostHours}
 use Rattle.rules.specs.Verdicts.{accepted}
 use Rattle.rules.specs.Books.{Setup, Book, noRow, accountAt, operatorOf, accountCount}
 use Rattle.rules.specs.Requests.{confirm}
-use Rattle.rules.specs.Registration.{pending, seller, buyer, withStatus, mark, alike, confirms, mirrors, accountHour, takes, keepsMargins, brokenHour, covered}
+use Rattle.rules.specs.Registration.{pending, seller, buyer, withStatus, mark, alike, confirms, mirrors, accountHour, takes, keepsMargins, brokenHour, exposure, available, covered}
 use Rattle.rules.specs.Calls.{numberFrom, confirmedNumber, next}
 use Rattle.rules.proofs.Searches.{index-first}
 use Rattle.rules.proofs.RowTests.{Alike, alike-true, passed-confirm}
@@ -29,14 +29,12 @@ use Rattle.rules.proofs.AccountHours.{hour-takes-confirmed}
 use Rattle.book.specs.Layout.{presentAt, rowAt, netAt, statusIn}
 use Rattle.book.specs.Changes.{raised}
 use Rattle.book.specs.Valid.{isBook, bookIn}
-use Rattle.book.specs.Sums.{SumsOf, Tabled, Room, Taken, Holds, Released}
-use Rattle.book.specs.Owned.{concerning}
+use Rattle.book.specs.Sums.{Tabled}
+use Rattle.book.specs.Worth.{saleWorth, exposureWith, Takeable}
 use Rattle.book.proofs.Soundness.{SoundRow}
 use Rattle.book.proofs.StateLaws.{book-is-sound}
-use Rattle.book.proofs.BookRows.{sound-tabled}
-use Rattle.book.proofs.TableLaws.{sums-hold, released-room, sums-marked}
-use Rattle.book.proofs.OwnedLaws.{Among, among, concerns-counterparty, same-concerning, same-mark}
-use Rattle.book.proofs.OwnedTable.{numbered-sound, owned-room}
+use Rattle.book.proofs.BookRows.{sound-tabled, numbered-sound}
+use Rattle.book.proofs.WorthLaws.{with-confirmed}
 use Rattle.registration.specs.Kinds.{decided, Confirming}
 use Rattle.registration.specs.Margins.{brokenBy, broken}
 use Rattle.registration.specs.declared.margins.Broken.the-variants.{Hour, Nowhere}
@@ -46,7 +44,7 @@ use Rattle.registration.proofs.Acceptances.{confirmed-answered}
 use Rattle.registration.proofs.SearchLaws.{find-cong}
 use Rattle.registration.proofs.PendingLaws.{number-high}
 use Rattle.registration.proofs.MarginLaws.{found-hour, found-nowhere}
-use Rattle.registration.proofs.CoverLaws.{same-covered}
+use Rattle.registration.proofs.CoverLaws.{covered-at, sound-takeable, settled-takeable}
 
 -- ---- the row that is named
 
@@ -104,8 +102,8 @@ module _ (s : List ℕ) (q : Request) (r : Row) (h : isBook s ≡ true) (w : Con
   named-sound : SoundRow (bookIn s .setup) r
   named-sound = row-sound s h (confirmedNumber (bookIn s) q) r (w .named) (confirmed-high (bookIn s) q) (w .row)
 
-  pub named-tabled : Tabled r
-  named-tabled = sound-tabled (bookIn s .setup) (book-is-sound s h .setup-sound) r named-sound
+  pub named-takeable : Takeable (bookIn s .setup) r
+  named-takeable = sound-takeable (bookIn s .setup) r named-sound
 
   -- pending, with the other account as its proposer and the calling one as its counterparty
   named-alike : Alike (q .other) (q .account) (q .code) r
@@ -114,9 +112,6 @@ module _ (s : List ℕ) (q : Request) (r : Row) (h : isBook s ≡ true) (w : Con
       let (i, e) = index-named (confirms (bookIn s .part .rows) q) (w .named) in
       let f = index-first (alike (q .other) (q .account) (q .code)) noRow (bookIn s .part .rows) i e in
       rw (w .row, e) (alike-true _ _ _ _ (f .passes))
-
-  pub named-pending : r .status ≡ 1
-  named-pending = eqb-true _ _ (named-alike .is-pending)
 
   -- the calling account is one of the book's, and not the proposer
   pub caller-in-book : (1 ≤ q .account) × (q .account ≤ accountCount (bookIn s .setup))
@@ -134,17 +129,6 @@ module _ (s : List ℕ) (q : Request) (r : Row) (h : isBook s ≡ true) (w : Con
       broken-confirmed (bookIn s .setup) (bookIn s .part .rows) (confirmedNumber (bookIn s) q) (q .account) pend other
       ∙ ap (λ (x : Row). brokenBy (bookIn s .setup) (bookIn s .part .rows) (withStatus 2 x) (q .account)) (sym (w .row))
 
-  -- the rows that concern the caller's operator
-  abbrev own : List Row
-  own = concerning (bookIn s .setup) (operatorOf (bookIn s .setup) (q .account)) (bookIn s .part .rows)
-
-  -- the row is one of them
-  pub named-among : Among own r
-  named-among =
-      let u : Setup = bookIn s .setup in
-      among u (operatorOf u (q .account)) (bookIn s .part .rows) (confirmedNumber (bookIn s) q) r (w .named) (confirmed-high (bookIn s) q) (w .row)
-      (concerns-counterparty u r (q .account) (named-alike .counterparty))
-
   same-terms : mirrors q (nth (bookIn s .part .rows) (confirmedNumber (bookIn s) q) noRow) ≡ true
   same-terms = rw (← w .row) (w .terms)
 
@@ -152,35 +136,19 @@ module _ (s : List ℕ) (q : Request) (r : Row) (h : isBook s ≡ true) (w : Con
     pub trade-energy : trade .quantity .0 ≤ mostEnergy
     trade-energy = rw e (named-sound .quantity-high)
 
-    pub trade-tabled : Tabled trade
-    trade-tabled =
-        let t = named-tabled in
-        rw e (record {
-          proposer-low = t .proposer-low;
-          proposer-high = t .proposer-high;
-          counterparty-low = t .counterparty-low;
-          counterparty-high = t .counterparty-high;
-          first-low = t .first-low;
-          in-order = t .in-order;
-          last-high = t .last-high;
-          quantity-high = t .quantity-high;
-        })
+    -- as a trade it can be taken
+    pub trade-takeable : Takeable (bookIn s .setup) trade
+    trade-takeable = settled-takeable (bookIn s .setup) trade trade-energy (rw e)
 
-    -- ---- the table of sums
+    -- with the trade taken the exposure is that of the rows where it is confirmed, and what the row weighs as one that waits
+    trade-worth : (o : ℕ) → exposureWith (bookIn s .setup) (bookIn s .part .rows) trade o
+        ≡ exposure (bookIn s .setup) (mark (confirmedNumber (bookIn s) q) 2 (bookIn s .part .rows)) o + saleWorth (bookIn s .setup) o r
+    trade-worth o =
+        rw e (with-confirmed (bookIn s .setup) o (bookIn s .part .rows) r (confirmedNumber (bookIn s) q) (w .named) (confirmed-high (bookIn s) q) (w .row) (named-alike .is-pending)
+        (named-sound .proposer-low, named-sound .proposer-high))
 
-    module _ (table : List ℕ) (sums : SumsOf own table) where
-      pub named-held : Holds table r
-      named-held = let m = named-among in sums-hold table (m .number) r sums (m .low) (m .high) (m .row)
-
-      pub trade-room : (after : List ℕ) → Released table after r → Room after 0 (trade .quantity .0)
-      trade-room after f = released-room table after r (trade .quantity .0) f (owned-room s h _ table (trade .quantity .0) sums trade-energy)
-
-      pub trade-sums : (middle after : List ℕ) → length after ≡ 3200 → Released table middle r → Taken middle after trade
-          → SumsOf (mark (named-among .number) 2 own) after
-      trade-sums middle after n f t =
-          let m = named-among in
-          sums-marked table middle after (m .number) 2 r trade sums (m .low) (m .high) (m .row) e
-          (owned-room s h _ table (trade .quantity .0) sums trade-energy) n f t
+    pub trade-freed : (o : ℕ) → saleWorth (bookIn s .setup) o r ≤ exposureWith (bookIn s .setup) (bookIn s .part .rows) trade o
+    trade-freed o = omega (arith, trade-worth o)
 
     -- ---- what the state decides
 
@@ -192,18 +160,17 @@ module _ (s : List ℕ) (q : Request) (r : Row) (h : isBook s ≡ true) (w : Con
         confirm-breaks (bookIn s) q (w .in-registration) i named same-terms k (broken-next ∙ found-hour _ _ _ _ _ k e f)
 
     module _ (kept : Nowhere ≡ broken (brokenBy (bookIn s .setup) (bookIn s .part .rows) trade (q .account))) (t : Bool)
-        (weight : t ≡ covered (bookIn s .setup) (record { guarantees = bookIn s .part .guarantees; rows = mark (named-among .number) 2 own }) (operatorOf (bookIn s .setup) (q .account))) where
+        (weight : t
+        ≡ leb
+        (exposureWith (bookIn s .setup) (bookIn s .part .rows) trade (operatorOf (bookIn s .setup) (q .account)) - saleWorth (bookIn s .setup) (operatorOf (bookIn s .setup) (q .account)) r)
+        (available (bookIn s .setup) (bookIn s .part) (operatorOf (bookIn s .setup) (q .account)))) where
       covered-next : covered (bookIn s .setup) (next confirm (bookIn s) q .part) (operatorOf (bookIn s .setup) (q .account)) ≡ t
       unfolding next
       covered-next =
           let u : Setup = bookIn s .setup in
           let o : ℕ = operatorOf u (q .account) in
           let rows : List Row = bookIn s .part .rows in
-          let n : ℕ = confirmedNumber (bookIn s) q in
-          let m = named-among in
-          sym (weight
-          ∙ same-covered u (bookIn s .part .guarantees) o (mark (m .number) 2 own) (mark n 2 rows)
-          (same-mark u o own rows (m .number) n 2 r (m .low) (m .high) (m .row) (w .named) (confirmed-high (bookIn s) q) (w .row) (same-concerning u o rows)))
+          covered-at u (bookIn s .part .guarantees) rows (mark (confirmedNumber (bookIn s) q) 2 rows) o _ (omega (arith, trade-worth o)) ∙ sym weight
 
       -- 19
       pub trade-uncovered : t ≡ false → decided confirm (bookIn s) q ≡ some Uncovered

@@ -2,7 +2,7 @@
 use Prim.Native.Nat.{ℕ, zero, suc, _+_, _-_, _*_, _≤_}
 use mathlib.Core.Path.{_≡_, sym, ap, _∙_}
 use mathlib.Core.List.{List, map}
-use mathlib.Core.Bool.{Bool, true}
+use mathlib.Core.Bool.{Bool, true, false}
 use native.Mathlib.Omega.{arith}
 use lib.ListN.{length, replicate, length-map, length-replicate}
 use lib.Dec.{leb}
@@ -13,20 +13,21 @@ use Rattle.units.specs.declared.Cents.{Cents}
 use Rattle.rules.specs.declared.Operator.{Operator}
 use Rattle.rules.specs.declared.Row.{Row}
 use Rattle.rules.specs.Basics.{nth, Each, nil, cons}
-use Rattle.rules.specs.Limits.{mostHours, mostGuarantee, thousand, bookSize}
+use Rattle.rules.specs.Limits.{mostHours, mostEnergy, mostGuarantee, thousand, bookSize}
 use Rattle.rules.specs.Books.{Setup, Part, Book, noAccount, maintenanceAt, guaranteeAt, operatorOf, operatorCount, accountCount}
 use Rattle.rules.specs.Opening.{countsIn, operatorsIn, setupOf}
-use Rattle.rules.specs.Registration.{exposure, available, covered}
+use Rattle.rules.specs.Registration.{pending, exposure, available, covered}
 use Rattle.rules.specs.declared.Counts.{Counts}
 use Rattle.rules.proofs.Searches.{each-at}
 use Rattle.setup.specs.Faults.{noOperator}
 use Rattle.book.specs.Layout.{presentAt}
 use Rattle.book.specs.Valid.{isBook, bookIn}
+use Rattle.book.specs.Worth.{Takeable}
+use Rattle.book.proofs.Soundness.{SoundRow}
 use Rattle.book.proofs.SetupRanges.{SoundOperator, maintenance-of}
 use Rattle.book.proofs.ImageReads.{guarantee-read}
 use Rattle.book.proofs.StateLaws.{book-fits, book-is-sound, number-in-book}
 use Rattle.book.proofs.BookRows.{counts-in, setup-in, values-in}
-use Rattle.book.proofs.OwnedLaws.{Same, same-exposure}
 
 maintenance-in-range : {os : List Operator} → Each SoundOperator os → Each (λ m. m ≤ thousand) (map (λ x. x .maintenance) os)
 maintenance-in-range nil = nil
@@ -86,12 +87,6 @@ pub covered-by : (u : Setup) (p : Part) (o g : ℕ) → guaranteeAt (p .guarante
 unfolding covered available
 covered-by u p o g e = rw e
 
--- rows by which the operator's accounts hold the same are covered alike
-pub same-covered : (u : Setup) (gs : List Cents) (o : ℕ) (xs ys : List Row) → Same u o xs ys
-    → covered u (record { guarantees = gs; rows = xs }) o ≡ covered u (record { guarantees = gs; rows = ys }) o
-unfolding covered available
-same-covered u gs o xs ys e = ap (λ (x : ℕ). leb x (guaranteeAt gs o .0 * (thousand - maintenanceAt u o))) (same-exposure u o xs ys e)
-
 -- ---- the operator of a calling account
 
 -- the operator of an account is one of the book's
@@ -100,10 +95,36 @@ pub caller-operator : (s : List ℕ) (a : ℕ) → isBook s ≡ true → 1 ≤ a
 caller-operator s zero h low high = absurd (omega arith)
 caller-operator s (suc i) h low high = let x = each-at noAccount i (values-in s h .accounts-sound) (omega arith) in (x .operator-low, x .operator-high)
 
--- the account's operator is covered by its guarantee in force
-pub caller-covered : (u : Setup) (gs : List Cents) (rows : List Row) (a o : ℕ) (g : Cents) (t : Bool) → o ≡ operatorOf u a → g ≡ guaranteeAt gs o
-    → t ≡ leb (exposure u rows o) (g .0 * (thousand - maintenanceAt u o))
-    → t ≡ covered u (record { guarantees = gs; rows = rows }) (operatorOf u a)
-caller-covered u gs rows a o g t e f h =
-    let p : Part = record { guarantees = gs; rows = rows } in
-    h ∙ sym (covered-by u p o (g .0) (ap (λ (x : Cents). x .0) (sym f))) ∙ ap (covered u p) e
+-- ---- exposure and what is available
+
+-- what is available of the guarantee in force
+pub in-force : (u : Setup) (p : Part) (o : ℕ) (g : Cents) → g ≡ guaranteeAt (p .guarantees) o → g .0 * (thousand - maintenanceAt u o) ≡ available u p o
+unfolding available
+in-force u p o g e = rw e
+
+-- rows of this exposure are covered where it is at most what is available, which turns on the guarantees alone
+pub covered-at : (u : Setup) (gs : List Cents) (rows after : List Row) (o owed : ℕ) → owed ≡ exposure u after o
+    → covered u (record { guarantees = gs; rows = after }) o ≡ leb owed (available u (record { guarantees = gs; rows = rows }) o)
+unfolding covered available
+covered-at u gs rows after o owed e = rw e
+
+-- a row of a book can be taken
+pub sound-takeable : (u : Setup) (r : Row) → SoundRow u r → Takeable u r
+sound-takeable u r s =
+    record {
+      quantity-high = s .quantity-high;
+      proposer-known = λ e. (s .proposer-low, s .proposer-high);
+      hours-known = λ e. (s .first-low, s .in-order, s .last-high);
+    }
+
+-- and so can a trade that does not wait
+pub settled-takeable : (u : Setup) (r : Row) → r .quantity .0 ≤ mostEnergy → pending r ≡ false → Takeable u r
+settled-takeable u r l f =
+    record {
+      quantity-high = l;
+      proposer-known = λ e. absurd (not-both e f);
+      hours-known = λ e. absurd (not-both e f);
+    }
+  where
+    not-both : {t : Bool} → t ≡ true → t ≡ false → ⊥
+    not-both e f = let z : true ≡ false = sym e ∙ f in let y : _≡_ {A = ℕ} 0 1 = cc in omega arith

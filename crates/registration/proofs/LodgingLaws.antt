@@ -1,4 +1,4 @@
--- A guarantee replaced: the rows stand, so that the exposure is that of the present rows that concern the operator, and only the 8 bytes of the guarantee change.
+-- A guarantee replaced: the rows stand, so that the exposure is that of the present ones, and only the 8 bytes of the guarantee change.
 use Prim.Native.Nat.{ℕ, zero, suc, _+_, _-_, _*_, _≤_}
 use mathlib.Core.Path.{_≡_, refl, sym, ap, _∙_}
 use mathlib.Core.List.{List}
@@ -18,19 +18,19 @@ use Rattle.rules.specs.declared.Refusal.the-variants.{Uncovered}
 use Rattle.rules.specs.Basics.{bit, put}
 use Rattle.rules.specs.Limits.{mostHours, mostGuarantee, thousand, bookSize}
 use Rattle.rules.specs.Verdicts.{lowest, accepted}
-use Rattle.rules.specs.Books.{Book, countsOf, maintenanceAt, guaranteeAt, operatorCount}
+use Rattle.rules.specs.Books.{Book, noRow, countsOf, maintenanceAt, guaranteeAt, operatorCount}
 use Rattle.rules.specs.Requests.{guarantee, inRange}
-use Rattle.rules.specs.Registration.{exposure, covered}
+use Rattle.rules.specs.Registration.{covered}
 use Rattle.rules.specs.Calls.{next, given, stateChecks}
 use Rattle.rules.proofs.Tests.{within-true}
 use Rattle.rules.proofs.Passed.{field-in-range}
 use Rattle.book.specs.Layout.{presentAt}
 use Rattle.book.specs.Valid.{isBook, bookIn}
-use Rattle.book.specs.Owned.{concerning}
+use Rattle.book.specs.Worth.{exposureWith}
 use Rattle.book.proofs.BookWrites.{write-guarantee}
 use Rattle.book.proofs.KeepsKinds.{guarantee-keeps}
 use Rattle.book.proofs.StateLaws.{book-image, book-fits, book-is-sound}
-use Rattle.book.proofs.OwnedLaws.{owned-exposure}
+use Rattle.book.proofs.WorthLaws.{with-none}
 use Rattle.registration.specs.Kinds.{decided, Ready}
 use Rattle.registration.proofs.Decisions.{decided-clear}
 use Rattle.registration.proofs.Readiness.{bare, ready-input}
@@ -55,24 +55,24 @@ put-same gs zero g l h = absurd (omega arith)
 put-same gs (suc i) g l h = getD-set-same gs i g (cents 0) (omega arith)
 
 module _ (b : Book) (q : Request) (first : b .phase ≡ 1) (low : 1 ≤ q .operator) (high : q .operator ≤ length (b .part .guarantees)) where
-  -- by the rows that concern the operator
+  -- with no trade taken
   lodging-covered : covered (b .setup) (next guarantee b q .part) (q .operator)
-      ≡ leb (exposure (b .setup) (concerning (b .setup) (q .operator) (b .part .rows)) (q .operator)) (q .guarantee .0 * (thousand - maintenanceAt (b .setup) (q .operator)))
+      ≡ leb (exposureWith (b .setup) (b .part .rows) noRow (q .operator)) (q .guarantee .0 * (thousand - maintenanceAt (b .setup) (q .operator)))
   unfolding next
   lodging-covered =
       covered-by (b .setup) (next guarantee b q .part) (q .operator) (q .guarantee .0)
       (ap (λ (g : Cents). g .0) (put-same (b .part .guarantees) (q .operator) (q .guarantee) low high))
-      ∙ ap (λ (x : ℕ). leb x (q .guarantee .0 * (thousand - maintenanceAt (b .setup) (q .operator)))) (sym (owned-exposure (b .setup) (q .operator) (b .part .rows)))
+      ∙ ap (λ (x : ℕ). leb x (q .guarantee .0 * (thousand - maintenanceAt (b .setup) (q .operator)))) (sym (with-none (b .setup) (q .operator) (b .part .rows)))
 
   -- 19
   pub too-little-lodged : (t : Bool)
-      → t ≡ leb (exposure (b .setup) (concerning (b .setup) (q .operator) (b .part .rows)) (q .operator)) (q .guarantee .0 * (thousand - maintenanceAt (b .setup) (q .operator)))
+      → t ≡ leb (exposureWith (b .setup) (b .part .rows) noRow (q .operator)) (q .guarantee .0 * (thousand - maintenanceAt (b .setup) (q .operator)))
       → t ≡ false → decided guarantee b q ≡ some Uncovered
   unfolding decided stateChecks lowest
   too-little-lodged t e f = rw (eq-eqb _ 1 first, lodging-covered ∙ sym e ∙ f)
 
   pub enough-lodged : (t : Bool)
-      → t ≡ leb (exposure (b .setup) (concerning (b .setup) (q .operator) (b .part .rows)) (q .operator)) (q .guarantee .0 * (thousand - maintenanceAt (b .setup) (q .operator)))
+      → t ≡ leb (exposureWith (b .setup) (b .part .rows) noRow (q .operator)) (q .guarantee .0 * (thousand - maintenanceAt (b .setup) (q .operator)))
       → t ≡ true → decided guarantee b q ≡ none
   unfolding decided stateChecks lowest
   enough-lodged t e f = rw (eq-eqb _ 1 first, lodging-covered ∙ sym e ∙ f)

@@ -1,23 +1,30 @@
--- What the search for a broken margin asks at each hour: the hour read off the table of a book's rows has room for the trade, and the
--- margins of the account that took it are the definition's test.
+-- What the search for a broken margin asks at each hour: the hour has room for the trade, and with its net position by itself the margins
+-- of the account that took it are the definition's test.
 use Prim.Native.Nat.{ℕ, _+_, _^_, _≤_, _<_}
 use mathlib.Core.Path.{_≡_, refl, sym, ap, _∙_}
 use mathlib.Core.List.{List}
 use mathlib.Core.Option.{Option, none, some}
 use mathlib.Core.Bool.{Bool, true, not}
 use native.Mathlib.Omega.{arith}
+use lib.Dec.{leb}
+use borrow.Author.Tests.{le-leb, leb-true}
 use Rattle.rules.specs.declared.Account.{Account}
 use Rattle.rules.specs.declared.AccountHour.{AccountHour}
 use Rattle.rules.specs.declared.Counts.{Counts}
 use Rattle.rules.specs.declared.Row.{Row}
 use Rattle.rules.specs.Basics.{find, nth, counting}
-use Rattle.rules.specs.Limits.{mostHours, mostAccounts}
+use Rattle.rules.specs.Limits.{mostHours, mostAccounts, mostEnergy}
 use Rattle.rules.specs.Books.{Setup, noAccount, accountAt, accountCount}
 use Rattle.rules.specs.Opening.{countsIn, accountsIn, setupOf}
-use Rattle.rules.specs.Registration.{accountHour, takes, keepsMargins}
+use Rattle.rules.specs.Registration.{netOf, accountHour, takes, keepsMargins}
+use Rattle.rules.proofs.Tests.{test-same}
 use Rattle.book.specs.Valid.{isBook, bookIn}
-use Rattle.book.specs.Sums.{cellOf, InTable, SumsOf, Room}
-use Rattle.book.proofs.StateLaws.{book-is-sound}
+use Rattle.book.specs.Netted.{netted}
+use Rattle.book.specs.Waits.{waitCell, WaitsOf, nettedHour}
+use Rattle.book.proofs.StateLaws.{book-is-sound, row-count-high}
+use Rattle.book.proofs.ReadingLaws.{net-near}
+use Rattle.book.proofs.NettedLaws.{netted-difference}
+use Rattle.book.proofs.WaitLaws.{side-hour}
 use Rattle.book.proofs.BookRows.{counts-in, setup-in}
 use Rattle.registration.specs.Margins.{brokenBy, broken}
 use Rattle.registration.specs.declared.margins.Broken.the-variants.{Hour, Nowhere}
@@ -39,23 +46,49 @@ module _ (s : List ℕ) (h : isBook s ≡ true) where
   pub hours-few : bookIn s .setup .hours ≤ mostHours
   hours-few = book-is-sound s h .setup-sound .hours-high
 
-  pub hour-in-table : (a k : ℕ) → 1 ≤ a → a ≤ accountCount (bookIn s .setup) → 1 ≤ k → k ≤ bookIn s .setup .hours → InTable a k
-  hour-in-table a k al ah kl kh =
-      record { account-low = al; account-high = accounts-read a ah .1; hour-low = kl; hour-high = omega (arith, hours-few) }
+  -- the net position of an hour by itself, and what waits, have room for a trade
+  pub hour-room : (waits : List ℕ) (q a k : ℕ) (x : AccountHour) → (1 ≤ a) × (a ≤ accountCount (bookIn s .setup)) → (1 ≤ k) × (k ≤ bookIn s .setup .hours)
+      → WaitsOf (bookIn s .part .rows) a waits → q ≤ mostEnergy → x ≡ nettedHour (bookIn s .part .rows) a k
+      → (x .net .bought .0 + q < 2 ^ 32) × (x .net .sold .0 + q < 2 ^ 32) × (x .sales .0 + q < 2 ^ 32) × (x .purchases .0 + q < 2 ^ 32)
+  unfolding netted
+  hour-room waits q a k x i j w l e =
+      let near = net-near s h a k i j in
+      let few = row-count-high s h in
+      let sales = w .waits-at 1 k (side-hour s h 1 k (omega arith) (omega arith) j) in
+      let purchases = w .waits-at 2 k (side-hour s h 2 k (omega arith) (omega arith) j) in
+      rw e (
+        omega (arith, near .1),
+        omega (arith, near .0),
+        omega (arith, sales, w .bounded (waitCell 1 k)),
+        omega (arith, purchases, w .bounded (waitCell 2 k)),
+      )
 
 -- ---- an hour
 
--- so has each account hour that is read off it
-pub hour-room : (rows : List Row) (table : List ℕ) (q a h : ℕ) (x : AccountHour) → SumsOf rows table → Room table 0 q → InTable a h
-    → x ≡ accountHour rows a h
-    → (x .net .bought .0 + q < 2 ^ 32) × (x .net .sold .0 + q < 2 ^ 32) × (x .sales .0 + q < 2 ^ 32) × (x .purchases .0 + q < 2 ^ 32)
-hour-room rows table q a h x s room i e =
-    rw e (
-      omega (arith, room (cellOf 0 a h) (omega arith), s .bought-at a h i),
-      omega (arith, room (cellOf 1 a h) (omega arith), s .sold-at a h i),
-      omega (arith, room (cellOf 2 a h) (omega arith), s .sales-at a h i),
-      omega (arith, room (cellOf 3 a h) (omega arith), s .purchases-at a h i),
+-- two comparisons whose sides differ alike
+same-leb : (a b c d : ℕ) → a + d ≡ c + b → leb a b ≡ leb c d
+same-leb a b c d e =
+    test-same (leb a b) (leb c d)
+    (λ t. let l = leb-true a b t in le-leb c d (omega arith))
+    (λ t. let l = leb-true c d t in le-leb a b (omega arith))
+
+-- hours whose net positions have one difference, and on which the same waits, keep the same margins
+keeps-alike : (owner : Account) (x y : AccountHour) → x .sales .0 ≡ y .sales .0 → x .purchases .0 ≡ y .purchases .0
+    → x .net .bought .0 + y .net .sold .0 ≡ y .net .bought .0 + x .net .sold .0 → keepsMargins owner x ≡ keepsMargins owner y
+unfolding keepsMargins
+keeps-alike owner x y e d n =
+    rw (
+      same-leb (x .net .sold .0 + x .sales .0) (x .net .bought .0 + owner .lower .0) (y .net .sold .0 + y .sales .0) (y .net .bought .0 + owner .lower .0) (omega arith),
+      same-leb (x .net .bought .0 + x .purchases .0) (x .net .sold .0 + owner .upper .0) (y .net .bought .0 + y .purchases .0) (y .net .sold .0 + owner .upper .0) (omega arith),
     )
+
+-- so it is with the net position by itself
+keeps-netted : (owner : Account) (rows : List Row) (trade : Row) (a h : ℕ)
+    → keepsMargins owner (takes a h (nettedHour rows a h) trade) ≡ keepsMargins owner (takes a h (accountHour rows a h) trade)
+unfolding takes
+keeps-netted owner rows trade a h =
+    keeps-alike owner (takes a h (nettedHour rows a h) trade) (takes a h (accountHour rows a h) trade) refl refl
+    (omega (arith, netted-difference (netOf rows a h)))
 
 -- the account breaks a margin in the hour once it took the trade
 unfoldable pub breaks : Setup → List Row → Row → ℕ → ℕ → Bool
@@ -68,10 +101,11 @@ broken-by-hours u rows trade a = refl
 
 -- the test as code makes it
 pub breaks-tested : (u : Setup) (rows : List Row) (trade : Row) (a h : ℕ) (owner : Account) (held after : AccountHour) (t : Bool)
-    → owner ≡ accountAt u a → held ≡ accountHour rows a h → after ≡ takes a h held trade → t ≡ keepsMargins owner after
+    → owner ≡ accountAt u a → held ≡ nettedHour rows a h → after ≡ takes a h held trade → t ≡ keepsMargins owner after
     → breaks u rows trade a h ≡ not t
 unfolding breaks
-breaks-tested u rows trade a h owner held after t eo eh ea et = rw (← eo, ← eh, ← ea, ← et)
+breaks-tested u rows trade a h owner held after t eo eh ea et =
+    ap not (sym (keeps-netted (accountAt u a) rows trade a h)) ∙ rw (← eo, ← eh, ← ea, ← et)
 
 -- ---- what the search says, of a trade that is this one
 

@@ -7,6 +7,7 @@ use mathlib.Core.Option.{none, some}
 use mathlib.Core.Bool.{Bool, true, false, not}
 use native.Mathlib.Omega.{arith}
 use lib.ListN.{length}
+use lib.Dec.{leb}
 use borrow.Author.Tests.{eq-eqb, le-leb, lt-leb}
 use Rattle.wire.specs.Numbers.{le}
 use Rattle.wire.specs.Regions.{splice}
@@ -19,37 +20,32 @@ use Rattle.rules.specs.Limits.{mostHours, mostRows, bookSize}
 use Rattle.rules.specs.Verdicts.{lowest, accepted}
 use Rattle.rules.specs.Books.{Setup, Book, accountAt, operatorOf}
 use Rattle.rules.specs.Requests.{register}
-use Rattle.rules.specs.Registration.{alike, proposed, accountHour, takes, keepsMargins, brokenHour, covered}
+use Rattle.rules.specs.Registration.{alike, proposed, accountHour, takes, keepsMargins, brokenHour, available, covered}
 use Rattle.rules.specs.Calls.{next, given, stateChecks}
 use Rattle.rules.proofs.AccountHours.{hour-takes}
 use Rattle.rules.proofs.Passed.{passed-15}
 use Rattle.book.specs.Layout.{rowWidths, presentAt, rowAt, rowCountAt}
 use Rattle.book.specs.Image.{rowValues, rowBytes}
 use Rattle.book.specs.Valid.{isBook, bookIn}
-use Rattle.book.specs.Sums.{Tabled}
-use Rattle.book.specs.Owned.{concerning}
+use Rattle.book.specs.Worth.{exposureWith}
 use Rattle.book.proofs.Soundness.{SoundRow}
 use Rattle.book.proofs.Sizes.{row-small}
 use Rattle.book.proofs.BookWrites.{write-register}
 use Rattle.book.proofs.KeepsKinds.{proposed-sound, register-keeps}
 use Rattle.book.proofs.StateLaws.{book-image, book-fits, book-is-sound}
-use Rattle.book.proofs.BookRows.{sound-tabled}
-use Rattle.book.proofs.OwnedLaws.{same-concerning, same-snoc}
+use Rattle.book.proofs.WorthLaws.{with-proposed}
 use Rattle.registration.specs.Kinds.{decided, Ready}
 use Rattle.registration.specs.Margins.{brokenBy}
 use Rattle.registration.proofs.Decisions.{decided-clear}
 use Rattle.registration.proofs.Answers.{Answered, accepted-answered}
 use Rattle.registration.proofs.Readiness.{bare, ready-input}
 use Rattle.registration.proofs.SearchLaws.{find-cong}
-use Rattle.registration.proofs.CoverLaws.{same-covered}
+use Rattle.registration.proofs.CoverLaws.{covered-at}
 
 -- ---- a request that is ready
 
 pub ready-row : (b : Book) (q : Request) → Ready register b q → SoundRow (b .setup) (proposed q)
 ready-row b q r = proposed-sound b bare q (sym (r .of-kind)) (r .code-fits) (ready-input register b q r bare refl)
-
-pub ready-tabled : (s : List ℕ) (q : Request) → isBook s ≡ true → Ready register (bookIn s) q → Tabled (proposed q)
-ready-tabled s q h r = sound-tabled (bookIn s .setup) (book-is-sound s h .setup-sound) (proposed q) (ready-row (bookIn s) q r)
 
 -- its values fit their bytes
 pub ready-fits : (s : List ℕ) (q : Request) (r : Row) → isBook s ≡ true → Ready register (bookIn s) q → r ≡ proposed q → Small rowWidths (rowValues r)
@@ -91,27 +87,25 @@ module _ (b : Book) (q : Request) (first : b .phase ≡ 1) where
       margin-breaks h e = rw (eq-eqb _ 1 first, alone, lt-leb mostRows (length (b .part .rows)) few, broken-next ∙ e)
 
       module _ (kept : brokenBy (b .setup) (b .part .rows) (proposed q) (q .account) ≡ none) where
-        -- by the rows that concern the caller's operator, and the proposed one
+        -- its exposure is that of the rows with the proposed one
         covered-next : covered (b .setup) (next register b q .part) (operatorOf (b .setup) (q .account))
-            ≡ covered (b .setup) (record { guarantees = b .part .guarantees; rows = concerning (b .setup) (operatorOf (b .setup) (q .account)) (b .part .rows) ++ proposed q ∷ [] }) (operatorOf (b .setup) (q .account))
+            ≡ leb (exposureWith (b .setup) (b .part .rows) (proposed q) (operatorOf (b .setup) (q .account))) (available (b .setup) (b .part) (operatorOf (b .setup) (q .account)))
         unfolding next
         covered-next =
             let u : Setup = b .setup in
             let o : ℕ = operatorOf u (q .account) in
-            let rows : List Row = b .part .rows in
-            sym (same-covered u (b .part .guarantees) o (concerning u o rows ++ proposed q ∷ []) (rows ++ proposed q ∷ [])
-            (same-snoc u o (concerning u o rows) rows (proposed q) (same-concerning u o rows)))
+            covered-at u (b .part .guarantees) (b .part .rows) (b .part .rows ++ proposed q ∷ []) o _ (with-proposed u o (b .part .rows) (proposed q))
 
         -- 19
         pub row-uncovered : (t : Bool)
-            → t ≡ covered (b .setup) (record { guarantees = b .part .guarantees; rows = concerning (b .setup) (operatorOf (b .setup) (q .account)) (b .part .rows) ++ proposed q ∷ [] }) (operatorOf (b .setup) (q .account))
+            → t ≡ leb (exposureWith (b .setup) (b .part .rows) (proposed q) (operatorOf (b .setup) (q .account))) (available (b .setup) (b .part) (operatorOf (b .setup) (q .account)))
             → t ≡ false → decided register b q ≡ some Uncovered
         unfolding decided stateChecks lowest
         row-uncovered t e f =
             rw (eq-eqb _ 1 first, alone, lt-leb mostRows (length (b .part .rows)) few, broken-next ∙ kept, covered-next ∙ sym e ∙ f)
 
         pub row-covered : (t : Bool)
-            → t ≡ covered (b .setup) (record { guarantees = b .part .guarantees; rows = concerning (b .setup) (operatorOf (b .setup) (q .account)) (b .part .rows) ++ proposed q ∷ [] }) (operatorOf (b .setup) (q .account))
+            → t ≡ leb (exposureWith (b .setup) (b .part .rows) (proposed q) (operatorOf (b .setup) (q .account))) (available (b .setup) (b .part) (operatorOf (b .setup) (q .account)))
             → t ≡ true → decided register b q ≡ none
         unfolding decided stateChecks lowest
         row-covered t e f =

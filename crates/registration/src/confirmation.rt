@@ -3,23 +3,25 @@ ghost use mathlib.Core.Path.{_≡_};
 ghost use mathlib.Core.Bool.{true};
 ghost use Prim.Native.Nat.{_+_, _-_, _^_, _≤_};
 ghost use lib.ListN.{length};
+ghost use lib.Dec.{leb};
 ghost use Rattle.wire.specs.Numbers.{le};
 ghost use Rattle.wire.specs.Regions.{splice};
 ghost use Rattle.wire.specs.Parts.{sweep};
 ghost use Rattle.rules.specs.Basics.{nth};
 ghost use Rattle.rules.specs.Limits.{mostRows, mostHours, bookSize};
-ghost use Rattle.rules.specs.Books.{noRow};
+ghost use Rattle.rules.specs.Books.{noRow, operatorOf, accountCount};
 ghost use Rattle.rules.specs.Verdicts.{checked};
 ghost use Rattle.rules.specs.Requests.{confirm};
-ghost use Rattle.rules.specs.Registration.{seller, buyer, withStatus, mirrors};
+ghost use Rattle.rules.specs.Registration.{seller, buyer, withStatus, mirrors, available};
 ghost use Rattle.rules.specs.Calls.{confirmedNumber};
 ghost use Rattle.book.specs.Layout.{presentAt, rowAt, statusIn, netAt};
 ghost use Rattle.book.specs.Changes.{raised};
 ghost use Rattle.book.specs.Valid.{isBook, bookIn, bookBytes};
 ghost use Rattle.book.specs.Sums.{Tabled};
+ghost use Rattle.book.specs.Worth.{saleWorth, exposureWith, Takeable};
 ghost use Rattle.registration.specs.Kinds.{decided, outcomeOn, bookAfter, Ready, Confirming};
-use crate::cover::caller_covered;
-use crate::cover::caller_sums;
+use crate::cover::caller_operator;
+use crate::cover::in_force_covers;
 use crate::margins::Broken;
 use crate::margins::broken_hour;
 use crate::positions::move_nets;
@@ -30,8 +32,8 @@ use book::state::CONFIRMED;
 use book::state::REGISTRATION;
 use book::state::phase;
 use book::state::row_place;
-use book::sums::release_row;
-use book::sums::take_row;
+use book::worth::exposure_with;
+use book::worth::sale_worth;
 use rules::Checked;
 use rules::Outcome;
 use rules::Refusal;
@@ -84,19 +86,27 @@ fn confirmed_row(r: Row) -> Row
     }
 }
 
+// Whether the guarantee of the account's operator covers its exposure once the row is a trade: it is taken, and waits no longer.
+fn trade_covered(book: &[u8], row: Row, trade: Row, number: u8) -> bool
+    requires { ⌜ (isBook (now book) ≡ true) × Takeable (bookIn (now book) .setup) row × Takeable (bookIn (now book) .setup) trade × (saleWorth (bookIn (now book) .setup) (operatorOf (bookIn (now book) .setup) number) row ≤ exposureWith (bookIn (now book) .setup) (bookIn (now book) .part .rows) trade (operatorOf (bookIn (now book) .setup) number)) × (1 ≤ number) × (number ≤ accountCount (bookIn (now book) .setup)) ⌝ }
+    ensures { λ r. ⌜ r ≡ leb (exposureWith (bookIn (now (book .entry)) .setup) (bookIn (now (book .entry)) .part .rows) trade (operatorOf (bookIn (now (book .entry)) .setup) number) - saleWorth (bookIn (now (book .entry)) .setup) (operatorOf (bookIn (now (book .entry)) .setup) number) row) (available (bookIn (now (book .entry)) .setup) (bookIn (now (book .entry)) .part) (operatorOf (bookIn (now (book .entry)) .setup) number)) ⌝ }
+{
+    let operator = caller_operator(book, number);
+    let with = exposure_with(book, operator, trade);
+    let freed = sale_worth(book, operator, row);
+    in_force_covers(book, with.less(freed), operator)
+}
+
 // What confirm is refused for where it mirrors the row that it names: margins and exposure as they would be.
 fn weighed(book: &[u8], request: Request, row: Row) -> Checked
     requires { ⌜ (isBook (now book) ≡ true) × Confirming (bookIn (now book)) request row ⌝ }
     ensures { λ r. ⌜ r ≡ checked (decided confirm (bookIn (now (book .entry))) request) ⌝ }
 {
     let trade = confirmed_row(row);
-    let mut table = caller_sums(book, request.account);
-    if let Broken::Hour(hour) = broken_hour(book, &table, trade, request.account) {
+    if let Broken::Hour(hour) = broken_hour(book, trade, request.account) {
         return Checked::Fails(Refusal::MarginBroken { hour });
     }
-    release_row(&mut table, row);
-    take_row(&mut table, trade);
-    if caller_covered(book, &table, request.account) {
+    if trade_covered(book, row, trade, request.account) {
         return Checked::Clear;
     }
     Checked::Fails(Refusal::Uncovered)

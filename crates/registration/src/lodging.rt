@@ -8,9 +8,10 @@ ghost use Rattle.registration.specs.Kinds.{decided, outcomeOn, bookAfter
 use crate::cover::is_covered;
 use book::layout::GUARANTEE_WIDTH;
 use book::layout::PRESENT_AT;
-use book::owned::operator_sums;
 use book::state::REGISTRATION;
 use book::state::phase;
+use book::worth::exposure_with;
+use book::worth::no_trade;
 use rules::Checked;
 use rules::Outcome;
 use rules::Refusal;
@@ -27,8 +28,8 @@ fn guarantee_fault(book: &[u8], request: Request) -> Checked
     if phase(book) != REGISTRATION {
         return Checked::Fails(Refusal::WrongPhase);
     }
-    let table = operator_sums(book, request.operator);
-    if is_covered(book, &table, request.guarantee, request.operator) {
+    let owed = exposure_with(book, request.operator, no_trade());
+    if is_covered(book, owed, request.guarantee, request.operator) {
         return Checked::Clear;
     }
     Checked::Fails(Refusal::Uncovered)

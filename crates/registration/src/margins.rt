@@ -3,13 +3,14 @@ ghost use mathlib.Core.Path.{_≡_};
 ghost use mathlib.Core.Bool.{true};
 ghost use Prim.Native.Nat.{_≤_};
 ghost use Rattle.rules.specs.Limits.{mostEnergy};
-ghost use Rattle.rules.specs.Books.{operatorOf, accountCount};
+ghost use Rattle.rules.specs.Books.{accountCount};
 ghost use Rattle.book.specs.Valid.{isBook, bookIn};
-ghost use Rattle.book.specs.Sums.{SumsOf};
-ghost use Rattle.book.specs.Owned.{concerning};
+ghost use Rattle.book.specs.Waits.{WaitsOf};
 ghost use Rattle.registration.specs.Margins.{brokenBy, broken};
 use book::margins::keeps_margins;
-use book::sums::account_hour;
+use book::waits::fill_waits;
+use book::waits::held_hour;
+use book::waits::no_waits;
 use rules::Row;
 use setup::counts::counts;
 use setup::entries::account;
@@ -20,10 +21,9 @@ pub enum Broken {
     Nowhere,
 }
 
-// The lowest hour in which the account of that number breaks a margin once it took the trade. The table is that of the rows that
-// concern its operator.
-pub fn broken_hour(book: &[u8], table: &[u32], trade: Row, number: u8) -> Broken
-    requires { ⌜ (isBook (now book) ≡ true) × SumsOf (concerning (bookIn (now book) .setup) (operatorOf (bookIn (now book) .setup) number) (bookIn (now book) .part .rows)) (now table) × (trade .quantity .0 ≤ mostEnergy) × (1 ≤ number) × (number ≤ accountCount (bookIn (now book) .setup)) ⌝ }
+// The lowest hour in which the account breaks a margin once it took the trade, by what waits on it.
+fn first_broken(book: &[u8], waits: &[u32], trade: Row, number: u8) -> Broken
+    requires { ⌜ (isBook (now book) ≡ true) × WaitsOf (bookIn (now book) .part .rows) number (now waits) × (trade .quantity .0 ≤ mostEnergy) × (1 ≤ number) × (number ≤ accountCount (bookIn (now book) .setup)) ⌝ }
     ensures { λ r. ⌜ r ≡ broken (brokenBy (bookIn (now (book .entry)) .setup) (bookIn (now (book .entry)) .part .rows) trade number) ⌝ }
 {
     let n = counts(book);
@@ -33,7 +33,7 @@ pub fn broken_hour(book: &[u8], table: &[u32], trade: Row, number: u8) -> Broken
         if n.hours < hour {
             break Broken::Nowhere;
         }
-        let held = account_hour(table, number, hour);
+        let held = held_hour(book, waits, number, hour);
         let after = held.take(trade, number, hour);
         if keeps_margins(owner, after) {
             hour = hour + 1;
@@ -42,4 +42,14 @@ pub fn broken_hour(book: &[u8], table: &[u32], trade: Row, number: u8) -> Broken
         }
     };
     found
+}
+
+// The lowest hour in which the account of that number breaks a margin once it took the trade.
+pub fn broken_hour(book: &[u8], trade: Row, number: u8) -> Broken
+    requires { ⌜ (isBook (now book) ≡ true) × (trade .quantity .0 ≤ mostEnergy) × (1 ≤ number) × (number ≤ accountCount (bookIn (now book) .setup)) ⌝ }
+    ensures { λ r. ⌜ r ≡ broken (brokenBy (bookIn (now (book .entry)) .setup) (bookIn (now (book .entry)) .part .rows) trade number) ⌝ }
+{
+    let mut waits = no_waits();
+    fill_waits(&mut waits, book, number);
+    first_broken(book, &waits, trade, number)
 }

@@ -1,8 +1,9 @@
 // Register: makes a pending row with the next number.
 ghost use mathlib.Core.Path.{_≡_};
 ghost use mathlib.Core.Bool.{true, false};
-ghost use Prim.Native.Nat.{_+_, _*_, _<_};
+ghost use Prim.Native.Nat.{_+_, _*_, _≤_, _<_};
 ghost use lib.ListN.{length};
+ghost use lib.Dec.{leb};
 ghost use Rattle.wire.specs.Numbers.{le};
 ghost use Rattle.wire.specs.Regions.{splice};
 ghost use Rattle.wire.specs.Parts.{Small};
@@ -10,13 +11,15 @@ ghost use Rattle.rules.specs.Basics.{any};
 ghost use Rattle.rules.specs.Limits.{mostRows, bookSize};
 ghost use Rattle.rules.specs.Verdicts.{checked};
 ghost use Rattle.rules.specs.Requests.{register};
-ghost use Rattle.rules.specs.Registration.{alike, proposed};
+ghost use Rattle.rules.specs.Books.{operatorOf, accountCount};
+ghost use Rattle.rules.specs.Registration.{alike, proposed, available};
 ghost use Rattle.book.specs.Layout.{rowWidths, presentAt, rowAt, rowCountAt};
 ghost use Rattle.book.specs.Image.{rowValues, rowBytes};
 ghost use Rattle.book.specs.Valid.{isBook, bookIn, bookBytes};
+ghost use Rattle.book.specs.Worth.{exposureWith, Takeable};
 ghost use Rattle.registration.specs.Kinds.{decided, outcomeOn, bookAfter, Ready};
-use crate::cover::caller_covered;
-use crate::cover::caller_sums;
+use crate::cover::caller_operator;
+use crate::cover::in_force_covers;
 use crate::margins::Broken;
 use crate::margins::broken_hour;
 use crate::search::pending_number;
@@ -29,7 +32,7 @@ use book::state::PENDING;
 use book::state::REGISTRATION;
 use book::state::phase;
 use book::state::row_count;
-use book::sums::take_row;
+use book::worth::exposure_with;
 use rules::Checked;
 use rules::Outcome;
 use rules::Refusal;
@@ -64,18 +67,26 @@ fn already_pending(book: &[u8], request: Request) -> bool
     pending_number(book, request.account, request.other, request.code) != 0
 }
 
+// Whether the guarantee of the account's operator covers its exposure once the row is taken.
+fn row_covered(book: &[u8], row: Row, number: u8) -> bool
+    requires { ⌜ (isBook (now book) ≡ true) × Takeable (bookIn (now book) .setup) row × (1 ≤ number) × (number ≤ accountCount (bookIn (now book) .setup)) ⌝ }
+    ensures { λ r. ⌜ r ≡ leb (exposureWith (bookIn (now (book .entry)) .setup) (bookIn (now (book .entry)) .part .rows) row (operatorOf (bookIn (now (book .entry)) .setup) number)) (available (bookIn (now (book .entry)) .setup) (bookIn (now (book .entry)) .part) (operatorOf (bookIn (now (book .entry)) .setup) number)) ⌝ }
+{
+    let operator = caller_operator(book, number);
+    let owed = exposure_with(book, operator, row);
+    in_force_covers(book, owed, operator)
+}
+
 // What register is refused for where its row is no twin and has a number: margins and exposure as they would be.
 fn weighed(book: &[u8], request: Request) -> Checked
     requires { ⌜ (isBook (now book) ≡ true) × Ready register (bookIn (now book)) request × (bookIn (now book) .phase ≡ 1) × (any (alike (request .account) (request .other) (request .code)) (bookIn (now book) .part .rows) ≡ false) × (length (bookIn (now book) .part .rows) < mostRows) ⌝ }
     ensures { λ r. ⌜ r ≡ checked (decided register (bookIn (now (book .entry))) request) ⌝ }
 {
-    let trade = proposed_row(request);
-    let mut table = caller_sums(book, request.account);
-    if let Broken::Hour(hour) = broken_hour(book, &table, trade, request.account) {
+    let row = proposed_row(request);
+    if let Broken::Hour(hour) = broken_hour(book, row, request.account) {
         return Checked::Fails(Refusal::MarginBroken { hour });
     }
-    take_row(&mut table, trade);
-    if caller_covered(book, &table, request.account) {
+    if row_covered(book, row, request.account) {
         return Checked::Clear;
     }
     Checked::Fails(Refusal::Uncovered)

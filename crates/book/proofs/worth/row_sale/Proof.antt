@@ -4,7 +4,7 @@ use native.Mathlib.Omega.{arith}
 use borrow.Author.Needs.{needs}
 use Rattle.book.specs.Worth.{saleWorth}
 use Rattle.book.proofs.StateLaws.{book-length, row-count-high, numbered-row-stands}
-use Rattle.book.proofs.OwnedTable.{numbered-sound}
+use Rattle.book.proofs.BookRows.{numbered-sound}
 use Rattle.book.proofs.WorthParts.{skipped-read, sale-stands, row-takeable}
 use Rattle.book.proofs.worth.row_sale.Statement.{statement}
 use Rattle.book.proofs.worth.row_sale.Tie as tie

@@ -2,12 +2,11 @@
 use mathlib.Core.Path.{ap, _∙_}
 use native.Mathlib.Omega.{arith}
 use Rattle.rules.specs.declared.Counts.{Counts}
-use Rattle.book.proofs.BookRows.{counts-in, setup-tabled}
+use Rattle.book.proofs.BookRows.{counts-in, setup-tabled, owner-stands}
 use Rattle.book.proofs.StateLaws.{book-length}
-use Rattle.book.proofs.OwnedTable.{owner-stands}
 use borrow.Author.Needs.{needs}
-use Rattle.book.proofs.owned.owner.Statement.{statement}
-use Rattle.book.proofs.owned.owner.Tie as tie
+use Rattle.book.proofs.worth.owner.Statement.{statement}
+use Rattle.book.proofs.worth.owner.Tie as tie
 
 sub-get-u8 : tie.Need-sub-get-u8
 sub-get-u8 c = search needs

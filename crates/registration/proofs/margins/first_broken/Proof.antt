@@ -10,16 +10,14 @@ use Rattle.rules.specs.Books.{accountAt}
 use Rattle.book.specs.Valid.{bookIn}
 use Rattle.book.proofs.StateLaws.{book-length}
 use Rattle.book.proofs.BookRows.{setup-tabled}
-use Rattle.book.proofs.OwnedLaws.{owned-hour}
-use Rattle.book.proofs.OwnedTable.{owned-room}
 use Rattle.registration.specs.Margins.{brokenBy, broken}
 use Rattle.registration.proofs.SearchLaws.{find-done, find-same, find-here, find-next}
-use Rattle.registration.proofs.MarginLaws.{hours-read, account-read, accounts-read, hours-few, hour-in-table, hour-room, breaks, broken-by-hours, breaks-tested}
-use Rattle.registration.proofs.margins.broken_hour.Statement.{statement}
-use Rattle.registration.proofs.margins.broken_hour.Tie as tie
+use Rattle.registration.proofs.MarginLaws.{hours-read, account-read, accounts-read, hours-few, hour-room, breaks, broken-by-hours, breaks-tested}
+use Rattle.registration.proofs.margins.first_broken.Statement.{statement}
+use Rattle.registration.proofs.margins.first_broken.Tie as tie
 
 abbrev Inv-loop : tie.InvT-loop
-Inv-loop book table trade number n owner hour₀ hour =
+Inv-loop book waits trade number n owner hour₀ hour =
     let b = bookIn book in
     (n .hours ≡ b .setup .hours)
     × (n .hours ≤ mostHours)
@@ -30,7 +28,7 @@ Inv-loop book table trade number n owner hour₀ hour =
     ≡ find (breaks (b .setup) (b .part .rows) trade number) (counting (n .hours + 1 - hour) hour))
 
 abbrev μ-loop : tie.MeasureT-loop
-μ-loop book table trade number n owner hour₀ hour = n .hours + 1 - hour
+μ-loop book waits trade number n owner hour₀ hour = n .hours + 1 - hour
 
 counts-requires : tie.Need-counts-requires Inv-loop μ-loop
 counts-requires c κs = omega (arith, book-length _ (c .before .before .pre .0))
@@ -52,19 +50,17 @@ loop-holds c =
       broken-by-hours _ _ _ _ ∙ find-same _ _ _ _ (omega (arith, hours)),
     )
 
-account-hour-requires : tie.Need-account-hour-requires Inv-loop μ-loop
-account-hour-requires c κs =
+held-hour-requires : tie.Need-held-hour-requires Inv-loop μ-loop
+held-hour-requires c κs =
     let l = c .before .before .loop in
     let pre = c .before .before .before .before .before .before .before .pre in
-    (pre .1 .whole, hour-in-table _ (pre .0) _ _ (pre .3) (pre .4) (l .inv .3) (omega (arith, l .inv .0)))
+    (pre .0, pre .1, (pre .3, pre .4), (l .inv .3, omega (arith, l .inv .0)))
 
 take-requires : tie.Need-take-requires Inv-loop μ-loop
 take-requires c κs =
     let l = c .before .before .before .loop in
     let pre = c .before .before .before .before .before .before .before .before .pre in
-    hour-room _ _ _ _ _ _ (pre .1) (owned-room _ (pre .0) _ _ _ (pre .1) (pre .2))
-    (hour-in-table _ (pre .0) _ _ (pre .3) (pre .4) (l .inv .3) (omega (arith, l .inv .0)))
-    (c .account-hour .ensures _ (pre .1))
+    hour-room _ (pre .0) _ _ _ _ _ (pre .3, pre .4) (l .inv .3, omega (arith, l .inv .0)) (pre .1) (pre .2) (c .held-hour .ensures)
 
 keeps-margins-requires : tie.Need-keeps-margins-requires Inv-loop μ-loop
 keeps-margins-requires c κs = search needs
@@ -80,10 +76,7 @@ loop-again c =
     let k = c .before in
     let x = k .before .before in
     let l = x .before .before .before .loop in
-    let start = x .before .before .before .before .before .before .before .before in
-    let b = bookIn (start .args .book .now) in
-    let held = x .account-hour .ensures _ (start .pre .1) ∙ owned-hour (b .setup) (b .part .rows) (start .args .number) (l .hour) in
-    let test = breaks-tested _ _ _ _ _ _ _ _ _ (l .inv .2) held (k .before .take .ensures) (k .keeps-margins .ensures) in (
+    let test = breaks-tested _ _ _ _ _ _ _ _ _ (l .inv .2) (x .held-hour .ensures) (k .before .take .ensures) (k .keeps-margins .ensures) in (
       l .inv .0,
       l .inv .1,
       l .inv .2,
@@ -100,14 +93,11 @@ returns-2 c =
     let k = c .before in
     let x = k .before .before in
     let l = x .before .before .before .loop in
-    let start = x .before .before .before .before .before .before .before .before in
-    let b = bookIn (start .args .book .now) in
-    let held = x .account-hour .ensures _ (start .pre .1) ∙ owned-hour (b .setup) (b .part .rows) (start .args .number) (l .hour) in
-    let test = breaks-tested _ _ _ _ _ _ _ _ _ (l .inv .2) held (k .before .take .ensures) (k .keeps-margins .ensures) in
+    let test = breaks-tested _ _ _ _ _ _ _ _ _ (l .inv .2) (x .held-hour .ensures) (k .before .take .ensures) (k .keeps-margins .ensures) in
     ap broken (sym (l .inv .5 ∙ find-here _ _ _ (omega arith) (test ∙ ap not (c .if2 .left))))
 
-pub broken-hour-spec : {M : Type 1} → statement M
-broken-hour-spec =
+pub first-broken-spec : {M : Type 1} → statement M
+first-broken-spec =
     tie.close
     (tie.spec
     Inv-loop
@@ -115,7 +105,7 @@ broken-hour-spec =
     counts-requires
     account-requires
     loop-holds
-    account-hour-requires
+    held-hour-requires
     take-requires
     keeps-margins-requires
     add-hour

@@ -1,0 +1,143 @@
+-- What waits on one account, row by row: what the table holds and what waits of the rows that are left make what waits of all.
+use Prim.Native.Nat.{ℕ, zero, suc, _+_, _-_, _*_, _≤_}
+use mathlib.Core.Path.{_≡_, refl, sym, ap, _∙_}
+use mathlib.Core.List.{List, [], _∷_}
+use mathlib.Core.Bool.{Bool, true, false, _&&_, and-true}
+use native.Mathlib.Nat.{add-zero}
+use native.Mathlib.Omega.{arith}
+use lib.ListN.{length, getD, drop, length-replicate}
+use lib.Seq.{drop-cons, drop-length}
+use lib.Dec.{eqb}
+use borrow.Author.Tests.{eqb-true, eq-eqb}
+use Rattle.wire.specs.Numbers.{numberAt}
+use Rattle.rules.specs.declared.Row.{Row}
+use Rattle.rules.specs.Basics.{if_then_else_, total, nth}
+use Rattle.rules.specs.Limits.{mostEnergy}
+use Rattle.rules.specs.Books.{noRow}
+use Rattle.rules.specs.Registration.{pending, covers, waiting}
+use Rattle.rules.proofs.Tests.{and-both}
+use Rattle.book.specs.Layout.{presentAt, rowAt}
+use Rattle.book.specs.Valid.{isBook, bookIn}
+use Rattle.book.specs.Sums.{cellOf, InTable, Tabled, Raised}
+use Rattle.book.specs.Waits.{waitCell, Waits, WaitsOf, noWaits, WaitTaken}
+use Rattle.book.proofs.SumLaws.{raised-cell, raised-most}
+use Rattle.book.proofs.FillLaws.{zero-at}
+use Rattle.book.proofs.RowBytes.{row-at}
+use Rattle.book.proofs.StateLaws.{book-is-sound, numbered-row-stands}
+
+-- ---- one row
+
+-- an own pending row waits in its hours, on its side
+waits-own : (r : Row) (a side h : ℕ) → r .status ≡ 1 → r .proposer ≡ a
+    → waiting side (r ∷ []) a h ≡ (if covers h r && eqb (r .side) side then r .quantity .0 else 0)
+unfolding waiting total
+waits-own r a side h e d = rw (e, eq-eqb (r .proposer) a d, and-true) (add-zero _)
+
+-- another row does not
+waits-none : (r : Row) (a side h : ℕ) → pending r && eqb (r .proposer) a ≡ false → waiting side (r ∷ []) a h ≡ 0
+unfolding waiting total
+waits-none r a side h e = go (pending r) (covers h r) (eqb (r .proposer) a) (eqb (r .side) side) e
+  where
+    go : (p c o s : Bool) → p && o ≡ false → (if p && c && o && s then r .quantity .0 else 0) + 0 ≡ 0
+    go true true true s z = let y : _≡_ {A = ℕ} 0 1 = cc in absurd (omega arith)
+    go true true false s z = refl
+    go true false o s z = refl
+    go false c o s z = refl
+
+-- a side has its cells as an account has in the first lane
+side-cell : (side h : ℕ) → cellOf 0 side h ≡ waitCell side h
+side-cell side h = omega arith
+
+-- the row's hours raised on its side
+pub taken-own : (before after : List ℕ) (r : Row) (a : ℕ) → Tabled r → 1 ≤ r .side → r .side ≤ 2 → r .status ≡ 1 → r .proposer ≡ a
+    → Raised before after (waitCell (r .side) (r .first)) (r .last - r .first + 1) (r .quantity .0) → WaitTaken before after r a
+taken-own before after r a t sl sh e d w =
+    record {
+      share = λ side h i.
+          let low : InTable (r .side) (r .first) =
+          record { account-low = sl; account-high = omega arith; hour-low = t .first-low; hour-high = omega (arith, t .in-order, t .last-high) } in
+          let high : InTable (r .side) (r .last) =
+          record { account-low = sl; account-high = omega arith; hour-low = omega (arith, t .first-low, t .in-order); hour-high = t .last-high } in
+          let cell : InTable side h =
+          record { account-low = i .side-low; account-high = omega (arith, i .side-high); hour-low = i .hour-low; hour-high = i .hour-high } in
+          let range : Raised before after (cellOf 0 (r .side) (r .first)) (r .last - r .first + 1) (r .quantity .0) = rw (side-cell (r .side) (r .first)) w in
+          (rw (side-cell side h) at (raised-cell 0 (r .side) (r .first) (r .last) 0 side h low high (t .in-order) cell before after (r .quantity .0) range))
+          ∙ ap (λ (x : ℕ). getD before (waitCell side h) 0 + x) (sym (waits-own r a side h e d));
+      grown = λ k. omega (arith, raised-most before after _ _ _ w k, t .quantity-high);
+    }
+
+pub taken-none : (table : List ℕ) (r : Row) (a : ℕ) → pending r && eqb (r .proposer) a ≡ false → WaitTaken table table r a
+taken-none table r a e =
+    record { share = λ side h i. omega (arith, waits-none r a side h e); grown = λ k. omega arith }
+
+-- ---- row by row
+
+-- the table holds what waits of all rows but those that are left, and no cell is above the bound
+pub record Waiting (a : ℕ) (all left : List Row) (table : List ℕ) (most : ℕ) : Type 0 where
+  pub sums : (side h : ℕ) → Waits side h → getD table (waitCell side h) 0 + waiting side left a h ≡ waiting side all a h
+  pub bounded : (k : ℕ) → getD table k 0 ≤ most
+
+waiting-step : (side a h : ℕ) (r : Row) (rows : List Row) → waiting side (r ∷ rows) a h ≡ waiting side (r ∷ []) a h + waiting side rows a h
+unfolding waiting total
+waiting-step side a h r rows = omega arith
+
+waiting-done : (side a h : ℕ) → waiting side [] a h ≡ 0
+unfolding waiting total
+waiting-done side a h = refl
+
+pub length-no-waits : (table : List ℕ) → table ≡ noWaits → length table ≡ 50
+unfolding noWaits
+length-no-waits table e = rw e (length-replicate {A = ℕ} 50 0)
+
+pub waiting-first : (a : ℕ) (rows : List Row) (table : List ℕ) (most : ℕ) → table ≡ noWaits → Waiting a rows rows table most
+unfolding noWaits
+waiting-first a rows table most e =
+    rw e (record { sums = λ side h i. omega (arith, zero-at 50 (waitCell side h)); bounded = λ k. omega (arith, zero-at 50 k) })
+
+pub waiting-next : (a : ℕ) (rows : List Row) (n : ℕ) (before after : List ℕ) → 1 ≤ n → n ≤ length rows → WaitTaken before after (nth rows n noRow) a
+    → Waiting a rows (drop (n - 1) rows) before ((n - 1) * mostEnergy) → Waiting a rows (drop (n + 1 - 1) rows) after ((n + 1 - 1) * mostEnergy)
+waiting-next a rows zero before after low high w f = absurd (omega arith)
+waiting-next a rows (suc i) before after low high w f =
+    let here : suc i - 1 ≡ i = omega arith in
+    let next : suc i + 1 - 1 ≡ suc i = omega arith in
+    let left : Waiting a rows (getD rows i noRow ∷ drop (suc i) rows) before (i * mostEnergy) = rw (here, drop-cons rows i noRow (omega arith)) at f in
+    rw next (record {
+      sums = λ side h j.
+          omega (arith, w .share side h j, left .sums side h j, waiting-step side a h (getD rows i noRow) (drop (suc i) rows));
+      bounded = λ k. omega (arith, w .grown k, left .bounded k);
+    })
+
+pub waiting-last : (a : ℕ) (rows : List Row) (k : ℕ) (table : List ℕ) → k ≡ length rows → length table ≡ 50
+    → Waiting a rows (drop k rows) table (k * mostEnergy) → WaitsOf rows a table
+waiting-last a rows k table e n f =
+    let all : Waiting a rows [] table (length rows * mostEnergy) = rw (e, drop-length rows) at f in
+    record {
+      whole = n;
+      waits-at = λ side h i. omega (arith, all .sums side h i, waiting-done side a h);
+      bounded = λ j. omega (arith, all .bounded j);
+    }
+
+-- ---- a book
+
+-- the proposer of the row of a number stands in its first byte, its status in its last
+pub own-stands : (s : List ℕ) (h : isBook s ≡ true) (n at : ℕ) → 1 ≤ n → n ≤ length (bookIn s .part .rows) → at ≡ presentAt + rowAt (n - 1)
+    → (numberAt s at 1 ≡ nth (bookIn s .part .rows) n noRow .proposer) × (numberAt s (at + 17) 1 ≡ nth (bookIn s .part .rows) n noRow .status)
+own-stands s h n at low high e =
+    let r = sym (row-at s at) ∙ numbered-row-stands s h n at low high e in
+    (ap (λ (x : Row). x .proposer) r, ap (λ (x : Row). x .status) r)
+
+-- the test of the row as code makes it of what it read
+pub own-tested : (x y a status proposer : ℕ) (t : Bool) → status ≡ x → proposer ≡ y → eqb status 1 && eqb proposer a ≡ t → eqb x 1 && eqb y a ≡ t
+own-tested x y a status proposer t e d w = rw (e, d) at w
+
+-- an own row taken
+pub own-taken : (before after : List ℕ) (r : Row) (a : ℕ) → Tabled r → 1 ≤ r .side → r .side ≤ 2 → pending r && eqb (r .proposer) a ≡ true
+    → Raised before after (waitCell (r .side) (r .first)) (r .last - r .first + 1) (r .quantity .0) → WaitTaken before after r a
+own-taken before after r a t sl sh e w =
+    let both = and-both (pending r) (eqb (r .proposer) a) .0 e in
+    taken-own before after r a t sl sh (eqb-true _ _ (both .0)) (eqb-true _ _ (both .1)) w
+
+-- a side and an hour of the set-up have their cell
+pub side-hour : (s : List ℕ) → isBook s ≡ true → (side h : ℕ) → 1 ≤ side → side ≤ 2 → (1 ≤ h) × (h ≤ bookIn s .setup .hours) → Waits side h
+side-hour s b side h low high i =
+    record { side-low = low; side-high = high; hour-low = i .0; hour-high = omega (arith, i .1, book-is-sound s b .setup-sound .hours-high) }

@@ -1,0 +1,78 @@
+-- What the table holds and what waits of the rows of later numbers make what waits of all rows.
+use Prim.Native.Nat.{_+_, _-_, _*_, _≤_}
+use mathlib.Core.Path.{_≡_}
+use native.Mathlib.Omega.{arith}
+use lib.ListN.{length, drop}
+use borrow.Author.Needs.{needs}
+use Rattle.rules.specs.Limits.{mostEnergy, mostRows}
+use Rattle.book.specs.Valid.{bookIn}
+use Rattle.book.proofs.WaitLaws.{Waiting, length-no-waits, waiting-first, waiting-next, waiting-last}
+use Rattle.book.proofs.waits.fill_waits.Statement.{statement}
+use Rattle.book.proofs.waits.fill_waits.Tie as tie
+
+abbrev Inv-loop : tie.InvT-loop
+Inv-loop table₀ book account n number₀ table number =
+    (n ≡ length (bookIn book .part .rows))
+    × (n ≤ mostRows)
+    × (1 ≤ number)
+    × (number ≤ n + 1)
+    × (length table ≡ 50)
+    × Waiting account (bookIn book .part .rows) (drop (number - 1) (bookIn book .part .rows)) table ((number - 1) * mostEnergy)
+
+abbrev μ-loop : tie.MeasureT-loop
+μ-loop table₀ book account n number₀ table number = n + 1 - number
+
+row-count-requires : tie.Need-row-count-requires Inv-loop μ-loop
+row-count-requires c κs = search needs
+
+loop-holds : tie.Need-loop-holds Inv-loop μ-loop
+loop-holds c =
+    let start = c .before .before .before in
+    (c .row-count .ensures .0, c .row-count .ensures .1, search needs, search needs, length-no-waits _ (start .pre .0), waiting-first _ _ _ _ (start .pre .0))
+
+take-own-requires : tie.Need-take-own-requires Inv-loop μ-loop
+take-own-requires c κs =
+    let l = c .before .before .loop in
+    let start = c .before .before .before .before .before .before in
+    (l .inv .4, λ k low. omega (arith, l .inv .5 .bounded k), start .pre .1, l .inv .2, omega (arith, l .inv .0))
+
+add-number : tie.Need-add-number Inv-loop μ-loop
+add-number c = search needs
+
+loop-less : tie.Need-loop-less Inv-loop μ-loop
+loop-less c = search needs
+
+loop-again : tie.Need-loop-again Inv-loop μ-loop
+loop-again c =
+    let t = c .before .before in
+    let l = t .before .before .before .loop in (
+      l .inv .0,
+      l .inv .1,
+      search needs,
+      search needs,
+      search needs,
+      waiting-next _ _ (l .number) _ _ (l .inv .2) (omega (arith, l .inv .0)) (t .take-own .ensures) (l .inv .5),
+    )
+
+same-length : tie.Need-same-length Inv-loop μ-loop
+same-length c = omega (arith, length-no-waits _ (c .before .before .before .before .before .pre .0))
+
+returns : tie.Need-returns Inv-loop μ-loop
+returns c =
+    let l = c .before .loop in
+    waiting-last _ _ (l .number - 1) _ (omega (arith, l .inv .0)) (l .inv .4) (l .inv .5)
+
+pub fill-waits-spec : {M : Type 1} → statement M
+fill-waits-spec =
+    tie.close
+    (tie.spec
+    Inv-loop
+    μ-loop
+    row-count-requires
+    loop-holds
+    take-own-requires
+    add-number
+    loop-less
+    loop-again
+    same-length
+    returns)

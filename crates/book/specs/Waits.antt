@@ -1,0 +1,46 @@
+-- What waits on one account (document 01, "Registration"): its own pending rows by hour, sales and then purchases.
+use Prim.Native.Nat.{ℕ, _+_, _-_, _*_, _≤_}
+use mathlib.Core.Path.{_≡_}
+use mathlib.Core.List.{List, [], _∷_}
+use lib.ListN.{length, getD, replicate}
+use Rattle.units.specs.Units.{kwh}
+use Rattle.rules.specs.declared.Row.{Row}
+use Rattle.rules.specs.declared.AccountHour.{AccountHour}
+use Rattle.rules.specs.Limits.{mostHours, mostEnergy}
+use Rattle.rules.specs.Registration.{waiting, netOf, pendingSales, pendingPurchases}
+use Rattle.book.specs.Netted.{netted}
+
+-- the cell of an hour: side 1 are sales, side 2 purchases
+abbrev pub waitCell : ℕ → ℕ → ℕ
+waitCell side h = mostHours * (side - 1) + (h - 1)
+
+-- a side and an hour that a row can have
+pub record Waits (side h : ℕ) : Type 0 where
+  pub side-low : 1 ≤ side
+  pub side-high : side ≤ 2
+  pub hour-low : 1 ≤ h
+  pub hour-high : h ≤ mostHours
+
+-- the table holds what waits on the account by these rows, and no cell is above what they hold together
+pub record WaitsOf (rows : List Row) (a : ℕ) (table : List ℕ) : Type 0 where
+  pub whole : length table ≡ 2 * mostHours
+  pub waits-at : (side h : ℕ) → Waits side h → getD table (waitCell side h) 0 ≡ waiting side rows a h
+  pub bounded : (k : ℕ) → getD table k 0 ≤ mostEnergy * length rows
+
+-- ---- how the table is filled
+
+-- the table of no rows
+unfoldable pub noWaits : List ℕ
+noWaits = replicate (2 * mostHours) 0
+
+-- one row more: each cell has its share of what waits on the account, and no cell grows by more than the most energy
+pub record WaitTaken (before after : List ℕ) (r : Row) (a : ℕ) : Type 0 where
+  pub share : (side h : ℕ) → Waits side h → getD after (waitCell side h) 0 ≡ getD before (waitCell side h) 0 + waiting side (r ∷ []) a h
+  pub grown : (k : ℕ) → getD after k 0 ≤ getD before k 0 + mostEnergy
+
+-- ---- what is read off it
+
+-- what an account holds in an hour, with its net position by itself
+abbrev pub nettedHour : List Row → ℕ → ℕ → AccountHour
+nettedHour rows a h =
+    record { net = netted (netOf rows a h); sales = kwh (pendingSales rows a h); purchases = kwh (pendingPurchases rows a h) }

@@ -1,0 +1,102 @@
+// What waits on one account: its own pending rows by hour, sales and then purchases.
+ghost use mathlib.Core.Path.{_≡_};
+ghost use mathlib.Core.Bool.{true};
+ghost use Prim.Native.Nat.{_+_, _-_, _≤_};
+ghost use lib.ListN.{length, getD};
+ghost use Rattle.rules.specs.Basics.{nth};
+ghost use Rattle.rules.specs.Limits.{mostEnergy};
+ghost use Rattle.rules.specs.Books.{noRow, accountCount};
+ghost use Rattle.book.specs.Valid.{isBook, bookIn};
+ghost use Rattle.book.specs.Sums.{Tabled, Room, Raised};
+ghost use Rattle.book.specs.Waits.{waitCell, Waits, WaitsOf, noWaits, WaitTaken, nettedHour};
+use crate::layout::STATUS_IN;
+use crate::positions::net_at;
+use crate::rows::row_at;
+use crate::state::PENDING;
+use crate::state::row_count;
+use crate::state::row_place;
+use crate::sums::add_range;
+use rules::AccountHour;
+use rules::Row;
+use units::Kwh;
+use wire::numbers::get_u8;
+
+// The cells of what waits: an hour each for sales, and for purchases.
+pub const WAITS_SIZE: usize = 50;
+
+const SIDE_CELLS: usize = 25;
+
+// The cell of an hour on a side.
+fn wait_cell(side: u8, hour: u8) -> usize
+    requires { ⌜ Waits side hour ⌝ }
+    ensures { λ r. ⌜ r ≡ waitCell side hour ⌝ }
+{
+    SIDE_CELLS * (side as usize - 1) + (hour as usize - 1)
+}
+
+// Adds the row's quantity to the cells of its hours, on its side.
+fn take_waiting(table: &mut [u32], r: Row)
+    requires { ⌜ (length (now table) ≡ 50) × Tabled r × (1 ≤ r .side) × (r .side ≤ 2) × Room (now table) 0 (r .quantity .0) ⌝ }
+    ensures { λ _. ⌜ Raised (now (table .entry)) (now (table .exit)) (waitCell (r .side) (r .first)) (r .last - r .first + 1) (r .quantity .0) ⌝ }
+{
+    let at = wait_cell(r.side, r.first);
+    let n = (r.last - r.first) as usize + 1;
+    let quantity = r.quantity;
+    add_range(table, at, n, quantity.0);
+}
+
+// Takes the row of that number where it is pending and the account's own.
+fn take_own(table: &mut [u32], book: &[u8], number: u16, account: u8)
+    requires { ⌜ (length (now table) ≡ 50) × Room (now table) 0 mostEnergy × (isBook (now book) ≡ true) × (1 ≤ number) × (number ≤ length (bookIn (now book) .part .rows)) ⌝ }
+    ensures { λ _. ⌜ WaitTaken (now (table .entry)) (now (table .exit)) (nth (bookIn (now (book .entry)) .part .rows) number noRow) account ⌝ }
+{
+    let at = row_place(number);
+    let status = get_u8(book, at + STATUS_IN);
+    let proposer = get_u8(book, at);
+    if (status == PENDING) & (proposer == account) {
+        let r = row_at(book, at);
+        take_waiting(table, r);
+    }
+}
+
+// A table of no rows.
+pub fn no_waits() -> [u32; WAITS_SIZE]
+    ensures { λ r. ⌜ r ≡ noWaits ⌝ }
+{
+    [0u32; WAITS_SIZE]
+}
+
+// Takes the account's own pending rows into a table of no rows.
+pub fn fill_waits(table: &mut [u32], book: &[u8], account: u8)
+    requires { ⌜ (now table ≡ noWaits) × (isBook (now book) ≡ true) ⌝ }
+    ensures { λ _. ⌜ WaitsOf (bookIn (now (book .entry)) .part .rows) account (now (table .exit)) ⌝ }
+{
+    let n = row_count(book);
+    let mut number: u16 = 1;
+    while number <= n {
+        take_own(table, book, number, account);
+        number = number + 1;
+    }
+}
+
+// What waits on the account in an hour, on a side.
+fn wait_at(waits: &[u32], side: u8, hour: u8) -> u32
+    requires { ⌜ (length (now waits) ≡ 50) × Waits side hour ⌝ }
+    ensures { λ r. ⌜ r ≡ getD (now (waits .entry)) (waitCell side hour) 0 ⌝ }
+{
+    let k = wait_cell(side, hour);
+    waits[k]
+}
+
+// What an account holds in an hour, both of the set-up: its net position off the book, and what waits off the table.
+pub fn held_hour(book: &[u8], waits: &[u32], account: u8, hour: u8) -> AccountHour
+    requires { ⌜ (isBook (now book) ≡ true) × WaitsOf (bookIn (now book) .part .rows) account (now waits) × ((1 ≤ account) × (account ≤ accountCount (bookIn (now book) .setup))) × ((1 ≤ hour) × (hour ≤ bookIn (now book) .setup .hours)) ⌝ }
+    ensures { λ r. ⌜ r ≡ nettedHour (bookIn (now (book .entry)) .part .rows) account hour ⌝ }
+{
+    let net = net_at(book, account, hour);
+    AccountHour {
+        net,
+        sales: Kwh(wait_at(waits, 1, hour)),
+        purchases: Kwh(wait_at(waits, 2, hour)),
+    }
+}

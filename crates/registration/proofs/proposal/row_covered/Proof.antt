@@ -1,0 +1,23 @@
+-- What is owed is the exposure of the account's operator with the row taken.
+use mathlib.Core.Path.{_∙_}
+use borrow.Author.Needs.{needs}
+use Rattle.registration.proofs.proposal.row_covered.Statement.{statement}
+use Rattle.registration.proofs.proposal.row_covered.Tie as tie
+
+caller-operator-requires : tie.Need-caller-operator-requires
+caller-operator-requires c κs = search needs
+
+exposure-with-requires : tie.Need-exposure-with-requires
+exposure-with-requires c κs = search needs
+
+in-force-covers-requires : tie.Need-in-force-covers-requires
+in-force-covers-requires c κs = search needs
+
+returns : tie.Need-returns
+returns c =
+    c .in-force-covers .ensures ∙ rw (c .before .exposure-with .ensures .0, c .before .before .caller-operator .ensures .0)
+
+pub row-covered-spec : {M : Type 1} → statement M
+row-covered-spec =
+    tie.close
+    (tie.spec caller-operator-requires exposure-with-requires in-force-covers-requires returns)
