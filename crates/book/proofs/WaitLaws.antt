@@ -2,20 +2,19 @@
 use Prim.Native.Nat.{ℕ, zero, suc, _+_, _-_, _*_, _≤_}
 use mathlib.Core.Path.{_≡_, refl, sym, ap, _∙_}
 use mathlib.Core.List.{List, [], _∷_}
-use mathlib.Core.Bool.{Bool, true, false, _&&_, and-true}
+use mathlib.Core.Bool.{Bool, true, false, _&&_, and-true, and-false}
 use native.Mathlib.Nat.{add-zero}
 use native.Mathlib.Omega.{arith}
 use lib.ListN.{length, getD, drop, length-replicate}
 use lib.Seq.{drop-cons, drop-length}
 use lib.Dec.{eqb}
-use borrow.Author.Tests.{eqb-true, eq-eqb}
+use borrow.Author.Tests.{eq-eqb, ne-eqb}
 use Rattle.wire.specs.Numbers.{numberAt}
 use Rattle.rules.specs.declared.Row.{Row}
 use Rattle.rules.specs.Basics.{if_then_else_, total, nth}
 use Rattle.rules.specs.Limits.{mostEnergy}
 use Rattle.rules.specs.Books.{noRow}
 use Rattle.rules.specs.Registration.{pending, covers, waiting}
-use Rattle.rules.proofs.Tests.{and-both}
 use Rattle.book.specs.Layout.{presentAt, rowAt}
 use Rattle.book.specs.Valid.{isBook, bookIn}
 use Rattle.book.specs.Sums.{cellOf, InTable, Tabled, Raised}
@@ -66,7 +65,7 @@ taken-own before after r a t sl sh e d w =
       grown = λ k. omega (arith, raised-most before after _ _ _ w k, t .quantity-high);
     }
 
-pub taken-none : (table : List ℕ) (r : Row) (a : ℕ) → pending r && eqb (r .proposer) a ≡ false → WaitTaken table table r a
+taken-none : (table : List ℕ) (r : Row) (a : ℕ) → pending r && eqb (r .proposer) a ≡ false → WaitTaken table table r a
 taken-none table r a e =
     record { share = λ side h i. omega (arith, waits-none r a side h e); grown = λ k. omega arith }
 
@@ -126,16 +125,12 @@ own-stands s h n at low high e =
     let r = sym (row-at s at) ∙ numbered-row-stands s h n at low high e in
     (ap (λ (x : Row). x .proposer) r, ap (λ (x : Row). x .status) r)
 
--- the test of the row as code makes it of what it read
-pub own-tested : (x y a status proposer : ℕ) (t : Bool) → status ≡ x → proposer ≡ y → eqb status 1 && eqb proposer a ≡ t → eqb x 1 && eqb y a ≡ t
-own-tested x y a status proposer t e d w = rw (e, d) at w
+-- nothing is taken of another's row, nor of one that does not wait
+pub taken-of-others : (table : List ℕ) (r : Row) (a x : ℕ) → x ≡ r .proposer → (x ≡ a → ⊥) → WaitTaken table table r a
+taken-of-others table r a x e n = taken-none table r a (rw (ne-eqb (r .proposer) a (λ d. n (e ∙ d))) (and-false (pending r)))
 
--- an own row taken
-pub own-taken : (before after : List ℕ) (r : Row) (a : ℕ) → Tabled r → 1 ≤ r .side → r .side ≤ 2 → pending r && eqb (r .proposer) a ≡ true
-    → Raised before after (waitCell (r .side) (r .first)) (r .last - r .first + 1) (r .quantity .0) → WaitTaken before after r a
-own-taken before after r a t sl sh e w =
-    let both = and-both (pending r) (eqb (r .proposer) a) .0 e in
-    taken-own before after r a t sl sh (eqb-true _ _ (both .0)) (eqb-true _ _ (both .1)) w
+pub taken-of-ended : (table : List ℕ) (r : Row) (a x : ℕ) → x ≡ r .status → (x ≡ 1 → ⊥) → WaitTaken table table r a
+taken-of-ended table r a x e n = taken-none table r a (rw (ne-eqb (r .status) 1 (λ d. n (e ∙ d))))
 
 -- a side and an hour of the set-up have their cell
 pub side-hour : (s : List ℕ) → isBook s ≡ true → (side h : ℕ) → 1 ≤ side → side ≤ 2 → (1 ≤ h) × (h ≤ bookIn s .setup .hours) → Waits side h

@@ -15,7 +15,7 @@ use Rattle.rules.specs.Books.{Setup, noRow, estimateAt, operatorOf, accountCoun
 use Rattle.rules.specs.Registration.{pending, covers, buyer, seller, counted, waiting, withStatus, mark, pendingSales, accountHour, takes, exposed, ofOperator, exposureOf, exposure}
 use Rattle.rules.proofs.Totals.{total-zero, total-add, total-times, total-cong, shared}
 use Rattle.rules.proofs.AccountHours.{moved-confirm, waiting-end, hour-takes}
-use Rattle.book.specs.Worth.{shortWorth, spanPrice, saleWorth, exposureWith}
+use Rattle.book.specs.Worth.{shortWorth, accountShort, spanPrice, saleWorth, exposureWith}
 
 -- ---- tests
 
@@ -139,7 +139,7 @@ module _ (u : Setup) (o : ℕ) where
   pub exposure-split : (rows : List Row) (trade : Row) → Each (λ r. (1 ≤ r .proposer) × (r .proposer ≤ accountCount u)) rows
       → (pending trade ≡ true → (1 ≤ trade .proposer) × (trade .proposer ≤ accountCount u))
       → exposureWith u rows trade o ≡ shortWorth u (λ a h. takes a h (accountHour rows a h) trade .net) o + total (saleWorth u o) rows + saleWorth u o trade
-  unfolding exposureOf takes worthOf shortWorth
+  unfolding exposureOf takes worthOf shortWorth accountShort
   exposure-split rows trade known one =
       let below : ℕ → ℕ → ℕ = λ a h. takes a h (accountHour rows a h) trade .net .sold .0 - takes a h (accountHour rows a h) trade .net .bought .0 in
       let waits : ℕ → ℕ → ℕ = λ a h. pendingSales rows a h + saleShare trade a h in

@@ -135,7 +135,7 @@ module _ (price : ℕ → ℕ) (first last : ℕ) where
       let next : last + suc m ≡ suc (last + m) = omega arith in
       rw next (omega (arith, step inside (last + m), inside-off (suc (last + m)) (λ w. omega arith), after-none m))
 
-  pub span-sum : (n : ℕ) → 1 ≤ first → first ≤ last → last ≤ n → total inside (upTo n) + total price (upTo (first - 1)) ≡ total price (upTo last)
+  span-sum : (n : ℕ) → 1 ≤ first → first ≤ last → last ≤ n → total inside (upTo n) + total price (upTo (first - 1)) ≡ total price (upTo last)
   span-sum n low order high =
       let whole : last + (n - last) ≡ n = omega arith in
       let upto : (first - 1) + (last - (first - 1)) ≡ last = omega arith in
@@ -183,12 +183,16 @@ sale-skipped u o r e = go (pending r) (eqb (r .side) 1) (eqb (operatorOf u (r .p
     go true false z e = refl
     go false y z e = refl
 
-pub sale-of-others : (u : Setup) (o : ℕ) (r : Row) (x : ℕ) → not (pending r) || not (eqb (r .side) 1) ≡ false → x ≡ operatorOf u (r .proposer) → (x ≡ o → ⊥)
-    → saleWorth u o r ≡ 0
+pub sale-of-others : (u : Setup) (o : ℕ) (r : Row) (x : ℕ) → x ≡ operatorOf u (r .proposer) → (x ≡ o → ⊥) → saleWorth u o r ≡ 0
 unfolding saleWorth
-sale-of-others u o r x e d n = rw (both-hold (pending r) (eqb (r .side) 1) e, ne-eqb (operatorOf u (r .proposer)) o (λ f. n (d ∙ f)))
+sale-of-others u o r x d n = rw (ne-eqb (operatorOf u (r .proposer)) o (λ f. n (d ∙ f))) (go (pending r) (eqb (r .side) 1))
+  where
+    go : (x y : Bool) → (if x && y && false then r .quantity .0 * spanPrice u r else 0) ≡ 0
+    go true true = refl
+    go true false = refl
+    go false y = refl
 
-pub sale-of-own : (u : Setup) (o : ℕ) (r : Row) (x : ℕ) → not (pending r) || not (eqb (r .side) 1) ≡ false → x ≡ operatorOf u (r .proposer) → x ≡ o
+sale-of-own : (u : Setup) (o : ℕ) (r : Row) (x : ℕ) → not (pending r) || not (eqb (r .side) 1) ≡ false → x ≡ operatorOf u (r .proposer) → x ≡ o
     → saleWorth u o r ≡ r .quantity .0 * spanPrice u r
 unfolding saleWorth
 sale-of-own u o r x e d n = rw (both-hold (pending r) (eqb (r .side) 1) e, eq-eqb (operatorOf u (r .proposer)) o (sym d ∙ n))
@@ -205,17 +209,6 @@ sale-priced u o sums r x m t small e d n f = (
   f ∙ ap (λ (y : ℕ). r .quantity .0 * y) (t .exact) ∙ sym (sale-of-own u o r x e d n),
   omega (arith, f, span-most (r .quantity .0) (getD sums (r .last) 0 - getD sums (r .first - 1) 0) small (omega (arith, t .high))),
 )
-
--- a row whose status and side were read
-pub skipped-read : (u : Setup) (o : ℕ) (r : Row) (x y : ℕ) → x ≡ r .status → y ≡ r .side → not (eqb x 1) || not (eqb y 1) ≡ true → saleWorth u o r ≡ 0
-skipped-read u o r x y e d h = sale-skipped u o r (rw (e, d) at h)
-
--- they stand in its bytes
-pub sale-stands : (s : List ℕ) → isBook s ≡ true → (n at : ℕ) → 1 ≤ n → n ≤ length (bookIn s .part .rows) → at ≡ presentAt + rowAt (n - 1)
-    → (numberAt s (at + 17) 1 ≡ nth (bookIn s .part .rows) n noRow .status) × (numberAt s (at + 10) 1 ≡ nth (bookIn s .part .rows) n noRow .side)
-sale-stands s k n at low high e =
-    let r = sym (row-at s at) ∙ numbered-row-stands s k n at low high e in
-    (ap (λ (x : Row). x .status) r, ap (λ (x : Row). x .side) r)
 
 -- a row of a book can be taken
 pub row-takeable : (u : Setup) (r : Row) → SoundRow u r → Takeable u r

@@ -12,13 +12,13 @@ use Rattle.rules.specs.Limits.{mostEnergy}
 use Rattle.rules.specs.Books.{Setup, estimateAt, operatorOf, accountCount}
 use Rattle.rules.specs.Registration.{pending, covers, accountHour, takes, ofOperator, exposureOf}
 
--- what lies below zero of the operator's net positions, at estimated prices
-unfoldable pub shortWorth : Setup → (ℕ → ℕ → Net) → ℕ → ℕ
-shortWorth u net o = ofOperator u (λ a. total (λ h. estimateAt u h .0 * (net a h .sold .0 - net a h .bought .0)) (upTo (u .hours))) o
-
 -- what lies below zero of an account's net positions, at estimated prices
 unfoldable pub accountShort : Setup → (ℕ → ℕ → Net) → ℕ → ℕ
 accountShort u net a = total (λ h. estimateAt u h .0 * (net a h .sold .0 - net a h .bought .0)) (upTo (u .hours))
+
+-- what lies below zero of an operator's
+unfoldable pub shortWorth : Setup → (ℕ → ℕ → Net) → ℕ → ℕ
+shortWorth u net o = ofOperator u (accountShort u net) o
 
 -- what an account adds to that of an operator: nothing where it is another's
 unfoldable pub shortShare : Setup → (ℕ → ℕ → Net) → ℕ → ℕ → ℕ

@@ -45,15 +45,16 @@ fn take_waiting(table: &mut [u32], r: Row)
     add_range(table, at, n, quantity.0);
 }
 
-// Takes the row of that number where it is pending and the account's own.
+// Takes the row of that number where it is pending and the account's own. Most rows are another's, so that the proposer is looked at first.
 fn take_own(table: &mut [u32], book: &[u8], number: u16, account: u8)
     requires { ⌜ (length (now table) ≡ 50) × Room (now table) 0 mostEnergy × (isBook (now book) ≡ true) × (1 ≤ number) × (number ≤ length (bookIn (now book) .part .rows)) ⌝ }
     ensures { λ _. ⌜ WaitTaken (now (table .entry)) (now (table .exit)) (nth (bookIn (now (book .entry)) .part .rows) number noRow) account ⌝ }
 {
     let at = row_place(number);
-    let status = get_u8(book, at + STATUS_IN);
-    let proposer = get_u8(book, at);
-    if (status == PENDING) & (proposer == account) {
+    if get_u8(book, at) != account {
+        return;
+    }
+    if get_u8(book, at + STATUS_IN) == PENDING {
         let r = row_at(book, at);
         take_waiting(table, r);
     }

@@ -99,13 +99,13 @@ fn sale_of(book: &[u8], sums: &[u64], from: usize, operator: u8, r: Row) -> Mill
     MilliCents(0)
 }
 
-// What the row of that number weighs on the operator as a pending sale.
+// What the row of that number weighs on the operator as a pending sale. Most rows are another's, so that the owner is looked at first.
 fn row_sale(book: &[u8], sums: &[u64], from: usize, operator: u8, number: u16) -> MilliCents
     requires { ⌜ (isBook (now book) ≡ true) × PriceSums (bookIn (now book) .setup) (now sums) × (from ≡ accountsFrom (countsIn (now book))) × (1 ≤ number) × (number ≤ length (bookIn (now book) .part .rows)) ⌝ }
     ensures { λ m. ⌜ (m .0 ≡ saleWorth (bookIn (now (book .entry)) .setup) operator (nth (bookIn (now (book .entry)) .part .rows) number noRow)) × (m .0 ≤ mostEnergy * (mostHours * mostPrice)) ⌝ }
 {
     let at = row_place(number);
-    if (get_u8(book, at + 17) != 1) | (get_u8(book, at + 10) != 1) {
+    if owner(book, from, get_u8(book, at)) != operator {
         return MilliCents(0);
     }
     sale_of(book, sums, from, operator, row_at(book, at))

@@ -3,11 +3,11 @@ use Prim.Native.Nat.{ℕ, suc, _+_, _≤_}
 use mathlib.Core.Path.{_≡_, refl, sym, _∙_}
 use mathlib.Core.List.{List, [], _∷_}
 use mathlib.Core.Option.{Option, none, some}
-use mathlib.Core.Bool.{Bool, true, false, not, _&&_}
+use mathlib.Core.Bool.{Bool, true, false, not, _&&_, and-true, and-false}
 use native.Mathlib.Omega.{arith}
 use lib.ListN.{length, take, drop}
 use lib.Dec.{eqb}
-use borrow.Author.Tests.{ne-eqb}
+use borrow.Author.Tests.{eq-eqb, ne-eqb}
 use Rattle.wire.specs.Numbers.{numberAt}
 use Rattle.rules.specs.declared.Row.{Row}
 use Rattle.rules.specs.Basics.{any, indexOf}
@@ -22,18 +22,17 @@ use Rattle.book.proofs.RowsFrom.{rows-done, rows-step}
 
 -- ---- the tests of a row, of what was read of it
 
-module _ (s : List ℕ) (at proposer counterparty code : ℕ) {status first second : ℕ} (a : status ≡ numberAt s (at + 17) 1) (b : first ≡ numberAt s at 1)
-    (c : second ≡ numberAt s (at + 1) 1) where
-  -- all but the code agree, so that the code decides
-  pub code-decides : {v : ℕ} → v ≡ numberAt s (at + 2) 8 → (eqb status 1 && eqb first proposer && eqb second counterparty) ≡ true
-      → eqb v code ≡ alike proposer counterparty code (rowIn (take 18 (drop at s)))
+module _ (s : List ℕ) (at proposer counterparty code : ℕ) {v : ℕ} (d : v ≡ numberAt s (at + 2) 8) where
+  -- a row of another code is not it
+  pub another-code : (v ≡ code → ⊥) → false ≡ alike proposer counterparty code (rowIn (take 18 (drop at s)))
   unfolding alike
-  code-decides d t = rw (row-at s at, ← a, ← b, ← c, ← d, t)
+  another-code n = rw (row-at s at, ← d, ne-eqb v code n, and-false)
 
-  pub another-row : (eqb status 1 && eqb first proposer && eqb second counterparty) ≡ false
-      → false ≡ alike proposer counterparty code (rowIn (take 18 (drop at s)))
+  -- the code agrees, so that the rest decides
+  pub rest-decides : {status first second : ℕ} → v ≡ code → status ≡ numberAt s (at + 17) 1 → first ≡ numberAt s at 1 → second ≡ numberAt s (at + 1) 1
+      → (eqb status 1 && eqb first proposer && eqb second counterparty) ≡ alike proposer counterparty code (rowIn (take 18 (drop at s)))
   unfolding alike
-  another-row t = rw (row-at s at, ← a, ← b, ← c, t)
+  rest-decides same a b c = rw (row-at s at, ← a, ← b, ← c, ← d, eq-eqb v code same, and-true)
 
 -- ---- row by row
 

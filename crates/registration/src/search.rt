@@ -18,18 +18,18 @@ use book::state::row_count;
 use wire::numbers::get_u8;
 use wire::numbers::get_u64;
 
-// The row from `at` on is pending with this proposer, counterparty and code. The code is read only where the rest agrees.
+// The row from `at` on is pending with this proposer, counterparty and code. Codes mostly differ, so that the code is looked at first.
 fn alike_at(book: &[u8], at: usize, proposer: u8, counterparty: u8, code: u64) -> bool
     requires { ⌜ at + 18 ≤ length (now book) ⌝ }
     ensures { λ b. ⌜ b ≡ alike proposer counterparty code (rowIn (take 18 (drop at (now (book .entry))))) ⌝ }
 {
+    if get_u64(book, at + 2) != code {
+        return false;
+    }
     let status = get_u8(book, at + STATUS_IN);
     let first = get_u8(book, at);
     let second = get_u8(book, at + 1);
-    if (status == PENDING) & (first == proposer) & (second == counterparty) {
-        return get_u64(book, at + 2) == code;
-    }
-    false
+    (status == PENDING) & (first == proposer) & (second == counterparty)
 }
 
 // Of the `n` rows from `at` on, the number of the first that is so; 0 where there is none.

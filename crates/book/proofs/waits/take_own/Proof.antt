@@ -1,9 +1,9 @@
--- Its status and its proposer say whether the row is taken, and the row that is read is the one of that number.
-use mathlib.Core.Path.{_∙_}
+-- Its proposer and its status say whether the row is taken, and the row that is read is the one of that number.
+use mathlib.Core.Path.{_∙_, sym}
 use native.Mathlib.Omega.{arith}
 use Rattle.book.proofs.StateLaws.{book-length, row-count-high, numbered-row-stands}
 use Rattle.book.proofs.BookRows.{numbered-sound, numbered-tabled}
-use Rattle.book.proofs.WaitLaws.{own-stands, own-tested, own-taken, taken-none}
+use Rattle.book.proofs.WaitLaws.{own-stands, taken-own, taken-of-others, taken-of-ended}
 use borrow.Author.Needs.{needs}
 use Rattle.book.proofs.waits.take_own.Statement.{statement}
 use Rattle.book.proofs.waits.take_own.Tie as tie
@@ -11,28 +11,39 @@ use Rattle.book.proofs.waits.take_own.Tie as tie
 row-place-requires : tie.Need-row-place-requires
 row-place-requires c κs = omega (arith, row-count-high _ (c .before .before .pre .2))
 
-add-get-u8 : tie.Need-add-get-u8
-add-get-u8 c = search needs
-
 get-u8-requires : tie.Need-get-u8-requires
 get-u8-requires c κs =
     let pre = c .before .before .before .pre in omega (arith, c .row-place .ensures, row-count-high _ (pre .2), book-length _ (pre .2))
 
+returns : tie.Need-returns
+returns c =
+    let place = c .before .before in
+    let start = place .before .before .before in
+    let pre = start .pre in
+    let stands = own-stands _ (pre .2) (start .args .number) _ (pre .3) (pre .4) (place .row-place .ensures) in
+    taken-of-others _ _ _ _ (c .before .get-u8 .ensures ∙ stands .0) (c .if1 .taken)
+
+add-get-u8 : tie.Need-add-get-u8
+add-get-u8 c = search needs
+
 get-u8-requires-2 : tie.Need-get-u8-requires-2
 get-u8-requires-2 c κs =
-    let pre = c .before .before .before .before .pre in omega (arith, c .before .row-place .ensures, row-count-high _ (pre .2), book-length _ (pre .2))
+    let place = c .before .before in
+    let pre = place .before .before .before .pre in omega (arith, place .row-place .ensures, row-count-high _ (pre .2), book-length _ (pre .2))
 
 row-at-requires : tie.Need-row-at-requires
 row-at-requires c κs =
-    let pre = c .before .before .before .before .before .before .pre in omega (arith, c .before .before .before .row-place .ensures, row-count-high _ (pre .2), book-length _ (pre .2))
+    let place = c .before .before .before .before in
+    let pre = place .before .before .before .pre in omega (arith, place .row-place .ensures, row-count-high _ (pre .2), book-length _ (pre .2))
 
 take-waiting-requires : tie.Need-take-waiting-requires
 take-waiting-requires c κs =
     let row = c .before in
-    let start = row .before .before .before .before .before .before .before in
+    let place = row .before .before .before .before .before in
+    let start = place .before .before .before in
     let pre = start .pre in
     let n = start .args .number in
-    let same = row .row-at .ensures ∙ numbered-row-stands _ (pre .2) n _ (pre .3) (pre .4) (row .before .before .before .before .row-place .ensures) in
+    let same = row .row-at .ensures ∙ numbered-row-stands _ (pre .2) n _ (pre .3) (pre .4) (place .row-place .ensures) in
     let sound = numbered-sound _ (pre .2) n (pre .3) (pre .4) in
     let tabled = numbered-tabled _ (pre .2) n (pre .3) (pre .4) in
     (pre .0, rw same tabled, rw same (sound .side-low), rw same (sound .side-high), λ k l. rw same (omega (arith, pre .1 k l, tabled .quantity-high)))
@@ -40,39 +51,42 @@ take-waiting-requires c κs =
 same-length : tie.Need-same-length
 same-length c = search needs
 
-returns : tie.Need-returns
-returns c =
+returns-2 : tie.Need-returns-2
+returns-2 c =
     let taken = c .before .before in
     let row = taken .before .before in
-    let test = row .before in
-    let place = test .before .before .before in
+    let status = row .before in
+    let proposer = status .before .before in
+    let place = proposer .before .before in
     let start = place .before .before .before in
     let pre = start .pre in
     let n = start .args .number in
     let same = row .row-at .ensures ∙ numbered-row-stands _ (pre .2) n _ (pre .3) (pre .4) (place .row-place .ensures) in
     let stands = own-stands _ (pre .2) n _ (pre .3) (pre .4) (place .row-place .ensures) in
-    own-taken _ _ _ _ (numbered-tabled _ (pre .2) n (pre .3) (pre .4)) (numbered-sound _ (pre .2) n (pre .3) (pre .4) .side-low) (numbered-sound _ (pre .2) n (pre .3) (pre .4) .side-high)
-    (own-tested _ _ _ _ _ _ (test .before .before .get-u8 .ensures ∙ stands .1) (test .before .get-u82 .ensures ∙ stands .0) (test .if1 .taken))
+    let sound = numbered-sound _ (pre .2) n (pre .3) (pre .4) in
+    taken-own _ _ _ _ (numbered-tabled _ (pre .2) n (pre .3) (pre .4)) (sound .side-low) (sound .side-high)
+    (sym (status .before .get-u82 .ensures ∙ stands .1) ∙ status .if2 .taken) (sym (proposer .before .get-u8 .ensures ∙ stands .0) ∙ proposer .if1 .left)
     (rw same at (taken .take-waiting .ensures))
 
-returns-2 : tie.Need-returns-2
-returns-2 c =
-    let place = c .before .before .before in
+returns-3 : tie.Need-returns-3
+returns-3 c =
+    let place = c .before .before .before .before in
     let start = place .before .before .before in
     let pre = start .pre in
     let stands = own-stands _ (pre .2) (start .args .number) _ (pre .3) (pre .4) (place .row-place .ensures) in
-    taken-none _ _ _ (own-tested _ _ _ _ _ _ (c .before .before .get-u8 .ensures ∙ stands .1) (c .before .get-u82 .ensures ∙ stands .0) (c .if1 .left))
+    taken-of-ended _ _ _ _ (c .before .get-u82 .ensures ∙ stands .1) (c .if2 .left)
 
 pub take-own-spec : {M : Type 1} → statement M
 take-own-spec =
     tie.close
     (tie.spec
     row-place-requires
-    add-get-u8
     get-u8-requires
+    returns
+    add-get-u8
     get-u8-requires-2
     row-at-requires
     take-waiting-requires
     same-length
-    returns
-    returns-2)
+    returns-2
+    returns-3)

@@ -35,7 +35,7 @@ returns-2 c =
 returns-3 : tie.Need-returns-3
 returns-3 c =
     let start = c .before .before .before .before .before .before .before in
-    (sym (sale-of-others _ (start .args .operator) (start .args .r) _ (c .before .before .if1 .left) (c .before .owner .ensures) (c .if2 .left)), omega arith)
+    (sym (sale-of-others _ (start .args .operator) (start .args .r) _ (c .before .owner .ensures) (c .if2 .left)), omega arith)
 
 pub sale-of-spec : {M : Type 1} → statement M
 sale-of-spec = tie.close (tie.spec returns owner-requires span-worth-requires returns-2 returns-3)
