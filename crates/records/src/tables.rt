@@ -19,7 +19,7 @@ const MAPS: [u16; 11] = [
     0x0001,
 ];
 
-const LENGTHS: [usize; 11] = [0, 20, 20, 6, 12, 3, 3, 3, 3, 14, 3];
+const LENGTHS: [u8; 11] = [0, 20, 20, 6, 12, 3, 3, 3, 3, 14, 3];
 
 // Bits 0 to 12 have fields.
 pub const FIELDS: usize = 13;
@@ -28,7 +28,7 @@ pub const FIELDS: usize = 13;
 pub const PAST_FIELDS: u16 = 0x2000;
 
 // The bytes of a field, by bit.
-const WIDTHS: [usize; FIELDS] = [1, 1, 1, 8, 1, 1, 1, 4, 2, 1, 8, 1, 4];
+const WIDTHS: [u8; FIELDS] = [1, 1, 1, 8, 1, 1, 1, 4, 2, 1, 8, 1, 4];
 
 // Whether a number is one of the ten kinds.
 pub fn is_kind(number: u8) -> bool
@@ -52,7 +52,7 @@ pub fn wanted_length(kind: u8) -> usize
     ensures { λ r. ⌜ r ≡ wantedLength kind ⌝ }
 {
     let k = kind as usize;
-    LENGTHS[k]
+    LENGTHS[k] as usize
 }
 
 // The bytes of the field of a bit.
@@ -60,7 +60,7 @@ pub fn width(k: usize) -> usize
     requires { ⌜ k < fieldCount ⌝ }
     ensures { λ r. ⌜ r ≡ widthOf k ⌝ }
 {
-    WIDTHS[k]
+    WIDTHS[k] as usize
 }
 
 // Whether a bit of a map stands.
