@@ -39,7 +39,7 @@ pub const ROW_WIDTH: usize = 18;
 pub const STATUS_IN: usize = 17;
 
 // Rows that may have numbers in a day.
-pub const MOST_ROWS: usize = 256;
+pub const MOST_ROWS: usize = rules::limits::MOST_ROWS as usize;
 
 // Bytes of an account's net positions: 4 for each of 25 periods.
 pub const ACCOUNT_NETS: usize = 100;
