@@ -3,7 +3,7 @@
 pub mod SortingLaws
 -- FewLaws: a few numbers put in order by comparing two at a time.
 pub mod FewLaws
--- MergeLaws: two lists in order merged from the front and from the back.
+-- MergeLaws: two lists in order, put one behind the other or merged from the front and from the back.
 pub mod MergeLaws
 -- RunLaws: a list whose runs of a width are each in order.
 pub mod RunLaws
