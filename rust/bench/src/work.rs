@@ -63,6 +63,7 @@ fn registers(lines: &mut Vec<Line>, fresh: &State, half: &State, full: &State) {
         lines.push(line("register", book, state, &sale, 0));
     }
     lines.push(line("register, one hour", "255 rows", &most, &Request { first: 25, ..sale }, 0));
+    lines.push(line("register, a purchase", "255 rows", &most, &Request { side: 2, ..sale }, 0));
     let last_hour = trade(3, 4, 1, (25, 25), 9_000_000, 1_000);
     let (half_18, most_18) = (after(&rows(128), &[last_hour]), after(&rows(254), &[last_hour]));
     for (book, state) in [("half full", &half_18), ("255 rows", &most_18)] {
@@ -87,6 +88,7 @@ fn confirms(lines: &mut Vec<Line>, half: &State, full: &State) {
     for (book, state, pending) in [("one row", &one, 0), ("half full", half, 126), ("full", full, 254)] {
         lines.push(line("confirm", book, state, &mirror(&row[pending]), 0));
     }
+    lines.push(line("confirm, of a sale", "full", full, &mirror(&row[222]), 0));
     let other = Request { quantity: 99, ..mirror(&row[254]) };
     lines.push(line("confirm, refused 17", "full", full, &other, 17));
     lines.push(line("confirm, refused 16", "full", full, &mirror(&row[255]), 16));
