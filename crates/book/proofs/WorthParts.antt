@@ -10,7 +10,6 @@ use lib.ListN.{length, getD, set, drop, length-set}
 use lib.Seq.{getD-set-other, getD-set-same, drop-cons, drop-length}
 use lib.Dec.{eqb}
 use borrow.Author.Tests.{eq-eqb, ne-eqb}
-use Rattle.wire.specs.Numbers.{numberAt}
 use Rattle.units.specs.declared.CentsPerMwh.{CentsPerMwh}
 use Rattle.units.specs.Units.{centsPerMwh}
 use Rattle.rules.specs.declared.Counts.{Counts}
@@ -23,14 +22,12 @@ use Rattle.rules.specs.Registration.{pending, exposure}
 use Rattle.rules.proofs.Searches.{each-map}
 use Rattle.rules.proofs.Tests.{within-true}
 use Rattle.rules.proofs.Totals.{total-zero, total-last, total-upTo}
-use Rattle.book.specs.Layout.{presentAt, rowAt}
 use Rattle.book.specs.Valid.{isBook, bookIn}
 use Rattle.book.specs.Worth.{shortWorth, spanPrice, saleWorth, exposureWith, PriceSums, Takeable, netWith}
 use Rattle.book.proofs.Soundness.{SoundRow}
 use Rattle.book.proofs.SumLaws.{lt-or-ge}
 use Rattle.book.proofs.BookRows.{counts-in, setup-in, estimates-in, values-in}
-use Rattle.book.proofs.RowBytes.{row-at}
-use Rattle.book.proofs.StateLaws.{book-is-sound, numbered-row-stands}
+use Rattle.book.proofs.StateLaws.{book-is-sound}
 use Rattle.book.proofs.WorthLaws.{with-none, exposure-split}
 use Rattle.book.proofs.MoneyLaws.{price-most}
 

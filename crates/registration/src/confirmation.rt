@@ -20,8 +20,8 @@ ghost use Rattle.book.specs.Valid.{isBook, bookIn, bookBytes};
 ghost use Rattle.book.specs.Sums.{Tabled};
 ghost use Rattle.book.specs.Worth.{saleWorth, exposureWith};
 ghost use Rattle.registration.specs.Kinds.{decided, outcomeOn, bookAfter, Ready, Confirming, WaitsIn};
-use crate::cover::caller_operator;
 use crate::cover::in_force_covers;
+use crate::cover::operator_of;
 use crate::margins::Broken;
 use crate::margins::broken_hour;
 use crate::positions::move_nets;
@@ -95,7 +95,7 @@ fn trade_covered(book: &[u8], row: Row, trade: Row, number: u8) -> bool
     if row.side == 1 {
         return true;
     }
-    let operator = caller_operator(book, number);
+    let operator = operator_of(book, number);
     let with = exposure_with(book, operator, trade);
     let freed = sale_worth(book, operator, row);
     in_force_covers(book, with.less(freed), operator)

@@ -18,8 +18,8 @@ ghost use Rattle.book.specs.Image.{rowValues, rowBytes};
 ghost use Rattle.book.specs.Valid.{isBook, bookIn, bookBytes};
 ghost use Rattle.book.specs.Worth.{exposureWith, Takeable};
 ghost use Rattle.registration.specs.Kinds.{decided, outcomeOn, bookAfter, Ready};
-use crate::cover::caller_operator;
 use crate::cover::in_force_covers;
+use crate::cover::operator_of;
 use crate::margins::Broken;
 use crate::margins::broken_hour;
 use crate::search::pending_number;
@@ -76,7 +76,7 @@ fn row_covered(book: &[u8], row: Row, number: u8) -> bool
     if row.side != 1 {
         return true;
     }
-    let operator = caller_operator(book, number);
+    let operator = operator_of(book, number);
     let owed = exposure_with(book, operator, row);
     in_force_covers(book, owed, operator)
 }

@@ -11,8 +11,8 @@ returns c =
     let pre = c .before .before .before .pre in
     sale-covered _ _ (pre .0) (pre .1) _ (pre .2) _ (pre .3) (pre .4) (c .if1 .taken)
 
-caller-operator-requires : tie.Need-caller-operator-requires
-caller-operator-requires c κs = search needs
+operator-of-requires : tie.Need-operator-of-requires
+operator-of-requires c κs = search needs
 
 exposure-with-requires : tie.Need-exposure-with-requires
 exposure-with-requires c κs =
@@ -27,7 +27,7 @@ sale-worth-requires c κs =
 less-requires : tie.Need-less-requires
 less-requires c κs =
     let pre = c .before .before .before .before .before .before .pre in
-    rw (c .before .exposure-with .ensures .0, c .sale-worth .ensures .0, c .before .before .caller-operator .ensures .0) (trade-freed _ _ (pre .0) (pre .1) _ (pre .2) _)
+    rw (c .before .exposure-with .ensures .0, c .sale-worth .ensures .0, c .before .before .operator-of .ensures .0) (trade-freed _ _ (pre .0) (pre .1) _ (pre .2) _)
 
 in-force-covers-requires : tie.Need-in-force-covers-requires
 in-force-covers-requires c κs = search needs
@@ -36,14 +36,14 @@ returns-2 : tie.Need-returns-2
 returns-2 c =
     let freed = c .before .before in
     c .in-force-covers .ensures
-    ∙ rw (c .before .less .ensures, freed .before .exposure-with .ensures .0, freed .sale-worth .ensures .0, freed .before .before .caller-operator .ensures .0)
+    ∙ rw (c .before .less .ensures, freed .before .exposure-with .ensures .0, freed .sale-worth .ensures .0, freed .before .before .operator-of .ensures .0)
 
 pub trade-covered-spec : {M : Type 1} → statement M
 trade-covered-spec =
     tie.close
     (tie.spec
     returns
-    caller-operator-requires
+    operator-of-requires
     exposure-with-requires
     sale-worth-requires
     less-requires

@@ -11,8 +11,8 @@ returns c =
     let pre = c .before .before .before .pre in
     still-covered _ _ _ (pre .0) (pre .3) (pre .4) (purchase-exposes-none _ _ _ _ (pre .2) (c .if1 .taken))
 
-caller-operator-requires : tie.Need-caller-operator-requires
-caller-operator-requires c κs = search needs
+operator-of-requires : tie.Need-operator-of-requires
+operator-of-requires c κs = search needs
 
 exposure-with-requires : tie.Need-exposure-with-requires
 exposure-with-requires c κs = search needs
@@ -22,9 +22,9 @@ in-force-covers-requires c κs = search needs
 
 returns-2 : tie.Need-returns-2
 returns-2 c =
-    c .in-force-covers .ensures ∙ rw (c .before .exposure-with .ensures .0, c .before .before .caller-operator .ensures .0)
+    c .in-force-covers .ensures ∙ rw (c .before .exposure-with .ensures .0, c .before .before .operator-of .ensures .0)
 
 pub row-covered-spec : {M : Type 1} → statement M
 row-covered-spec =
     tie.close
-    (tie.spec returns caller-operator-requires exposure-with-requires in-force-covers-requires returns-2)
+    (tie.spec returns operator-of-requires exposure-with-requires in-force-covers-requires returns-2)

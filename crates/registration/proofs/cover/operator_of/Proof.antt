@@ -2,11 +2,12 @@
 use mathlib.Core.Path.{ap}
 use native.Mathlib.Omega.{arith}
 use Rattle.rules.specs.declared.Account.{Account}
+use Rattle.book.proofs.StateLaws.{book-is-sound}
 use Rattle.book.proofs.BookRows.{setup-tabled}
 use Rattle.registration.proofs.MarginLaws.{account-read, accounts-read}
 use Rattle.registration.proofs.CoverLaws.{caller-operator}
-use Rattle.registration.proofs.cover.caller_operator.Statement.{statement}
-use Rattle.registration.proofs.cover.caller_operator.Tie as tie
+use Rattle.registration.proofs.cover.operator_of.Statement.{statement}
+use Rattle.registration.proofs.cover.operator_of.Tie as tie
 
 account-requires : tie.Need-account-requires
 account-requires c κs =
@@ -19,7 +20,8 @@ returns c =
     let pre = start .pre in
     let same = ap (λ (x : Account). x .operator) (account-read _ (pre .0) _ (start .args .number) (c .account .ensures)) in
     let caller = caller-operator _ (start .args .number) (pre .0) (pre .1) (pre .2) in
-    (same, (omega (arith, same, caller .0), omega (arith, same, caller .1)))
+    let few = book-is-sound _ (pre .0) .setup-sound .operators-high in
+    (same, (omega (arith, same, caller .0), omega (arith, same, caller .1), omega (arith, same, caller .1, few)))
 
-pub caller-operator-spec : {M : Type 1} → statement M
-caller-operator-spec = tie.close (tie.spec account-requires returns)
+pub operator-of-spec : {M : Type 1} → statement M
+operator-of-spec = tie.close (tie.spec account-requires returns)
