@@ -1,5 +1,6 @@
 -- What eases an account hour: low no lower, high no higher, no more exposed. A confirm eases every account but its caller, for what
 -- the proposer has pending turns into net; a register every account but its caller; a withdrawal and the close of the gate all.
+-- A purchase that waits and a sale that is confirmed expose no operator more.
 use Prim.Native.Nat.{ℕ, _+_, _*_, _≤_}
 use mathlib.Core.Path.{_≡_, refl, sym, ap, _∙_}
 use mathlib.Core.Logic.{_⊎_, inl, inr, ⊎-elim}
@@ -18,10 +19,11 @@ use Rattle.rules.specs.declared.AccountHour.{AccountHour}
 use Rattle.rules.specs.declared.Request.{Request}
 use Rattle.rules.specs.Basics.{if_then_else_, total, nth, upTo}
 use Rattle.rules.specs.Books.{Setup, noRow, accountCount, estimateAt, operatorOf}
-use Rattle.rules.specs.Registration.{pending, covers, seller, buyer, mark, closed, proposed, bought, sold, pendingSales, pendingPurchases, accountHour, low, high, keepsMargins, exposed, ofOperator, exposureOf, exposure, available, covered}
+use Rattle.rules.specs.Registration.{pending, covers, seller, buyer, mark, closed, proposed, bought, sold, pendingSales, pendingPurchases, accountHour, takes, low, high, keepsMargins, exposed, ofOperator, exposureOf, exposure, available, covered}
 use Rattle.rules.proofs.Tests.{and-both}
 use Rattle.rules.proofs.Differences.{difference-order, order-by, difference-more, difference-less}
 use Rattle.rules.proofs.AccountHours.{share, weight, moved-confirm, moved-withdraw, moved-close, waiting-end, waiting-close, weight-of-others, hour-register, hour-confirm}
+use Rattle.book.specs.Worth.{exposureWith}
 use Rattle.book.proofs.Soundness.{SoundRow}
 
 -- ---- one account hour and the next, in natural numbers
@@ -81,19 +83,25 @@ unfolding total
 total-le f g [] h = omega arith
 total-le f g (x ∷ xs) h = omega (arith, h x, total-le f g xs h)
 
--- where an operator's accounts are all eased, it is exposed no more
-pub eased-exposure : (u : Setup) (rows later : List Row) (o : ℕ)
-    → ((a h : ℕ) → operatorOf u a ≡ o → Eased (accountHour rows a h) (accountHour later a h))
-    → exposure u later o ≤ exposure u rows o
+-- where an operator's accounts are exposed no more in any hour, neither is it
+no-more-exposure : (u : Setup) (before after : ℕ → ℕ → AccountHour) (o : ℕ)
+    → ((a h : ℕ) → operatorOf u a ≡ o → exposed (after a h) ≤ exposed (before a h))
+    → exposureOf u after o ≤ exposureOf u before o
 unfolding exposureOf ofOperator
-eased-exposure u rows later o eased = total-le _ _ (upTo (accountCount u)) (λ a. go a (eqb (operatorOf u a) o) refl)
+no-more-exposure u before after o no-more = total-le _ _ (upTo (accountCount u)) (λ a. go a (eqb (operatorOf u a) o) refl)
   where
     go : (a : ℕ) (t : Bool) → eqb (operatorOf u a) o ≡ t
-        → (if t then total (λ h. estimateAt u h .0 * exposed (accountHour later a h)) (upTo (u .hours)) else 0)
-        ≤ (if t then total (λ h. estimateAt u h .0 * exposed (accountHour rows a h)) (upTo (u .hours)) else 0)
-    go a true w =
-        total-le _ _ (upTo (u .hours)) (λ h. mul-le-mul-left (estimateAt u h .0) (eased a h (eqb-true _ _ w) .no-more-exposed))
+        → (if t then total (λ h. estimateAt u h .0 * exposed (after a h)) (upTo (u .hours)) else 0)
+        ≤ (if t then total (λ h. estimateAt u h .0 * exposed (before a h)) (upTo (u .hours)) else 0)
+    go a true w = total-le _ _ (upTo (u .hours)) (λ h. mul-le-mul-left (estimateAt u h .0) (no-more a h (eqb-true _ _ w)))
     go a false w = omega arith
+
+-- so it is where they are all eased
+eased-exposure : (u : Setup) (rows later : List Row) (o : ℕ)
+    → ((a h : ℕ) → operatorOf u a ≡ o → Eased (accountHour rows a h) (accountHour later a h))
+    → exposure u later o ≤ exposure u rows o
+eased-exposure u rows later o eased =
+    no-more-exposure u (accountHour rows) (accountHour later) o (λ a h owns. eased a h owns .no-more-exposed)
 
 -- and covered if it was
 pub eased-covered : (u : Setup) (gs : List Cents) (rows later : List Row) (o : ℕ)
@@ -118,6 +126,14 @@ register-leaves-others rows q a h other =
 pub register-eases-others : (rows : List Row) (q : Request) (a h : ℕ) → (a ≡ q .account → ⊥)
     → Eased (accountHour rows a h) (accountHour (rows ++ proposed q ∷ []) a h)
 register-eases-others rows q a h other = rw (register-leaves-others rows q a h other) (eased-refl (accountHour rows a h))
+
+-- a purchase that waits exposes no operator
+pub purchase-exposes-none : (u : Setup) (rows : List Row) (r : Row) (o : ℕ) → pending r ≡ true → (r .side ≡ 1 → ⊥)
+    → exposureWith u rows r o ≤ exposure u rows o
+unfolding takes
+purchase-exposes-none u rows r o waits buys =
+    no-more-exposure u (accountHour rows) (λ a h. takes a h (accountHour rows a h) r) o
+    (λ a h owns. rw (eqb-true (r .status) 1 waits, ne-eqb (r .side) 1 buys, and-false (covers h r && eqb (r .proposer) a)) (omega arith))
 
 -- ---- withdraw and close gate
 
@@ -202,6 +218,17 @@ pub confirm-eases-operators : (u : Setup) (rows : List Row) (n o : ℕ) → Soun
 confirm-eases-operators u rows n o sound waits other =
     eased-exposure u rows (mark n 2 rows) o
     (λ a h owns. confirm-eases-others rows n a h waits (sound .side-low) (sound .side-high) (λ same. other (ap (operatorOf u) (sym same) ∙ owns)))
+
+-- nor is any where the row is a sale: what the proposer has pending turns into net, and the caller buys
+pub sale-eases-operators : (u : Setup) (rows : List Row) (n o : ℕ) → pending (nth rows n noRow) ≡ true → nth rows n noRow .side ≡ 1
+    → exposure u (mark n 2 rows) o ≤ exposure u rows o
+sale-eases-operators u rows n o waits sells =
+    no-more-exposure u (accountHour rows) (accountHour (mark n 2 rows)) o (λ a h owns.
+    let b = moved-confirm buyer a h (λ status r. refl) rows n waits in
+    let s = moved-confirm seller a h (λ status r. refl) rows n waits in
+    let x = waiting-end 1 a h rows n 2 waits refl in
+    let w = share-of-proposer 1 a h (nth rows n noRow) seller (rw sells) sells in
+    omega arith)
 
 share-of-neither : (a h : ℕ) (r : Row) (party : Row → ℕ) → (party r ≡ a → ⊥) → share party a h r ≡ 0
 share-of-neither a h r party other = rw (ne-eqb (party r) a other, and-false (covers h r))

@@ -1,5 +1,5 @@
--- A row confirmed: what it is by being named; the tests of confirm in the order of their numbers, each on the
--- book as it would be; and its status with the nets of both parties as all that is written.
+-- A row confirmed: what it is by being named; what it weighs once it is a trade; the tests of confirm in the order of their numbers, each
+-- on the book as it would be; and its status with the nets of both parties as all that is written.
 use Prim.Native.Nat.{ℕ, suc, _+_, _-_, _^_, _≤_}
 use mathlib.Core.Path.{_≡_, refl, sym, ap, _∙_}
 use mathlib.Core.List.{List}
@@ -25,17 +25,18 @@ use Rattle.rules.specs.Calls.{numberFrom, confirmedNumber, next}
 use Rattle.rules.proofs.Searches.{index-first}
 use Rattle.rules.proofs.RowTests.{Alike, alike-true, passed-confirm}
 use Rattle.rules.proofs.Passed.{passed-16-confirm}
-use Rattle.rules.proofs.AccountHours.{hour-takes-confirmed}
+use Rattle.rules.proofs.AccountHours.{pending-inside, hour-takes-confirmed}
 use Rattle.book.specs.Layout.{presentAt, rowAt, netAt, statusIn}
 use Rattle.book.specs.Changes.{raised}
 use Rattle.book.specs.Valid.{isBook, bookIn}
 use Rattle.book.specs.Sums.{Tabled}
 use Rattle.book.specs.Worth.{saleWorth, exposureWith, Takeable}
 use Rattle.book.proofs.Soundness.{SoundRow}
+use Rattle.book.proofs.Easing.{sale-eases-operators}
 use Rattle.book.proofs.StateLaws.{book-is-sound}
 use Rattle.book.proofs.BookRows.{sound-tabled, numbered-sound}
 use Rattle.book.proofs.WorthLaws.{with-confirmed}
-use Rattle.registration.specs.Kinds.{decided, Confirming}
+use Rattle.registration.specs.Kinds.{decided, Confirming, WaitsIn}
 use Rattle.registration.specs.Margins.{brokenBy, broken}
 use Rattle.registration.specs.declared.margins.Broken.the-variants.{Hour, Nowhere}
 use Rattle.registration.proofs.Decisions.{decided-clear, no-row-to-confirm, terms-differ, confirm-breaks, confirm-uncovered, confirm-passes}
@@ -44,7 +45,7 @@ use Rattle.registration.proofs.Acceptances.{confirmed-answered}
 use Rattle.registration.proofs.SearchLaws.{find-cong}
 use Rattle.registration.proofs.PendingLaws.{number-high}
 use Rattle.registration.proofs.MarginLaws.{found-hour, found-nowhere}
-use Rattle.registration.proofs.CoverLaws.{covered-at, sound-takeable, settled-takeable}
+use Rattle.registration.proofs.CoverLaws.{covered-at, still-covered, sound-takeable, settled-takeable}
 
 -- ---- the row that is named
 
@@ -97,21 +98,64 @@ row-sound : (s : List ℕ) (h : isBook s ≡ true) (n : ℕ) (r : Row) → 1 ≤
     → r ≡ nth (bookIn s .part .rows) n noRow → SoundRow (bookIn s .setup) r
 row-sound s h n r low high e = rw e (numbered-sound s h n low high)
 
+-- ---- a row that waits, once it is confirmed
+
+module _ (s : List ℕ) (r : Row) (h : isBook s ≡ true) (w : WaitsIn (bookIn s) r) where
+  waiting-inside : (1 ≤ w .number) × (w .number ≤ length (bookIn s .part .rows))
+  waiting-inside = pending-inside (bookIn s .part .rows) (w .number) (rw (← w .row) (w .is-pending))
+
+  waiting-sound : SoundRow (bookIn s .setup) r
+  waiting-sound = row-sound s h (w .number) r (waiting-inside .0) (waiting-inside .1) (w .row)
+
+  pub waiting-takeable : Takeable (bookIn s .setup) r
+  waiting-takeable = sound-takeable (bookIn s .setup) r waiting-sound
+
+  module _ (trade : Row) (e : trade ≡ withStatus 2 r) where
+    pub trade-energy : trade .quantity .0 ≤ mostEnergy
+    trade-energy = rw e (waiting-sound .quantity-high)
+
+    -- as a trade it can be taken
+    pub trade-takeable : Takeable (bookIn s .setup) trade
+    trade-takeable = settled-takeable (bookIn s .setup) trade trade-energy (rw e)
+
+    -- with the trade taken the exposure is that of the rows where it is confirmed, and what the row weighs as one that waits
+    trade-worth : (o : ℕ) → exposureWith (bookIn s .setup) (bookIn s .part .rows) trade o
+        ≡ exposure (bookIn s .setup) (mark (w .number) 2 (bookIn s .part .rows)) o + saleWorth (bookIn s .setup) o r
+    trade-worth o =
+        rw e (with-confirmed (bookIn s .setup) o (bookIn s .part .rows) r (w .number) (waiting-inside .0) (waiting-inside .1) (w .row) (w .is-pending)
+        (waiting-sound .proposer-low, waiting-sound .proposer-high))
+
+    pub trade-freed : (o : ℕ) → saleWorth (bookIn s .setup) o r ≤ exposureWith (bookIn s .setup) (bookIn s .part .rows) trade o
+    trade-freed o = omega (arith, trade-worth o)
+
+    -- a sale that is confirmed leaves every operator covered
+    pub sale-covered : (a : ℕ) → 1 ≤ a → a ≤ accountCount (bookIn s .setup) → r .side ≡ 1
+        → true
+        ≡ leb
+        (exposureWith (bookIn s .setup) (bookIn s .part .rows) trade (operatorOf (bookIn s .setup) a) - saleWorth (bookIn s .setup) (operatorOf (bookIn s .setup) a) r)
+        (available (bookIn s .setup) (bookIn s .part) (operatorOf (bookIn s .setup) a))
+    sale-covered a low high sells =
+        let o : ℕ = operatorOf (bookIn s .setup) a in
+        still-covered s a _ h low high
+        (omega (arith, trade-worth o, sale-eases-operators (bookIn s .setup) (bookIn s .part .rows) (w .number) o (rw (← w .row) (w .is-pending)) (rw (← w .row) sells)))
+
+-- ---- the row that is named and mirrored
+
 module _ (s : List ℕ) (q : Request) (r : Row) (h : isBook s ≡ true) (w : Confirming (bookIn s) q r) where
-  -- it is a row of the book
-  named-sound : SoundRow (bookIn s .setup) r
-  named-sound = row-sound s h (confirmedNumber (bookIn s) q) r (w .named) (confirmed-high (bookIn s) q) (w .row)
-
-  pub named-takeable : Takeable (bookIn s .setup) r
-  named-takeable = sound-takeable (bookIn s .setup) r named-sound
-
   -- pending, with the other account as its proposer and the calling one as its counterparty
-  named-alike : Alike (q .other) (q .account) (q .code) r
+  pub named-alike : Alike (q .other) (q .account) (q .code) r
   unfolding confirms
   named-alike =
       let (i, e) = index-named (confirms (bookIn s .part .rows) q) (w .named) in
       let f = index-first (alike (q .other) (q .account) (q .code)) noRow (bookIn s .part .rows) i e in
       rw (w .row, e) (alike-true _ _ _ _ (f .passes))
+
+  abbrev pub named-waits : WaitsIn (bookIn s) r
+  named-waits = record { number = confirmedNumber (bookIn s) q; row = w .row; is-pending = named-alike .is-pending }
+
+  -- it is a row of the book
+  named-sound : SoundRow (bookIn s .setup) r
+  named-sound = waiting-sound s r h named-waits
 
   -- the calling account is one of the book's, and not the proposer
   pub caller-in-book : (1 ≤ q .account) × (q .account ≤ accountCount (bookIn s .setup))
@@ -133,23 +177,6 @@ module _ (s : List ℕ) (q : Request) (r : Row) (h : isBook s ≡ true) (w : Con
   same-terms = rw (← w .row) (w .terms)
 
   module _ (trade : Row) (e : trade ≡ withStatus 2 r) where
-    pub trade-energy : trade .quantity .0 ≤ mostEnergy
-    trade-energy = rw e (named-sound .quantity-high)
-
-    -- as a trade it can be taken
-    pub trade-takeable : Takeable (bookIn s .setup) trade
-    trade-takeable = settled-takeable (bookIn s .setup) trade trade-energy (rw e)
-
-    -- with the trade taken the exposure is that of the rows where it is confirmed, and what the row weighs as one that waits
-    trade-worth : (o : ℕ) → exposureWith (bookIn s .setup) (bookIn s .part .rows) trade o
-        ≡ exposure (bookIn s .setup) (mark (confirmedNumber (bookIn s) q) 2 (bookIn s .part .rows)) o + saleWorth (bookIn s .setup) o r
-    trade-worth o =
-        rw e (with-confirmed (bookIn s .setup) o (bookIn s .part .rows) r (confirmedNumber (bookIn s) q) (w .named) (confirmed-high (bookIn s) q) (w .row) (named-alike .is-pending)
-        (named-sound .proposer-low, named-sound .proposer-high))
-
-    pub trade-freed : (o : ℕ) → saleWorth (bookIn s .setup) o r ≤ exposureWith (bookIn s .setup) (bookIn s .part .rows) trade o
-    trade-freed o = omega (arith, trade-worth o)
-
     -- ---- what the state decides
 
     -- 18
@@ -170,7 +197,7 @@ module _ (s : List ℕ) (q : Request) (r : Row) (h : isBook s ≡ true) (w : Con
           let u : Setup = bookIn s .setup in
           let o : ℕ = operatorOf u (q .account) in
           let rows : List Row = bookIn s .part .rows in
-          covered-at u (bookIn s .part .guarantees) rows (mark (confirmedNumber (bookIn s) q) 2 rows) o _ (omega (arith, trade-worth o)) ∙ sym weight
+          covered-at u (bookIn s .part .guarantees) rows (mark (confirmedNumber (bookIn s) q) 2 rows) o _ (omega (arith, trade-worth s r h named-waits trade e o)) ∙ sym weight
 
       -- 19
       pub trade-uncovered : t ≡ false → decided confirm (bookIn s) q ≡ some Uncovered

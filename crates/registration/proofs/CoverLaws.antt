@@ -6,6 +6,7 @@ use mathlib.Core.Bool.{Bool, true, false}
 use native.Mathlib.Omega.{arith}
 use lib.ListN.{length, replicate, length-map, length-replicate}
 use lib.Dec.{leb}
+use borrow.Author.Tests.{leb-true, le-leb}
 use Rattle.wire.specs.Numbers.{numberAt}
 use Rattle.wire.proofs.SlotLaws.{map-get}
 use Rattle.units.specs.Units.{cents}
@@ -107,6 +108,18 @@ pub covered-at : (u : Setup) (gs : List Cents) (rows after : List Row) (o owed :
     → covered u (record { guarantees = gs; rows = after }) o ≡ leb owed (available u (record { guarantees = gs; rows = rows }) o)
 unfolding covered available
 covered-at u gs rows after o owed e = rw e
+
+-- an exposure that is no more than in the book is covered, for a book covers each operator
+pub still-covered : (s : List ℕ) (a owed : ℕ) → isBook s ≡ true → 1 ≤ a → a ≤ accountCount (bookIn s .setup)
+    → owed ≤ exposure (bookIn s .setup) (bookIn s .part .rows) (operatorOf (bookIn s .setup) a)
+    → true ≡ leb owed (available (bookIn s .setup) (bookIn s .part) (operatorOf (bookIn s .setup) a))
+unfolding covered
+still-covered s a owed h low high no-more =
+    let u : Setup = bookIn s .setup in
+    let o : ℕ = operatorOf u a in
+    let known = caller-operator s a h low high in
+    let fits = leb-true (exposure u (bookIn s .part .rows) o) (available u (bookIn s .part) o) (book-is-sound s h .part-sound .is-covered o (known .0) (known .1)) in
+    sym (le-leb owed (available u (bookIn s .part) o) (omega arith))
 
 -- a row of a book can be taken
 pub sound-takeable : (u : Setup) (r : Row) → SoundRow u r → Takeable u r

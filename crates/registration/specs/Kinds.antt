@@ -11,7 +11,7 @@ use Rattle.rules.specs.declared.Refusal.{Refusal}
 use Rattle.rules.specs.Verdicts.{lowest, outcomeOf}
 use Rattle.rules.specs.Books.{Book, noRow, countsOf}
 use Rattle.rules.specs.Requests.{Kind, kindNumber, faultyBit, sameAccounts, unlessRefused}
-use Rattle.rules.specs.Registration.{mirrors}
+use Rattle.rules.specs.Registration.{pending, mirrors}
 use Rattle.rules.specs.Calls.{confirmedNumber, stateChecks, next, given}
 
 -- what the state refuses it for, if anything: 11 to 20
@@ -39,3 +39,9 @@ pub record Confirming (b : Book) (q : Request) (r : Row) : Type 0 where
   pub named : 1 ≤ confirmedNumber b q
   pub row : r ≡ nth (b .part .rows) (confirmedNumber b q) noRow
   pub terms : mirrors q r ≡ true
+
+-- one of the book's rows, pending
+pub record WaitsIn (b : Book) (r : Row) : Type 0 where
+  pub number : ℕ
+  pub row : r ≡ nth (b .part .rows) number noRow
+  pub is-pending : pending r ≡ true

@@ -18,8 +18,8 @@ ghost use Rattle.book.specs.Layout.{presentAt, rowAt, statusIn, netAt};
 ghost use Rattle.book.specs.Changes.{raised};
 ghost use Rattle.book.specs.Valid.{isBook, bookIn, bookBytes};
 ghost use Rattle.book.specs.Sums.{Tabled};
-ghost use Rattle.book.specs.Worth.{saleWorth, exposureWith, Takeable};
-ghost use Rattle.registration.specs.Kinds.{decided, outcomeOn, bookAfter, Ready, Confirming};
+ghost use Rattle.book.specs.Worth.{saleWorth, exposureWith};
+ghost use Rattle.registration.specs.Kinds.{decided, outcomeOn, bookAfter, Ready, Confirming, WaitsIn};
 use crate::cover::caller_operator;
 use crate::cover::in_force_covers;
 use crate::margins::Broken;
@@ -88,9 +88,13 @@ fn confirmed_row(r: Row) -> Row
 
 // Whether the guarantee of the account's operator covers its exposure once the row is a trade: it is taken, and waits no longer.
 fn trade_covered(book: &[u8], row: Row, trade: Row, number: u8) -> bool
-    requires { ⌜ (isBook (now book) ≡ true) × Takeable (bookIn (now book) .setup) row × Takeable (bookIn (now book) .setup) trade × (saleWorth (bookIn (now book) .setup) (operatorOf (bookIn (now book) .setup) number) row ≤ exposureWith (bookIn (now book) .setup) (bookIn (now book) .part .rows) trade (operatorOf (bookIn (now book) .setup) number)) × (1 ≤ number) × (number ≤ accountCount (bookIn (now book) .setup)) ⌝ }
+    requires { ⌜ (isBook (now book) ≡ true) × WaitsIn (bookIn (now book)) row × (trade ≡ withStatus 2 row) × (1 ≤ number) × (number ≤ accountCount (bookIn (now book) .setup)) ⌝ }
     ensures { λ r. ⌜ r ≡ leb (exposureWith (bookIn (now (book .entry)) .setup) (bookIn (now (book .entry)) .part .rows) trade (operatorOf (bookIn (now (book .entry)) .setup) number) - saleWorth (bookIn (now (book .entry)) .setup) (operatorOf (bookIn (now (book .entry)) .setup) number) row) (available (bookIn (now (book .entry)) .setup) (bookIn (now (book .entry)) .part) (operatorOf (bookIn (now (book .entry)) .setup) number)) ⌝ }
 {
+    // What a seller has pending turns into net and its buyer's net rises, and a book covers what its rows weigh.
+    if row.side == 1 {
+        return true;
+    }
     let operator = caller_operator(book, number);
     let with = exposure_with(book, operator, trade);
     let freed = sale_worth(book, operator, row);

@@ -12,7 +12,7 @@ ghost use Rattle.rules.specs.Limits.{mostRows, bookSize};
 ghost use Rattle.rules.specs.Verdicts.{checked};
 ghost use Rattle.rules.specs.Requests.{register};
 ghost use Rattle.rules.specs.Books.{operatorOf, accountCount};
-ghost use Rattle.rules.specs.Registration.{alike, proposed, available};
+ghost use Rattle.rules.specs.Registration.{pending, alike, proposed, available};
 ghost use Rattle.book.specs.Layout.{rowWidths, presentAt, rowAt, rowCountAt};
 ghost use Rattle.book.specs.Image.{rowValues, rowBytes};
 ghost use Rattle.book.specs.Valid.{isBook, bookIn, bookBytes};
@@ -69,9 +69,13 @@ fn already_pending(book: &[u8], request: Request) -> bool
 
 // Whether the guarantee of the account's operator covers its exposure once the row is taken.
 fn row_covered(book: &[u8], row: Row, number: u8) -> bool
-    requires { ⌜ (isBook (now book) ≡ true) × Takeable (bookIn (now book) .setup) row × (1 ≤ number) × (number ≤ accountCount (bookIn (now book) .setup)) ⌝ }
+    requires { ⌜ (isBook (now book) ≡ true) × Takeable (bookIn (now book) .setup) row × (pending row ≡ true) × (1 ≤ number) × (number ≤ accountCount (bookIn (now book) .setup)) ⌝ }
     ensures { λ r. ⌜ r ≡ leb (exposureWith (bookIn (now (book .entry)) .setup) (bookIn (now (book .entry)) .part .rows) row (operatorOf (bookIn (now (book .entry)) .setup) number)) (available (bookIn (now (book .entry)) .setup) (bookIn (now (book .entry)) .part) (operatorOf (bookIn (now (book .entry)) .setup) number)) ⌝ }
 {
+    // A purchase that waits weighs nothing, and a book covers what its rows weigh.
+    if row.side != 1 {
+        return true;
+    }
     let operator = caller_operator(book, number);
     let owed = exposure_with(book, operator, row);
     in_force_covers(book, owed, operator)

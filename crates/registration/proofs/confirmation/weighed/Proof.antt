@@ -1,7 +1,7 @@
 -- The search for a broken margin, and then the exposure with the trade taken and the row waiting no longer.
 use mathlib.Core.Path.{sym, ap, _∙_}
 use Rattle.rules.specs.Verdicts.{checked}
-use Rattle.registration.proofs.ConfirmationLaws.{named-takeable, caller-in-book, trade-energy, trade-takeable, trade-freed, trade-breaks, trade-uncovered, trade-covered}
+use Rattle.registration.proofs.ConfirmationLaws.{named-waits, caller-in-book, trade-energy, trade-breaks, trade-uncovered, trade-covered}
 use borrow.Author.Needs.{needs}
 use Rattle.registration.proofs.confirmation.weighed.Statement.{statement}
 use Rattle.registration.proofs.confirmation.weighed.Tie as tie
@@ -13,7 +13,7 @@ broken-hour-requires : tie.Need-broken-hour-requires
 broken-hour-requires c κs =
     let pre = c .before .before .pre in
     let caller = caller-in-book _ _ _ (pre .0) (pre .1) in
-    (pre .0, trade-energy _ _ _ (pre .0) (pre .1) _ (c .confirmed-row .ensures), caller .0, caller .1)
+    (pre .0, trade-energy _ _ (pre .0) (named-waits _ _ _ (pre .0) (pre .1)) _ (c .confirmed-row .ensures), caller .0, caller .1)
 
 enum-known-hour : tie.Need-enum-known-hour
 enum-known-hour c = search needs
@@ -32,9 +32,8 @@ trade-covered-requires : tie.Need-trade-covered-requires
 trade-covered-requires c κs =
     let trade = c .before .before .before in
     let pre = trade .before .before .pre in
-    let same = trade .confirmed-row .ensures in
     let caller = caller-in-book _ _ _ (pre .0) (pre .1) in
-    (pre .0, named-takeable _ _ _ (pre .0) (pre .1), trade-takeable _ _ _ (pre .0) (pre .1) _ same, trade-freed _ _ _ (pre .0) (pre .1) _ same _, caller .0, caller .1)
+    (pre .0, named-waits _ _ _ (pre .0) (pre .1), trade .confirmed-row .ensures, caller .0, caller .1)
 
 returns-2 : tie.Need-returns-2
 returns-2 c =

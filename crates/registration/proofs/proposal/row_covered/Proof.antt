@@ -1,8 +1,15 @@
--- What is owed is the exposure of the account's operator with the row taken.
+-- A purchase that waits exposes nobody. Of a sale, what is owed is the exposure of the account's operator with the row taken.
 use mathlib.Core.Path.{_∙_}
 use borrow.Author.Needs.{needs}
+use Rattle.book.proofs.Easing.{purchase-exposes-none}
+use Rattle.registration.proofs.CoverLaws.{still-covered}
 use Rattle.registration.proofs.proposal.row_covered.Statement.{statement}
 use Rattle.registration.proofs.proposal.row_covered.Tie as tie
+
+returns : tie.Need-returns
+returns c =
+    let pre = c .before .before .before .pre in
+    still-covered _ _ _ (pre .0) (pre .3) (pre .4) (purchase-exposes-none _ _ _ _ (pre .2) (c .if1 .taken))
 
 caller-operator-requires : tie.Need-caller-operator-requires
 caller-operator-requires c κs = search needs
@@ -13,11 +20,11 @@ exposure-with-requires c κs = search needs
 in-force-covers-requires : tie.Need-in-force-covers-requires
 in-force-covers-requires c κs = search needs
 
-returns : tie.Need-returns
-returns c =
+returns-2 : tie.Need-returns-2
+returns-2 c =
     c .in-force-covers .ensures ∙ rw (c .before .exposure-with .ensures .0, c .before .before .caller-operator .ensures .0)
 
 pub row-covered-spec : {M : Type 1} → statement M
 row-covered-spec =
     tie.close
-    (tie.spec caller-operator-requires exposure-with-requires in-force-covers-requires returns)
+    (tie.spec returns caller-operator-requires exposure-with-requires in-force-covers-requires returns-2)

@@ -39,7 +39,7 @@ row-covered-requires c κs =
     let trade = c .before .before .before in
     let pre = trade .before .before .pre in
     let row = ready-row _ _ (pre .1) in
-    (pre .0, rw (trade .proposed-row .ensures) (sound-takeable _ _ row), row .proposer-low, row .proposer-high)
+    (pre .0, rw (trade .proposed-row .ensures) (sound-takeable _ _ row), rw (trade .proposed-row .ensures), row .proposer-low, row .proposer-high)
 
 returns-2 : tie.Need-returns-2
 returns-2 c =
