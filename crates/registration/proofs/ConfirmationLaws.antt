@@ -114,6 +114,9 @@ module _ (s : List ℕ) (r : Row) (h : isBook s ≡ true) (w : WaitsIn (bookIn s
     pub trade-energy : trade .quantity .0 ≤ mostEnergy
     trade-energy = rw e (waiting-sound .quantity-high)
 
+    pub trade-hours : (1 ≤ trade .first) × (trade .first ≤ trade .last) × (trade .last ≤ bookIn s .setup .hours)
+    trade-hours = rw e (waiting-sound .first-low, waiting-sound .in-order, waiting-sound .last-high)
+
     -- as a trade it can be taken
     pub trade-takeable : Takeable (bookIn s .setup) trade
     trade-takeable = settled-takeable (bookIn s .setup) trade trade-energy (rw e)
