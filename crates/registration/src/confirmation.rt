@@ -33,7 +33,6 @@ use book::state::REGISTRATION;
 use book::state::phase;
 use book::state::row_place;
 use book::worth::exposure_with;
-use book::worth::sale_worth;
 use rules::Checked;
 use rules::Outcome;
 use rules::Refusal;
@@ -95,10 +94,10 @@ fn trade_covered(book: &[u8], row: Row, trade: Row, number: u8) -> bool
     if row.side == 1 {
         return true;
     }
+    // A purchase that waits weighs nothing.
     let operator = caller_operator(book, number);
-    let with = exposure_with(book, operator, trade);
-    let freed = sale_worth(book, operator, row);
-    in_force_covers(book, with.less(freed), operator)
+    let owed = exposure_with(book, operator, trade);
+    in_force_covers(book, owed, operator)
 }
 
 // What confirm is refused for where it mirrors the row that it names: margins and exposure as they would be.
