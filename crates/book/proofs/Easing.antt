@@ -1,6 +1,6 @@
 -- What eases an account hour: low no lower, high no higher, no more exposed. A confirm eases every account but its caller, for what
--- the proposer has pending turns into net; a register every account but its caller; a withdrawal and the close of the gate all. A purchase that waits
--- and a sale that is confirmed expose no operator more.
+-- the proposer has pending turns into net; a register every account but its caller; a withdrawal and the close of the gate all.
+-- A purchase that waits and a sale that is confirmed expose no operator more.
 use Prim.Native.Nat.{ℕ, _+_, _*_, _≤_}
 use mathlib.Core.Path.{_≡_, refl, sym, ap, _∙_}
 use mathlib.Core.Logic.{_⊎_, inl, inr, ⊎-elim}

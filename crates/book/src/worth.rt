@@ -209,17 +209,6 @@ pub fn no_trade() -> Row
     }
 }
 
-// What a row weighs on the operator as a pending sale.
-pub fn sale_worth(book: &[u8], operator: u8, r: Row) -> MilliCents
-    requires { ⌜ (isBook (now book) ≡ true) × Takeable (bookIn (now book) .setup) r ⌝ }
-    ensures meaning { λ m. ⌜ m .0 ≡ saleWorth (bookIn (now (book .entry)) .setup) operator r ⌝ }
-    ensures bounded { λ m. ⌜ m .0 < 2 ^ 62 ⌝ }
-{
-    let sums = price_sums(book);
-    let from = accounts_from(counts(book));
-    sale_of(book, &sums, from, operator, r)
-}
-
 // The exposure of an operator once the trade is taken.
 pub fn exposure_with(book: &[u8], operator: u8, trade: Row) -> MilliCents
     requires { ⌜ (isBook (now book) ≡ true) × Takeable (bookIn (now book) .setup) trade ⌝ }

@@ -4,7 +4,8 @@ use Prim.Native.Nat.{ℕ, suc, _+_, _-_, _^_, _≤_}
 use mathlib.Core.Path.{_≡_, refl, sym, ap, _∙_}
 use mathlib.Core.List.{List}
 use mathlib.Core.Option.{Option, none, some}
-use mathlib.Core.Bool.{Bool, true, false, not}
+use mathlib.Core.Bool.{Bool, true, false, not, and-false}
+use native.Mathlib.Nat.{sub-zero}
 use native.Mathlib.Omega.{arith}
 use lib.ListN.{length, getD}
 use lib.Dec.{eqb, leb}
@@ -45,7 +46,7 @@ use Rattle.registration.proofs.Acceptances.{confirmed-answered}
 use Rattle.registration.proofs.SearchLaws.{find-cong}
 use Rattle.registration.proofs.PendingLaws.{number-high}
 use Rattle.registration.proofs.MarginLaws.{found-hour, found-nowhere}
-use Rattle.registration.proofs.CoverLaws.{covered-at, still-covered, sound-takeable, settled-takeable}
+use Rattle.registration.proofs.CoverLaws.{covered-at, still-covered, settled-takeable}
 
 -- ---- the row that is named
 
@@ -100,6 +101,11 @@ row-sound s h n r low high e = rw e (numbered-sound s h n low high)
 
 -- ---- a row that waits, once it is confirmed
 
+-- a purchase weighs nothing while it waits, so that nothing is taken off what is owed
+pub purchase-frees-none : (u : Setup) (o owed limit : ℕ) (r : Row) → (r .side ≡ 1 → ⊥) → leb owed limit ≡ leb (owed - saleWorth u o r) limit
+unfolding saleWorth
+purchase-frees-none u o owed limit r buys = rw (ne-eqb (r .side) 1 buys, and-false (pending r), sub-zero owed)
+
 module _ (s : List ℕ) (r : Row) (h : isBook s ≡ true) (w : WaitsIn (bookIn s) r) where
   waiting-inside : (1 ≤ w .number) × (w .number ≤ length (bookIn s .part .rows))
   waiting-inside = pending-inside (bookIn s .part .rows) (w .number) (rw (← w .row) (w .is-pending))
@@ -107,12 +113,12 @@ module _ (s : List ℕ) (r : Row) (h : isBook s ≡ true) (w : WaitsIn (bookIn s
   waiting-sound : SoundRow (bookIn s .setup) r
   waiting-sound = row-sound s h (w .number) r (waiting-inside .0) (waiting-inside .1) (w .row)
 
-  pub waiting-takeable : Takeable (bookIn s .setup) r
-  waiting-takeable = sound-takeable (bookIn s .setup) r waiting-sound
-
   module _ (trade : Row) (e : trade ≡ withStatus 2 r) where
     pub trade-energy : trade .quantity .0 ≤ mostEnergy
     trade-energy = rw e (waiting-sound .quantity-high)
+
+    pub trade-hours : (1 ≤ trade .first) × (trade .first ≤ trade .last) × (trade .last ≤ bookIn s .setup .hours)
+    trade-hours = rw e (waiting-sound .first-low, waiting-sound .in-order, waiting-sound .last-high)
 
     -- as a trade it can be taken
     pub trade-takeable : Takeable (bookIn s .setup) trade
@@ -124,9 +130,6 @@ module _ (s : List ℕ) (r : Row) (h : isBook s ≡ true) (w : WaitsIn (bookIn s
     trade-worth o =
         rw e (with-confirmed (bookIn s .setup) o (bookIn s .part .rows) r (w .number) (waiting-inside .0) (waiting-inside .1) (w .row) (w .is-pending)
         (waiting-sound .proposer-low, waiting-sound .proposer-high))
-
-    pub trade-freed : (o : ℕ) → saleWorth (bookIn s .setup) o r ≤ exposureWith (bookIn s .setup) (bookIn s .part .rows) trade o
-    trade-freed o = omega (arith, trade-worth o)
 
     -- a sale that is confirmed leaves every operator covered
     pub sale-covered : (a : ℕ) → 1 ≤ a → a ≤ accountCount (bookIn s .setup) → r .side ≡ 1

@@ -9,7 +9,7 @@ pub mod Answers
 pub mod Acceptances
 -- Withdrawals: the row that a withdrawal names.
 pub mod Withdrawals
--- SearchLaws: a search that counts up, number by number, and by tests that agree.
+-- SearchLaws: a search that counts up, number by number, over a span, and by tests that agree.
 pub mod SearchLaws
 -- PendingLaws: the search for a pending row.
 pub mod PendingLaws

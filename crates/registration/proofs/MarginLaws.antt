@@ -1,13 +1,14 @@
 -- What the search for a broken margin asks at each hour: the hour has room for the trade, and with its net position by itself the margins
--- of the account that took it are the definition's test.
-use Prim.Native.Nat.{ℕ, _+_, _^_, _≤_, _<_}
+-- of the account that took it are the definition's test. It is asked at the hours of the trade only: a book keeps its margins in all others.
+use Prim.Native.Nat.{ℕ, _+_, _-_, _^_, _≤_, _<_}
 use mathlib.Core.Path.{_≡_, refl, sym, ap, _∙_}
 use mathlib.Core.List.{List}
 use mathlib.Core.Option.{Option, none, some}
-use mathlib.Core.Bool.{Bool, true, not}
+use mathlib.Core.Bool.{Bool, true, false, not, and-false}
+use native.Mathlib.Nat.{add-zero}
 use native.Mathlib.Omega.{arith}
 use lib.Dec.{leb}
-use borrow.Author.Tests.{le-leb, leb-true}
+use borrow.Author.Tests.{le-leb, leb-true, lt-leb}
 use Rattle.rules.specs.declared.Account.{Account}
 use Rattle.rules.specs.declared.AccountHour.{AccountHour}
 use Rattle.rules.specs.declared.Counts.{Counts}
@@ -16,7 +17,7 @@ use Rattle.rules.specs.Basics.{find, nth, counting}
 use Rattle.rules.specs.Limits.{mostHours, mostAccounts, mostEnergy}
 use Rattle.rules.specs.Books.{Setup, noAccount, accountAt, accountCount}
 use Rattle.rules.specs.Opening.{countsIn, accountsIn, setupOf}
-use Rattle.rules.specs.Registration.{netOf, accountHour, takes, keepsMargins}
+use Rattle.rules.specs.Registration.{pending, confirmed, covers, bought, sold, netOf, pendingSales, pendingPurchases, accountHour, takes, keepsMargins}
 use Rattle.rules.proofs.Tests.{test-same}
 use Rattle.book.specs.Valid.{isBook, bookIn}
 use Rattle.book.specs.Netted.{netted}
@@ -28,6 +29,7 @@ use Rattle.book.proofs.WaitLaws.{side-hour}
 use Rattle.book.proofs.BookRows.{counts-in, setup-in}
 use Rattle.registration.specs.Margins.{brokenBy, broken}
 use Rattle.registration.specs.declared.margins.Broken.the-variants.{Hour, Nowhere}
+use Rattle.registration.proofs.SearchLaws.{find-span}
 
 -- ---- what is read of a book
 
@@ -94,10 +96,35 @@ keeps-netted owner rows trade a h =
 unfoldable pub breaks : Setup → List Row → Row → ℕ → ℕ → Bool
 breaks u rows trade a h = not (keepsMargins (accountAt u a) (takes a h (accountHour rows a h) trade))
 
-pub broken-by-hours : (u : Setup) (rows : List Row) (trade : Row) (a : ℕ)
-    → brokenBy u rows trade a ≡ find (breaks u rows trade a) (counting (u .hours) 1)
-unfolding brokenBy breaks
-broken-by-hours u rows trade a = refl
+-- a trade leaves an hour that it is not for
+takes-elsewhere : (rows : List Row) (trade : Row) (a h : ℕ) → covers h trade ≡ false → takes a h (accountHour rows a h) trade ≡ accountHour rows a h
+unfolding takes
+takes-elsewhere rows trade a h e =
+    rw (
+      e,
+      and-false (confirmed trade),
+      and-false (pending trade),
+      add-zero (bought rows a h),
+      add-zero (sold rows a h),
+      add-zero (pendingSales rows a h),
+      add-zero (pendingPurchases rows a h),
+    )
+
+module _ (s : List ℕ) (h : isBook s ≡ true) (trade : Row) (a : ℕ) (low : 1 ≤ a) (high : a ≤ accountCount (bookIn s .setup)) where
+  -- so it breaks none there, for a book keeps its margins
+  kept-elsewhere : (k : ℕ) → 1 ≤ k → k ≤ bookIn s .setup .hours → covers k trade ≡ false → breaks (bookIn s .setup) (bookIn s .part .rows) trade a k ≡ false
+  unfolding breaks
+  kept-elsewhere k l m e = rw (takes-elsewhere (bookIn s .part .rows) trade a k e, book-is-sound s h .part-sound .keeps-margins a k low high l m)
+
+  -- the lowest hour that breaks is one of the trade's
+  pub broken-by-span : 1 ≤ trade .first → trade .first ≤ trade .last → trade .last ≤ bookIn s .setup .hours
+      → brokenBy (bookIn s .setup) (bookIn s .part .rows) trade a
+      ≡ find (breaks (bookIn s .setup) (bookIn s .part .rows) trade a) (counting (trade .last + 1 - trade .first) (trade .first))
+  unfolding brokenBy breaks
+  broken-by-span f o l =
+      find-span (breaks (bookIn s .setup) (bookIn s .part .rows) trade a) (bookIn s .setup .hours) (trade .first) (trade .last) f o l
+      (λ k m n. kept-elsewhere k m (omega arith) (rw (lt-leb (trade .first) k n)))
+      (λ k m n. kept-elsewhere k (omega arith) n (rw (lt-leb k (trade .last) m, and-false (leb (trade .first) k))))
 
 -- the test as code makes it
 pub breaks-tested : (u : Setup) (rows : List Row) (trade : Row) (a h : ℕ) (owner : Account) (held after : AccountHour) (t : Bool)

@@ -20,8 +20,8 @@ ghost use Rattle.book.specs.Valid.{isBook, bookIn, bookBytes};
 ghost use Rattle.book.specs.Sums.{Tabled};
 ghost use Rattle.book.specs.Worth.{saleWorth, exposureWith};
 ghost use Rattle.registration.specs.Kinds.{decided, outcomeOn, bookAfter, Ready, Confirming, WaitsIn};
-use crate::cover::in_force_covers;
 use crate::cover::operator_of;
+use crate::cover::in_force_covers;
 use crate::margins::Broken;
 use crate::margins::broken_hour;
 use crate::positions::move_nets;
@@ -33,7 +33,6 @@ use book::state::REGISTRATION;
 use book::state::phase;
 use book::state::row_place;
 use book::worth::exposure_with;
-use book::worth::sale_worth;
 use rules::Checked;
 use rules::Outcome;
 use rules::Refusal;
@@ -95,10 +94,10 @@ fn trade_covered(book: &[u8], row: Row, trade: Row, number: u8) -> bool
     if row.side == 1 {
         return true;
     }
+    // A purchase that waits weighs nothing.
     let operator = operator_of(book, number);
-    let with = exposure_with(book, operator, trade);
-    let freed = sale_worth(book, operator, row);
-    in_force_covers(book, with.less(freed), operator)
+    let owed = exposure_with(book, operator, trade);
+    in_force_covers(book, owed, operator)
 }
 
 // What confirm is refused for where it mirrors the row that it names: margins and exposure as they would be.

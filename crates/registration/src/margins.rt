@@ -12,7 +12,6 @@ use book::waits::fill_waits;
 use book::waits::held_hour;
 use book::waits::no_waits;
 use rules::Row;
-use setup::counts::counts;
 use setup::entries::account;
 
 // What the search finds: the lowest hour that breaks a margin, or none.
@@ -21,16 +20,16 @@ pub enum Broken {
     Nowhere,
 }
 
-// The lowest hour in which the account breaks a margin once it took the trade, by what waits on it.
+// The lowest hour in which the account breaks a margin once it took the trade, by what waits on it. An hour that is not the trade's stays
+// as it was, and a book keeps its margins.
 fn first_broken(book: &[u8], waits: &[u32], trade: Row, number: u8) -> Broken
-    requires { ⌜ (isBook (now book) ≡ true) × WaitsOf (bookIn (now book) .part .rows) number (now waits) × (trade .quantity .0 ≤ mostEnergy) × (1 ≤ number) × (number ≤ accountCount (bookIn (now book) .setup)) ⌝ }
+    requires { ⌜ (isBook (now book) ≡ true) × WaitsOf (bookIn (now book) .part .rows) number (now waits) × (trade .quantity .0 ≤ mostEnergy) × (1 ≤ number) × (number ≤ accountCount (bookIn (now book) .setup)) × (1 ≤ trade .first) × (trade .first ≤ trade .last) × (trade .last ≤ bookIn (now book) .setup .hours) ⌝ }
     ensures { λ r. ⌜ r ≡ broken (brokenBy (bookIn (now (book .entry)) .setup) (bookIn (now (book .entry)) .part .rows) trade number) ⌝ }
 {
-    let n = counts(book);
     let owner = account(book, number);
-    let mut hour: u8 = 1;
+    let mut hour: u8 = trade.first;
     let found = loop {
-        if n.hours < hour {
+        if trade.last < hour {
             break Broken::Nowhere;
         }
         let held = held_hour(book, waits, number, hour);
@@ -46,7 +45,7 @@ fn first_broken(book: &[u8], waits: &[u32], trade: Row, number: u8) -> Broken
 
 // The lowest hour in which the account of that number breaks a margin once it took the trade.
 pub fn broken_hour(book: &[u8], trade: Row, number: u8) -> Broken
-    requires { ⌜ (isBook (now book) ≡ true) × (trade .quantity .0 ≤ mostEnergy) × (1 ≤ number) × (number ≤ accountCount (bookIn (now book) .setup)) ⌝ }
+    requires { ⌜ (isBook (now book) ≡ true) × (trade .quantity .0 ≤ mostEnergy) × (1 ≤ number) × (number ≤ accountCount (bookIn (now book) .setup)) × (1 ≤ trade .first) × (trade .first ≤ trade .last) × (trade .last ≤ bookIn (now book) .setup .hours) ⌝ }
     ensures { λ r. ⌜ r ≡ broken (brokenBy (bookIn (now (book .entry)) .setup) (bookIn (now (book .entry)) .part .rows) trade number) ⌝ }
 {
     let mut waits = no_waits();

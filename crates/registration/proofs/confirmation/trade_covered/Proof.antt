@@ -1,8 +1,8 @@
--- A sale that is confirmed leaves every operator covered. Of a purchase, what is owed is the exposure of the account's operator with the
--- trade taken, less what the row weighs as one that waits.
+-- A sale that is confirmed leaves every operator covered. Of a purchase, which weighs nothing while it waits, what is owed is the exposure
+-- of the account's operator with the trade taken.
 use mathlib.Core.Path.{_∙_}
 use borrow.Author.Needs.{needs}
-use Rattle.registration.proofs.ConfirmationLaws.{waiting-takeable, trade-takeable, trade-freed, sale-covered}
+use Rattle.registration.proofs.ConfirmationLaws.{purchase-frees-none, trade-takeable, sale-covered}
 use Rattle.registration.proofs.confirmation.trade_covered.Statement.{statement}
 use Rattle.registration.proofs.confirmation.trade_covered.Tie as tie
 
@@ -19,24 +19,14 @@ exposure-with-requires c κs =
     let pre = c .before .before .before .before .pre in
     (pre .0, trade-takeable _ _ (pre .0) (pre .1) _ (pre .2))
 
-sale-worth-requires : tie.Need-sale-worth-requires
-sale-worth-requires c κs =
-    let pre = c .before .before .before .before .before .pre in
-    (pre .0, waiting-takeable _ _ (pre .0) (pre .1))
-
-less-requires : tie.Need-less-requires
-less-requires c κs =
-    let pre = c .before .before .before .before .before .before .pre in
-    rw (c .before .exposure-with .ensures .0, c .sale-worth .ensures .0, c .before .before .operator-of .ensures .0) (trade-freed _ _ (pre .0) (pre .1) _ (pre .2) _)
-
 in-force-covers-requires : tie.Need-in-force-covers-requires
 in-force-covers-requires c κs = search needs
 
 returns-2 : tie.Need-returns-2
 returns-2 c =
-    let freed = c .before .before in
+    let operator = c .before .before in
     c .in-force-covers .ensures
-    ∙ rw (c .before .less .ensures, freed .before .exposure-with .ensures .0, freed .sale-worth .ensures .0, freed .before .before .operator-of .ensures .0)
+    ∙ rw (c .before .exposure-with .ensures .0, operator .operator-of .ensures .0) (purchase-frees-none _ _ _ _ _ (operator .before .if1 .left))
 
 pub trade-covered-spec : {M : Type 1} → statement M
 trade-covered-spec =
@@ -45,7 +35,5 @@ trade-covered-spec =
     returns
     operator-of-requires
     exposure-with-requires
-    sale-worth-requires
-    less-requires
     in-force-covers-requires
     returns-2)

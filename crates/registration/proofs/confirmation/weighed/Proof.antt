@@ -1,7 +1,7 @@
 -- The search for a broken margin, and then the exposure with the trade taken and the row waiting no longer.
 use mathlib.Core.Path.{sym, ap, _∙_}
 use Rattle.rules.specs.Verdicts.{checked}
-use Rattle.registration.proofs.ConfirmationLaws.{named-waits, caller-in-book, trade-energy, trade-breaks, trade-uncovered, trade-covered}
+use Rattle.registration.proofs.ConfirmationLaws.{named-waits, caller-in-book, trade-energy, trade-hours, trade-breaks, trade-uncovered, trade-covered}
 use borrow.Author.Needs.{needs}
 use Rattle.registration.proofs.confirmation.weighed.Statement.{statement}
 use Rattle.registration.proofs.confirmation.weighed.Tie as tie
@@ -13,7 +13,9 @@ broken-hour-requires : tie.Need-broken-hour-requires
 broken-hour-requires c κs =
     let pre = c .before .before .pre in
     let caller = caller-in-book _ _ _ (pre .0) (pre .1) in
-    (pre .0, trade-energy _ _ (pre .0) (named-waits _ _ _ (pre .0) (pre .1)) _ (c .confirmed-row .ensures), caller .0, caller .1)
+    let waits = named-waits _ _ _ (pre .0) (pre .1) in
+    let hours = trade-hours _ _ (pre .0) waits _ (c .confirmed-row .ensures) in
+    (pre .0, trade-energy _ _ (pre .0) waits _ (c .confirmed-row .ensures), caller .0, caller .1, hours .0, hours .1, hours .2)
 
 enum-known-hour : tie.Need-enum-known-hour
 enum-known-hour c = search needs

@@ -1,4 +1,4 @@
--- The search over all hours is that over the hours that are left.
+-- The search over all hours is that over the trade's, and that is the search over those that are left.
 use Prim.Native.Nat.{_+_, _-_, _≤_}
 use mathlib.Core.Path.{_≡_, _∙_, sym, ap}
 use mathlib.Core.Bool.{not}
@@ -8,59 +8,53 @@ use Rattle.rules.specs.Basics.{find, counting}
 use Rattle.rules.specs.Limits.{mostHours}
 use Rattle.rules.specs.Books.{accountAt}
 use Rattle.book.specs.Valid.{bookIn}
-use Rattle.book.proofs.StateLaws.{book-length}
 use Rattle.book.proofs.BookRows.{setup-tabled}
 use Rattle.registration.specs.Margins.{brokenBy, broken}
-use Rattle.registration.proofs.SearchLaws.{find-done, find-same, find-here, find-next}
-use Rattle.registration.proofs.MarginLaws.{hours-read, account-read, accounts-read, hours-few, hour-room, breaks, broken-by-hours, breaks-tested}
+use Rattle.registration.proofs.SearchLaws.{find-done, find-here, find-next}
+use Rattle.registration.proofs.MarginLaws.{account-read, accounts-read, hours-few, hour-room, breaks, broken-by-span, breaks-tested}
 use Rattle.registration.proofs.margins.first_broken.Statement.{statement}
 use Rattle.registration.proofs.margins.first_broken.Tie as tie
 
 abbrev Inv-loop : tie.InvT-loop
-Inv-loop book waits trade number n owner hour₀ hour =
+Inv-loop book waits trade number owner hour₀ hour =
     let b = bookIn book in
-    (n .hours ≡ b .setup .hours)
-    × (n .hours ≤ mostHours)
-    × (owner ≡ accountAt (b .setup) number)
-    × (1 ≤ hour)
-    × (hour ≤ n .hours + 1)
+    (owner ≡ accountAt (b .setup) number)
+    × (trade .first ≤ hour)
+    × (hour ≤ trade .last + 1)
+    × (trade .last ≤ mostHours)
     × (brokenBy (b .setup) (b .part .rows) trade number
-    ≡ find (breaks (b .setup) (b .part .rows) trade number) (counting (n .hours + 1 - hour) hour))
+    ≡ find (breaks (b .setup) (b .part .rows) trade number) (counting (trade .last + 1 - hour) hour))
 
 abbrev μ-loop : tie.MeasureT-loop
-μ-loop book waits trade number n owner hour₀ hour = n .hours + 1 - hour
-
-counts-requires : tie.Need-counts-requires Inv-loop μ-loop
-counts-requires c κs = omega (arith, book-length _ (c .before .before .pre .0))
+μ-loop book waits trade number owner hour₀ hour = trade .last + 1 - hour
 
 account-requires : tie.Need-account-requires Inv-loop μ-loop
 account-requires c κs =
-    let pre = c .before .before .before .pre in
+    let pre = c .before .before .pre in
     (setup-tabled _ (pre .0) .whole, pre .3, accounts-read _ (pre .0) _ (pre .4) .0)
 
 loop-holds : tie.Need-loop-holds Inv-loop μ-loop
 loop-holds c =
-    let pre = c .before .before .before .before .pre in
-    let hours = hours-read _ (pre .0) _ (c .before .counts .ensures) in (
-      hours,
-      omega (arith, hours, hours-few _ (pre .0)),
-      account-read _ (pre .0) _ (c .before .before .before .before .args .number) (c .account .ensures),
+    let start = c .before .before .before in
+    let pre = start .pre in (
+      account-read _ (pre .0) _ (start .args .number) (c .account .ensures),
       search needs,
       search needs,
-      broken-by-hours _ _ _ _ ∙ find-same _ _ _ _ (omega (arith, hours)),
+      omega (arith, hours-few _ (pre .0)),
+      broken-by-span _ (pre .0) _ _ (pre .3) (pre .4) (pre .5) (pre .6) (pre .7),
     )
 
 held-hour-requires : tie.Need-held-hour-requires Inv-loop μ-loop
 held-hour-requires c κs =
     let l = c .before .before .loop in
-    let pre = c .before .before .before .before .before .before .before .pre in
-    (pre .0, pre .1, (pre .3, pre .4), (l .inv .3, omega (arith, l .inv .0)))
+    let pre = c .before .before .before .before .before .before .pre in
+    (pre .0, pre .1, (pre .3, pre .4), (omega (arith, l .inv .1), omega (arith, pre .7)))
 
 take-requires : tie.Need-take-requires Inv-loop μ-loop
 take-requires c κs =
     let l = c .before .before .before .loop in
-    let pre = c .before .before .before .before .before .before .before .before .pre in
-    hour-room _ (pre .0) _ _ _ _ _ (pre .3, pre .4) (l .inv .3, omega (arith, l .inv .0)) (pre .1) (pre .2) (c .held-hour .ensures)
+    let pre = c .before .before .before .before .before .before .before .pre in
+    hour-room _ (pre .0) _ _ _ _ _ (pre .3, pre .4) (omega (arith, l .inv .1), omega (arith, pre .7)) (pre .1) (pre .2) (c .held-hour .ensures)
 
 keeps-margins-requires : tie.Need-keeps-margins-requires Inv-loop μ-loop
 keeps-margins-requires c κs = search needs
@@ -76,25 +70,24 @@ loop-again c =
     let k = c .before in
     let x = k .before .before in
     let l = x .before .before .before .loop in
-    let test = breaks-tested _ _ _ _ _ _ _ _ _ (l .inv .2) (x .held-hour .ensures) (k .before .take .ensures) (k .keeps-margins .ensures) in (
+    let test = breaks-tested _ _ _ _ _ _ _ _ _ (l .inv .0) (x .held-hour .ensures) (k .before .take .ensures) (k .keeps-margins .ensures) in (
       l .inv .0,
-      l .inv .1,
-      l .inv .2,
       omega arith,
       omega arith,
-      l .inv .5 ∙ find-next _ _ _ _ (omega arith) (test ∙ ap not (c .if2 .taken)),
+      l .inv .3,
+      l .inv .4 ∙ find-next _ _ _ _ (omega arith) (test ∙ ap not (c .if2 .taken)),
     )
 
 returns : tie.Need-returns Inv-loop μ-loop
-returns c = ap broken (sym (c .before .before .loop .inv .5 ∙ find-done _ _ _ (omega arith)))
+returns c = ap broken (sym (c .before .before .loop .inv .4 ∙ find-done _ _ _ (omega arith)))
 
 returns-2 : tie.Need-returns-2 Inv-loop μ-loop
 returns-2 c =
     let k = c .before in
     let x = k .before .before in
     let l = x .before .before .before .loop in
-    let test = breaks-tested _ _ _ _ _ _ _ _ _ (l .inv .2) (x .held-hour .ensures) (k .before .take .ensures) (k .keeps-margins .ensures) in
-    ap broken (sym (l .inv .5 ∙ find-here _ _ _ (omega arith) (test ∙ ap not (c .if2 .left))))
+    let test = breaks-tested _ _ _ _ _ _ _ _ _ (l .inv .0) (x .held-hour .ensures) (k .before .take .ensures) (k .keeps-margins .ensures) in
+    ap broken (sym (l .inv .4 ∙ find-here _ _ _ (omega arith) (test ∙ ap not (c .if2 .left))))
 
 pub first-broken-spec : {M : Type 1} → statement M
 first-broken-spec =
@@ -102,7 +95,6 @@ first-broken-spec =
     (tie.spec
     Inv-loop
     μ-loop
-    counts-requires
     account-requires
     loop-holds
     held-hour-requires

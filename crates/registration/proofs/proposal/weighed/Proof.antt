@@ -1,7 +1,5 @@
 -- The search for a broken margin, and then the exposure with the row taken.
 use mathlib.Core.Path.{sym, ap, _∙_}
-use native.Mathlib.Omega.{arith}
-use Rattle.rules.specs.declared.Row.{Row}
 use Rattle.rules.specs.Verdicts.{checked}
 use Rattle.registration.proofs.MarginLaws.{found-hour, found-nowhere}
 use Rattle.registration.proofs.CoverLaws.{sound-takeable}
@@ -17,8 +15,8 @@ broken-hour-requires : tie.Need-broken-hour-requires
 broken-hour-requires c κs =
     let pre = c .before .before .pre in
     let row = ready-row _ _ (pre .1) in
-    let quantity = ap (λ (x : Row). x .quantity .0) (c .proposed-row .ensures) in
-    (pre .0, omega (arith, quantity, row .quantity-high), row .proposer-low, row .proposer-high)
+    let same = c .proposed-row .ensures in
+    (pre .0, rw same (row .quantity-high), row .proposer-low, row .proposer-high, rw same (row .first-low), rw same (row .in-order), rw same (row .last-high))
 
 enum-known-hour : tie.Need-enum-known-hour
 enum-known-hour c = search needs
