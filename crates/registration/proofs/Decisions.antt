@@ -19,7 +19,7 @@ use Rattle.rules.specs.Registration.{alike, confirms, withdraws, mirrors, broke
 use Rattle.rules.specs.Calls.{_∈_, confirmedNumber, next, phaseOf, stateChecks}
 use Rattle.rules.proofs.Clearing.{Clear, clear}
 use Rattle.rules.proofs.KindTables.{same-kind}
-use Rattle.rules.proofs.Passed.{passed-13}
+use Rattle.rules.proofs.Passed.{passed-12, passed-13}
 use Rattle.registration.specs.Kinds.{decided}
 
 -- where nothing is decided every check passed
@@ -150,6 +150,9 @@ phase-outside k m = of-two (λ i. phaseOf i ≡ 1) openBatch closeGate k m refl 
 pub phase-inside : (k : Kind) → k ∈ (undo ∷ keep ∷ []) ≡ true → phaseOf k ≡ 1
 phase-inside k m = of-two (λ i. phaseOf i ≡ 1) undo keep k m refl refl
 
--- what undo accepts has a batch open
-pub undo-finds-batch : (b : Book) (q : Request) → decided undo b q ≡ none → isSome (b .saved) ≡ true
-undo-finds-batch b q d = let (p, e) = passed-13 b q undo refl (decided-clear undo b q d) in rw e
+-- what opening a batch accepts has none open, what undo and keep accept has one
+pub opening-finds-none : (b : Book) (q : Request) → decided openBatch b q ≡ none → b .saved ≡ none
+opening-finds-none b q d = passed-12 b q openBatch refl (decided-clear openBatch b q d)
+
+pub ending-finds-batch : (k : Kind) (b : Book) (q : Request) → k ∈ (undo ∷ keep ∷ []) ≡ true → decided k b q ≡ none → isSome (b .saved) ≡ true
+ending-finds-batch k b q m d = let (p, e) = passed-13 b q k m (decided-clear k b q d) in rw e

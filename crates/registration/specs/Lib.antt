@@ -3,3 +3,5 @@
 pub mod Kinds
 -- Margins: the lowest hour that a trade would break.
 pub mod Margins
+-- Rooms: the room behind the rows of a part.
+pub mod Rooms

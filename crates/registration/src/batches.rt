@@ -2,21 +2,26 @@
 ghost use mathlib.Core.Path.{_≡_};
 ghost use mathlib.Core.Bool.{true};
 ghost use mathlib.Core.List.{[], _∷_};
-ghost use lib.ListN.{length};
+ghost use Prim.Native.Nat.{_+_, _≤_};
+ghost use lib.ListN.{length, drop};
 ghost use Rattle.wire.specs.Numbers.{le};
-ghost use Rattle.wire.specs.Regions.{splice};
+ghost use Rattle.wire.specs.Regions.{splice, pasted, Apart};
 ghost use Rattle.wire.specs.Parts.{zeros};
 ghost use Rattle.rules.specs.declared.Request.{Request};
-ghost use Rattle.rules.specs.Limits.{mostHours, bookSize};
+ghost use Rattle.rules.specs.Limits.{mostHours, mostRows, bookSize};
 ghost use Rattle.rules.specs.Verdicts.{checked};
 ghost use Rattle.rules.specs.Requests.{Kind, openBatch, undo, keep, closeGate};
 ghost use Rattle.rules.specs.Calls.{_∈_};
 ghost use Rattle.book.specs.Layout.{flagAt, savedAt, partSize};
 ghost use Rattle.book.specs.Valid.{isBook, bookIn, bookBytes};
 ghost use Rattle.registration.specs.Kinds.{decided, outcomeOn, bookAfter};
+ghost use Rattle.registration.specs.Rooms.{NoRowsPast};
 use book::layout::FLAG_AT;
+use book::layout::NETS_IN;
 use book::layout::PART_SIZE;
 use book::layout::PRESENT_AT;
+use book::layout::ROW_WIDTH;
+use book::layout::ROWS_IN;
 use book::layout::SAVED_AT;
 use book::state::REGISTRATION;
 use book::state::batch_open;
@@ -59,12 +64,33 @@ pub fn inside_batch(book: &[u8]) -> Checked
     Checked::Fails(Refusal::NoBatch)
 }
 
-// Clears what the batch saved, and the flag.
-fn end_batch(book: &mut [u8])
+// Copies a part over another. Past the first n rows neither has any, so that room is left alone.
+fn copy_part(book: &mut [u8], from: usize, to: usize, n: u16)
+    requires { ⌜ (from + partSize mostHours ≤ length (now book)) × (to + partSize mostHours ≤ length (now book)) × Apart from to (partSize mostHours) ⌝ }
+    requires { ⌜ (n ≤ mostRows) × NoRowsPast (now book) from n × NoRowsPast (now book) to n ⌝ }
+    ensures { λ _. ⌜ now (book .exit) ≡ pasted (now (book .entry)) to (drop from (now (book .entry))) (partSize mostHours) ⌝ }
+{
+    copy_within(book, from, to, ROWS_IN + ROW_WIDTH * (n as usize));
+    copy_within(book, from + NETS_IN, to + NETS_IN, PART_SIZE - NETS_IN);
+}
+
+// Clears a part that has no more than n rows.
+fn clear_part(book: &mut [u8], at: usize, n: u16)
+    requires { ⌜ at + partSize mostHours ≤ length (now book) ⌝ }
+    requires { ⌜ (n ≤ mostRows) × NoRowsPast (now book) at n ⌝ }
+    ensures { λ _. ⌜ now (book .exit) ≡ splice (now (book .entry)) at (zeros (partSize mostHours)) ⌝ }
+{
+    clear_at(book, at, ROWS_IN + ROW_WIDTH * (n as usize));
+    clear_at(book, at + NETS_IN, PART_SIZE - NETS_IN);
+}
+
+// Clears what the batch saved, no more than n rows, and the flag.
+fn end_batch(book: &mut [u8], n: u16)
     requires { ⌜ length (now book) ≡ bookSize ⌝ }
+    requires { ⌜ (n ≤ mostRows) × NoRowsPast (now book) (savedAt mostHours) n ⌝ }
     ensures { λ _. ⌜ now (book .exit) ≡ splice (splice (now (book .entry)) (savedAt mostHours) (zeros (partSize mostHours))) flagAt (le 1 0) ⌝ }
 {
-    clear_at(book, SAVED_AT, PART_SIZE);
+    clear_part(book, SAVED_AT, n);
     put_u8(book, FLAG_AT, 0);
 }
 
@@ -80,7 +106,8 @@ pub fn open_batch(book: &mut [u8]) -> Outcome
             verdict: Verdict::Refused(r),
         };
     }
-    copy_within(book, PRESENT_AT, SAVED_AT, PART_SIZE);
+    let rows = row_count(book);
+    copy_part(book, PRESENT_AT, SAVED_AT, rows);
     put_u8(book, FLAG_AT, 1);
     Outcome {
         verdict: Verdict::Accepted { number: 0 },
@@ -99,9 +126,11 @@ pub fn undo(book: &mut [u8]) -> Outcome
             verdict: Verdict::Refused(r),
         };
     }
-    let since = row_count(book) - saved_row_count(book);
-    copy_within(book, SAVED_AT, PRESENT_AT, PART_SIZE);
-    end_batch(book);
+    let rows = row_count(book);
+    let saved = saved_row_count(book);
+    let since = rows - saved;
+    copy_part(book, SAVED_AT, PRESENT_AT, rows);
+    end_batch(book, saved);
     Outcome {
         verdict: Verdict::Accepted { number: since },
     }
@@ -119,7 +148,8 @@ pub fn keep(book: &mut [u8]) -> Outcome
             verdict: Verdict::Refused(r),
         };
     }
-    end_batch(book);
+    let saved = saved_row_count(book);
+    end_batch(book, saved);
     Outcome {
         verdict: Verdict::Accepted { number: 0 },
     }

@@ -3,8 +3,8 @@ use borrow.Author.Needs.{needs}
 use Rattle.registration.proofs.batches.end_batch.Statement.{statement}
 use Rattle.registration.proofs.batches.end_batch.Tie as tie
 
-clear-at-requires : tie.Need-clear-at-requires
-clear-at-requires c κs = search needs
+clear-part-requires : tie.Need-clear-part-requires
+clear-part-requires c κs = search needs
 
 put-u8-requires : tie.Need-put-u8-requires
 put-u8-requires c κs = search needs
@@ -16,4 +16,4 @@ returns : tie.Need-returns
 returns c = cc
 
 pub end-batch-spec : {M : Type 1} → statement M
-end-batch-spec = tie.close (tie.spec clear-at-requires put-u8-requires same-length returns)
+end-batch-spec = tie.close (tie.spec clear-part-requires put-u8-requires same-length returns)

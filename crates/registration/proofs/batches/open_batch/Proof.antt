@@ -1,7 +1,7 @@
 -- What was checked is what the state decides, and what is written is the book with its part saved.
 use Prim.Native.Nat.{ℕ}
 use mathlib.Core.Path.{_≡_, refl, sym, ap, _∙_}
-use mathlib.Core.List.{List}
+use mathlib.Core.List.{List, []}
 use mathlib.Core.Option.{none, some}
 use mathlib.Core.Logic.{inl}
 use native.Mathlib.Omega.{arith}
@@ -9,14 +9,16 @@ use denote.Ref.{now}
 use Rattle.wire.specs.Numbers.{le}
 use Rattle.wire.specs.Regions.{splice}
 use Rattle.rules.specs.declared.Request.{Request}
-use Rattle.rules.specs.Requests.{openBatch}
+use Rattle.rules.specs.Requests.{openBatch, requestOf}
 use Rattle.rules.proofs.Clearing.{checked-same}
 use Rattle.book.specs.Layout.{flagAt}
 use Rattle.book.specs.Valid.{bookIn}
 use Rattle.book.proofs.StateLaws.{book-length}
 use Rattle.registration.specs.Kinds.{decided}
+use Rattle.registration.proofs.Decisions.{opening-finds-none}
 use Rattle.registration.proofs.Answers.{refused-all}
 use Rattle.registration.proofs.Acceptances.{opened-answered}
+use Rattle.registration.proofs.BatchLaws.{present-rows-end, none-saved-rows}
 use borrow.Author.Needs.{needs}
 use Rattle.registration.proofs.batches.open_batch.Statement.{statement}
 use Rattle.registration.proofs.batches.open_batch.Tie as tie
@@ -40,19 +42,27 @@ returns c = refused-all openBatch _ _ (c .before .before .before .before .before
 enum-told : tie.Need-enum-told
 enum-told c = search needs
 
-copy-within-requires : tie.Need-copy-within-requires
-copy-within-requires c κs =
-    let n = book-length _ (c .before .before .before .before .before .before .pre) in
-    (omega arith, omega arith, inl (omega arith))
+row-count-requires : tie.Need-row-count-requires
+row-count-requires c κs = search needs
+
+copy-part-requires : tie.Need-copy-part-requires
+copy-part-requires c κs =
+    let pre = c .before .before .before .before .before .before .before .before .pre in
+    let n = book-length _ pre in
+    let (count, few) = c .before .row-count .ensures in
+    let shut = opening-finds-none _ (requestOf []) (free (c .before .before .before) (requestOf [])) in
+    ((omega arith, omega arith, inl (omega arith)), (few, present-rows-end _ pre _ count, none-saved-rows _ pre shut _ few))
 
 put-u8-requires : tie.Need-put-u8-requires
-put-u8-requires c κs = let n = book-length _ (c .before .before .before .before .before .before .before .before .before .before .pre) in omega arith
+put-u8-requires c κs = let n = book-length _ (c .before .before .before .before .before .before .before .before .before .before .before .before .pre) in omega arith
 
 same-length-2 : tie.Need-same-length-2
 same-length-2 c = search needs
 
 returns-2 : tie.Need-returns-2
-returns-2 c = opened-answered _ _ (c .before .before .before .before .before .before .before .before .before .before .before .before .before .pre) (free (c .before .before .before .before .before .before .before .before)) (c .before .before .put-u8 .ensures ∙ ap (λ (x : List ℕ). splice x flagAt (le 1 1)) (c .before .before .before .before .before .before .copy-within .ensures))
+returns-2 c =
+    opened-answered _ _ (c .before .before .before .before .before .before .before .before .before .before .before .before .before .before .before .pre) (free (c .before .before .before .before .before .before .before .before .before .before))
+    (c .before .before .put-u8 .ensures ∙ ap (λ (x : List ℕ). splice x flagAt (le 1 1)) (c .before .before .before .before .before .before .copy-part .ensures))
 
 pub open-batch-spec : {M : Type 1} → statement M
 open-batch-spec =
@@ -63,7 +73,8 @@ open-batch-spec =
     same-length
     returns
     enum-told
-    copy-within-requires
+    row-count-requires
+    copy-part-requires
     put-u8-requires
     same-length-2
     returns-2)
