@@ -9,11 +9,13 @@ pub mod MergeLaws
 pub mod RunLaws
 -- OrderLaws: ranks in ascending order name the schedules in order of priority.
 pub mod OrderLaws
--- ExchangeLaws: two lists whose elements are exchanged one by one.
-pub mod ExchangeLaws
+-- CopyLaws: a list copied over another, element by element.
+pub mod CopyLaws
 -- Steps: what recurs in a walk of code by hand.
 pub mod Steps
 -- Rows: schedules side by side in memory, for walks of code by hand.
 pub mod Rows
 -- Lending: an open slice of schedules as a row, and a row that is lent for the time of a call.
 pub mod Lending
+-- Copying: functions that copy schedules one by one between a lent slice and an array.
+pub mod Copying
