@@ -4,11 +4,12 @@ use mathlib.Core.Path.{_≡_, refl, sym, ap, _∙_}
 use mathlib.Core.List.{List}
 use mathlib.Core.Option.{none, some}
 use mathlib.Core.Bool.{Bool, true, false}
+use native.Mathlib.Nat.{mul-le-mul-right}
 use native.Mathlib.Omega.{arith}
 use lib.ListN.{length}
 use lib.Seq.{getD-set-same}
 use lib.Dec.{leb}
-use borrow.Author.Tests.{eq-eqb, leb-true}
+use borrow.Author.Tests.{eq-eqb, leb-true, le-leb}
 use Rattle.wire.specs.Numbers.{le}
 use Rattle.wire.specs.Regions.{splice}
 use Rattle.units.specs.Units.{cents}
@@ -18,19 +19,17 @@ use Rattle.rules.specs.declared.Refusal.the-variants.{Uncovered}
 use Rattle.rules.specs.Basics.{bit, put}
 use Rattle.rules.specs.Limits.{mostHours, mostGuarantee, thousand, bookSize}
 use Rattle.rules.specs.Verdicts.{lowest, accepted}
-use Rattle.rules.specs.Books.{Book, noRow, countsOf, maintenanceAt, guaranteeAt, operatorCount}
+use Rattle.rules.specs.Books.{Setup, Book, countsOf, maintenanceAt, guaranteeAt, operatorCount}
 use Rattle.rules.specs.Requests.{guarantee, inRange}
-use Rattle.rules.specs.Registration.{covered}
+use Rattle.rules.specs.Registration.{exposure, available, covered}
 use Rattle.rules.specs.Calls.{next, given, stateChecks}
 use Rattle.rules.proofs.Tests.{within-true}
 use Rattle.rules.proofs.Passed.{field-in-range}
 use Rattle.book.specs.Layout.{presentAt}
 use Rattle.book.specs.Valid.{isBook, bookIn}
-use Rattle.book.specs.Worth.{exposureWith}
 use Rattle.book.proofs.BookWrites.{write-guarantee}
 use Rattle.book.proofs.KeepsKinds.{guarantee-keeps}
 use Rattle.book.proofs.StateLaws.{book-image, book-fits, book-is-sound}
-use Rattle.book.proofs.WorthLaws.{with-none}
 use Rattle.registration.specs.Kinds.{decided, Ready}
 use Rattle.registration.proofs.Decisions.{decided-clear}
 use Rattle.registration.proofs.Readiness.{bare, ready-input}
@@ -55,27 +54,36 @@ put-same gs zero g l h = absurd (omega arith)
 put-same gs (suc i) g l h = getD-set-same gs i g (cents 0) (omega arith)
 
 module _ (b : Book) (q : Request) (first : b .phase ≡ 1) (low : 1 ≤ q .operator) (high : q .operator ≤ length (b .part .guarantees)) where
-  -- with no trade taken
   lodging-covered : covered (b .setup) (next guarantee b q .part) (q .operator)
-      ≡ leb (exposureWith (b .setup) (b .part .rows) noRow (q .operator)) (q .guarantee .0 * (thousand - maintenanceAt (b .setup) (q .operator)))
+      ≡ leb (exposure (b .setup) (b .part .rows) (q .operator)) (q .guarantee .0 * (thousand - maintenanceAt (b .setup) (q .operator)))
   unfolding next
   lodging-covered =
       covered-by (b .setup) (next guarantee b q .part) (q .operator) (q .guarantee .0)
       (ap (λ (g : Cents). g .0) (put-same (b .part .guarantees) (q .operator) (q .guarantee) low high))
-      ∙ ap (λ (x : ℕ). leb x (q .guarantee .0 * (thousand - maintenanceAt (b .setup) (q .operator)))) (sym (with-none (b .setup) (q .operator) (b .part .rows)))
 
   -- 19
   pub too-little-lodged : (t : Bool)
-      → t ≡ leb (exposureWith (b .setup) (b .part .rows) noRow (q .operator)) (q .guarantee .0 * (thousand - maintenanceAt (b .setup) (q .operator)))
+      → t ≡ leb (exposure (b .setup) (b .part .rows) (q .operator)) (q .guarantee .0 * (thousand - maintenanceAt (b .setup) (q .operator)))
       → t ≡ false → decided guarantee b q ≡ some Uncovered
   unfolding decided stateChecks lowest
   too-little-lodged t e f = rw (eq-eqb _ 1 first, lodging-covered ∙ sym e ∙ f)
 
   pub enough-lodged : (t : Bool)
-      → t ≡ leb (exposureWith (b .setup) (b .part .rows) noRow (q .operator)) (q .guarantee .0 * (thousand - maintenanceAt (b .setup) (q .operator)))
+      → t ≡ leb (exposure (b .setup) (b .part .rows) (q .operator)) (q .guarantee .0 * (thousand - maintenanceAt (b .setup) (q .operator)))
       → t ≡ true → decided guarantee b q ≡ none
   unfolding decided stateChecks lowest
   enough-lodged t e f = rw (eq-eqb _ 1 first, lodging-covered ∙ sym e ∙ f)
+
+-- a guarantee that is no lower than the one in force covers what a book's rows weigh
+pub no-lower-covers : (s : List ℕ) → isBook s ≡ true → (o g : ℕ) (held : Cents) → 1 ≤ o → o ≤ operatorCount (bookIn s .setup)
+    → held ≡ guaranteeAt (bookIn s .part .guarantees) o → held .0 ≤ g
+    → true ≡ leb (exposure (bookIn s .setup) (bookIn s .part .rows) o) (g * (thousand - maintenanceAt (bookIn s .setup) o))
+unfolding covered available
+no-lower-covers s h o g held low high e more =
+    let u : Setup = bookIn s .setup in
+    let fits = leb-true (exposure u (bookIn s .part .rows) o) (available u (bookIn s .part) o) (book-is-sound s h .part-sound .is-covered o low high) in
+    let room = mul-le-mul-right (thousand - maintenanceAt u o) (rw e at more) in
+    sym (le-leb (exposure u (bookIn s .part .rows) o) (g * (thousand - maintenanceAt u o)) (omega arith))
 
 -- ---- what is written
 

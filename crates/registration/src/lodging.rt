@@ -1,11 +1,17 @@
 // Guarantee: replaces an operator's guarantee.
 ghost use mathlib.Core.Path.{_≡_};
 ghost use mathlib.Core.Bool.{true};
+ghost use Prim.Native.Nat.{_-_, _*_, _≤_};
+ghost use lib.Dec.{leb};
+ghost use Rattle.rules.specs.Limits.{mostGuarantee, thousand};
+ghost use Rattle.rules.specs.Books.{maintenanceAt, operatorCount};
+ghost use Rattle.rules.specs.Registration.{exposure};
 ghost use Rattle.rules.specs.Verdicts.{checked};
 ghost use Rattle.rules.specs.Requests.{guarantee};
 ghost use Rattle.book.specs.Valid.{isBook, bookIn, bookBytes};
 ghost use Rattle.registration.specs.Kinds.{decided, outcomeOn, bookAfter, Ready};
 use crate::cover::is_covered;
+use crate::cover::lodged;
 use book::layout::GUARANTEE_WIDTH;
 use book::layout::PRESENT_AT;
 use book::state::REGISTRATION;
@@ -17,7 +23,21 @@ use rules::Outcome;
 use rules::Refusal;
 use rules::Request;
 use rules::Verdict;
+use units::Cents;
 use wire::numbers::put_u64;
+
+// Whether the guarantee covers what the operator is exposed to. One that is no lower than that in force does, for a book covers that.
+fn covers_exposure(book: &[u8], guarantee: Cents, number: u8) -> bool
+    requires { ⌜ (isBook (now book) ≡ true) × (guarantee .0 ≤ mostGuarantee) × (1 ≤ number) × (number ≤ operatorCount (bookIn (now book) .setup)) ⌝ }
+    ensures { λ r. ⌜ r ≡ leb (exposure (bookIn (now (book .entry)) .setup) (bookIn (now (book .entry)) .part .rows) number) (guarantee .0 * (thousand - maintenanceAt (bookIn (now (book .entry)) .setup) number)) ⌝ }
+{
+    let held = lodged(book, number);
+    if held.0 <= guarantee.0 {
+        return true;
+    }
+    let owed = exposure_with(book, number, no_trade());
+    is_covered(book, owed, guarantee, number)
+}
 
 // What guarantee is refused for.
 fn guarantee_fault(book: &[u8], request: Request) -> Checked
@@ -28,8 +48,7 @@ fn guarantee_fault(book: &[u8], request: Request) -> Checked
     if phase(book) != REGISTRATION {
         return Checked::Fails(Refusal::WrongPhase);
     }
-    let owed = exposure_with(book, request.operator, no_trade());
-    if is_covered(book, owed, request.guarantee, request.operator) {
+    if covers_exposure(book, request.guarantee, request.operator) {
         return Checked::Clear;
     }
     Checked::Fails(Refusal::Uncovered)

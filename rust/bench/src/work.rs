@@ -103,6 +103,7 @@ fn gate_and_batches(lines: &mut Vec<Line>, fresh: &State, half: &State, full: &S
     for (book, state) in books {
         lines.push(line("guarantee", book, state, &guarantee(1, 900_000_000_000), 0));
     }
+    lines.push(line("guarantee, raised", "full", full, &guarantee(16, 200_000_000), 0));
     lines.push(line("guarantee, refused 19", "full", full, &guarantee(16, 1), 19));
     for (book, state) in books {
         lines.push(line("open batch", book, state, &simple(kind::OPEN_BATCH), 0));

@@ -1,12 +1,10 @@
 -- The tests of guarantee, in the order of their numbers.
-use mathlib.Core.Path.{refl, sym, ap, _∙_}
+use mathlib.Core.Path.{sym, ap, _∙_}
 use native.Mathlib.Omega.{arith}
-use Rattle.rules.specs.Books.{noRow}
 use Rattle.rules.specs.Requests.{guarantee}
 use Rattle.rules.specs.Verdicts.{checked}
 use Rattle.book.proofs.StateLaws.{book-is-sound}
 use Rattle.registration.proofs.Decisions.{in-wrong-phase}
-use Rattle.registration.proofs.CoverLaws.{settled-takeable}
 use Rattle.registration.proofs.LodgingLaws.{ready-guarantee, too-little-lodged, enough-lodged}
 use borrow.Author.Needs.{needs}
 use Rattle.registration.proofs.lodging.guarantee_fault.Statement.{statement}
@@ -18,48 +16,27 @@ phase-requires c κs = search needs
 returns : tie.Need-returns
 returns c = ap checked (sym (in-wrong-phase _ _ guarantee (λ e. c .if1 .taken (c .before .phase .ensures ∙ e))))
 
-no-trade-requires : tie.Need-no-trade-requires
-no-trade-requires c κs = search needs
-
-exposure-with-requires : tie.Need-exposure-with-requires
-exposure-with-requires c κs =
-    let pre = c .before .before .before .before .pre in
-    (pre .0, rw (c .no-trade .ensures) (settled-takeable _ noRow (omega arith) refl))
-
-is-covered-requires : tie.Need-is-covered-requires
-is-covered-requires c κs =
-    let pre = c .before .before .before .before .before .pre in
+covers-exposure-requires : tie.Need-covers-exposure-requires
+covers-exposure-requires c κs =
+    let pre = c .before .before .before .pre in
     let r = ready-guarantee _ _ (pre .1) in
     (pre .0, r .2, r .0, r .1)
 
 returns-2 : tie.Need-returns-2
 returns-2 c =
-    let owed = c .before .before in
-    let phase = owed .before .before .before in
+    let phase = c .before .before .before in
     let pre = phase .before .before .pre in
     let r = ready-guarantee _ _ (pre .1) in
     let all = book-is-sound _ (pre .0) .part-sound .guarantees-all in
-    ap checked (sym (enough-lodged _ _ (sym (phase .phase .ensures) ∙ owed .before .before .if1 .left) (r .0) (omega (arith, r .1, all)) _
-    (rw (owed .exposure-with .ensures .0, owed .before .no-trade .ensures) at (c .before .is-covered .ensures)) (c .if2 .taken)))
+    ap checked (sym (enough-lodged _ _ (sym (phase .phase .ensures) ∙ c .before .before .if1 .left) (r .0) (omega (arith, r .1, all)) _ (c .before .covers-exposure .ensures) (c .if2 .taken)))
 
 returns-3 : tie.Need-returns-3
 returns-3 c =
-    let owed = c .before .before in
-    let phase = owed .before .before .before in
+    let phase = c .before .before .before in
     let pre = phase .before .before .pre in
     let r = ready-guarantee _ _ (pre .1) in
     let all = book-is-sound _ (pre .0) .part-sound .guarantees-all in
-    ap checked (sym (too-little-lodged _ _ (sym (phase .phase .ensures) ∙ owed .before .before .if1 .left) (r .0) (omega (arith, r .1, all)) _
-    (rw (owed .exposure-with .ensures .0, owed .before .no-trade .ensures) at (c .before .is-covered .ensures)) (c .if2 .left)))
+    ap checked (sym (too-little-lodged _ _ (sym (phase .phase .ensures) ∙ c .before .before .if1 .left) (r .0) (omega (arith, r .1, all)) _ (c .before .covers-exposure .ensures) (c .if2 .left)))
 
 pub guarantee-fault-spec : {M : Type 1} → statement M
-guarantee-fault-spec =
-    tie.close
-    (tie.spec
-    phase-requires
-    returns
-    no-trade-requires
-    exposure-with-requires
-    is-covered-requires
-    returns-2
-    returns-3)
+guarantee-fault-spec = tie.close (tie.spec phase-requires returns covers-exposure-requires returns-2 returns-3)
