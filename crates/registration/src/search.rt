@@ -33,12 +33,19 @@ fn alike_at(book: &[u8], at: usize, proposer: u8, counterparty: u8, code: u64) -
 }
 
 // Of the `n` rows from `at` on, the number of the first that is so; 0 where there is none.
-fn number_among(book: &[u8], at: usize, n: u16, proposer: u8, counterparty: u8, code: u64) -> u16
+fn number_among(
+    book: &[u8],
+    at: usize,
+    n: usize,
+    proposer: u8,
+    counterparty: u8,
+    code: u64,
+) -> usize
     requires { ⌜ at + 18 * n ≤ length (now book) ⌝ }
     ensures { λ r. ⌜ r ≡ numberFrom (indexOf (alike proposer counterparty code) (rowsFrom (now (book .entry)) at n)) ⌝ }
 {
     let mut k = at;
-    let mut passed: u16 = 0;
+    let mut passed = 0;
     while passed < n {
         if alike_at(book, k, proposer, counterparty, code) {
             return passed + 1;
@@ -55,6 +62,6 @@ pub fn pending_number(book: &[u8], proposer: u8, counterparty: u8, code: u64) ->
     ensures { λ r. ⌜ r ≡ numberFrom (indexOf (alike proposer counterparty code) (bookIn (now (book .entry)) .part .rows)) ⌝ }
     ensures bound { λ r. ⌜ r ≤ length (bookIn (now (book .entry)) .part .rows) ⌝ }
 {
-    let n = row_count(book);
-    number_among(book, PRESENT_AT + ROWS_IN, n, proposer, counterparty, code)
+    let n = row_count(book) as usize;
+    number_among(book, PRESENT_AT + ROWS_IN, n, proposer, counterparty, code) as u16
 }
