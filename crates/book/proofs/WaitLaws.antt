@@ -2,7 +2,7 @@
 use Prim.Native.Nat.{ℕ, zero, suc, _+_, _-_, _*_, _≤_}
 use mathlib.Core.Path.{_≡_, refl, sym, ap, _∙_}
 use mathlib.Core.List.{List, [], _∷_}
-use mathlib.Core.Bool.{Bool, true, false, _&&_, and-true, and-false}
+use mathlib.Core.Bool.{Bool, true, false, _&&_, _||_, and-true, and-false, or-assoc, or-false}
 use native.Mathlib.Nat.{add-zero}
 use native.Mathlib.Omega.{arith}
 use lib.ListN.{length, getD, drop, length-replicate}
@@ -11,10 +11,10 @@ use lib.Dec.{eqb}
 use borrow.Author.Tests.{eq-eqb, ne-eqb}
 use Rattle.wire.specs.Numbers.{numberAt}
 use Rattle.rules.specs.declared.Row.{Row}
-use Rattle.rules.specs.Basics.{if_then_else_, total, nth}
+use Rattle.rules.specs.Basics.{if_then_else_, total, any, nth}
 use Rattle.rules.specs.Limits.{mostEnergy}
 use Rattle.rules.specs.Books.{noRow}
-use Rattle.rules.specs.Registration.{pending, covers, waiting}
+use Rattle.rules.specs.Registration.{pending, covers, alike, waiting}
 use Rattle.book.specs.Layout.{presentAt, rowAt}
 use Rattle.book.specs.Valid.{isBook, bookIn}
 use Rattle.book.specs.Sums.{cellOf, InTable, Tabled, Raised}
@@ -131,6 +131,49 @@ taken-of-others table r a x e n = taken-none table r a (rw (ne-eqb (r .proposer)
 
 pub taken-of-ended : (table : List ℕ) (r : Row) (a x : ℕ) → x ≡ r .status → (x ≡ 1 → ⊥) → WaitTaken table table r a
 taken-of-ended table r a x e n = taken-none table r a (rw (ne-eqb (r .status) 1 (λ d. n (e ∙ d))))
+
+-- ---- a row alike
+
+module _ (r : Row) (a counterparty code x : ℕ) where
+  -- another's row is not, nor one that does not wait
+  pub others-unlike : x ≡ r .proposer → (x ≡ a → ⊥) → false ≡ alike a counterparty code r
+  unfolding alike
+  others-unlike e n = rw (ne-eqb (r .proposer) a (λ d. n (e ∙ d)), and-false (pending r))
+
+  pub ended-unlike : x ≡ r .status → (x ≡ 1 → ⊥) → false ≡ alike a counterparty code r
+  unfolding alike
+  ended-unlike e n = rw (ne-eqb (r .status) 1 (λ d. n (e ∙ d)))
+
+-- of an own one that waits the rest decides
+pub own-alike : (r : Row) (a counterparty code : ℕ) → r .status ≡ 1 → r .proposer ≡ a
+    → (eqb (r .counterparty) counterparty && eqb (r .code) code) ≡ alike a counterparty code r
+unfolding alike
+own-alike r a counterparty code e d = rw (e, eq-eqb (r .proposer) a d)
+
+-- ---- whether some row is, number by number: what was found, or some row that is left
+
+module _ (p : Row → Bool) (rows : List Row) where
+  any-step : (x : Row) (xs : List Row) → any p (x ∷ xs) ≡ p x || any p xs
+  unfolding any
+  any-step x xs = go (p x) refl
+    where
+      go : (t : Bool) → p x ≡ t → any p (x ∷ xs) ≡ t || any p xs
+      go true e = rw (e, any)
+      go false e = rw (e, any)
+
+  pub told-next : (n : ℕ) (found here : Bool) → 1 ≤ n → n ≤ length rows → here ≡ p (nth rows n noRow)
+      → found || any p (drop (n - 1) rows) ≡ any p rows → (found || here) || any p (drop (n + 1 - 1) rows) ≡ any p rows
+  told-next zero found here low high e h = absurd (omega arith)
+  told-next (suc i) found here low high e h =
+      let this : suc i - 1 ≡ i = omega arith in
+      let next : suc i + 1 - 1 ≡ suc i = omega arith in
+      let split : any p (drop i rows) ≡ here || any p (drop (suc i) rows) =
+      rw (drop-cons rows i noRow (omega arith), e) (any-step (getD rows i noRow) (drop (suc i) rows)) in
+      rw next (or-assoc found here (any p (drop (suc i) rows)) ∙ ap (λ (b : Bool). found || b) (sym split) ∙ rw this at h)
+
+  pub told-last : (k : ℕ) (found : Bool) → k ≡ length rows → found || any p (drop k rows) ≡ any p rows → found ≡ any p rows
+  unfolding any
+  told-last k found e h = sym (or-false found) ∙ rw (e, drop-length rows) at h
 
 -- a side and an hour of the set-up have their cell
 pub side-hour : (s : List ℕ) → isBook s ≡ true → (side h : ℕ) → 1 ≤ side → side ≤ 2 → (1 ≤ h) × (h ≤ bookIn s .setup .hours) → Waits side h

@@ -3,9 +3,10 @@ ghost use mathlib.Core.Path.{_≡_};
 ghost use mathlib.Core.Bool.{true};
 ghost use Prim.Native.Nat.{_+_, _-_, _≤_};
 ghost use lib.ListN.{length, getD};
-ghost use Rattle.rules.specs.Basics.{nth};
+ghost use Rattle.rules.specs.Basics.{any, nth};
 ghost use Rattle.rules.specs.Limits.{mostEnergy};
 ghost use Rattle.rules.specs.Books.{noRow, accountCount};
+ghost use Rattle.rules.specs.Registration.{alike};
 ghost use Rattle.book.specs.Valid.{isBook, bookIn};
 ghost use Rattle.book.specs.Sums.{Tabled, Room, Raised};
 ghost use Rattle.book.specs.Waits.{waitCell, Waits, WaitsOf, noWaits, WaitTaken, nettedHour};
@@ -45,19 +46,30 @@ fn take_waiting(table: &mut [u32], r: Row)
     add_range(table, at, n, quantity.0);
 }
 
-// Takes the row of that number where it is pending and the account's own. Most rows are another's, so that the proposer is looked at first.
-fn take_own(table: &mut [u32], book: &[u8], number: u16, account: u8)
+// Takes the row of that number where it is pending and the account's own, and tells whether it has this counterparty and code. Most rows
+// are another's, so that the proposer is looked at first.
+fn take_own(
+    table: &mut [u32],
+    book: &[u8],
+    number: u16,
+    account: u8,
+    counterparty: u8,
+    code: u64,
+) -> bool
     requires { ⌜ (length (now table) ≡ 50) × Room (now table) 0 mostEnergy × (isBook (now book) ≡ true) × (1 ≤ number) × (number ≤ length (bookIn (now book) .part .rows)) ⌝ }
-    ensures { λ _. ⌜ WaitTaken (now (table .entry)) (now (table .exit)) (nth (bookIn (now (book .entry)) .part .rows) number noRow) account ⌝ }
+    ensures waits { λ _. ⌜ WaitTaken (now (table .entry)) (now (table .exit)) (nth (bookIn (now (book .entry)) .part .rows) number noRow) account ⌝ }
+    ensures tells { λ r. ⌜ r ≡ alike account counterparty code (nth (bookIn (now (book .entry)) .part .rows) number noRow) ⌝ }
 {
     let at = row_place(number);
     if get_u8(book, at) != account {
-        return;
+        return false;
     }
-    if get_u8(book, at + STATUS_IN) == PENDING {
-        let r = row_at(book, at);
-        take_waiting(table, r);
+    if get_u8(book, at + STATUS_IN) != PENDING {
+        return false;
     }
+    let r = row_at(book, at);
+    take_waiting(table, r);
+    (r.counterparty == counterparty) & (r.code == code)
 }
 
 // A table of no rows.
@@ -67,17 +79,21 @@ pub fn no_waits() -> [u32; WAITS_SIZE]
     [0u32; WAITS_SIZE]
 }
 
-// Takes the account's own pending rows into a table of no rows.
-pub fn fill_waits(table: &mut [u32], book: &[u8], account: u8)
+// Takes the account's own pending rows into a table of no rows, and tells whether one of them has this counterparty and code.
+pub fn fill_waits(table: &mut [u32], book: &[u8], account: u8, counterparty: u8, code: u64) -> bool
     requires { ⌜ (now table ≡ noWaits) × (isBook (now book) ≡ true) ⌝ }
-    ensures { λ _. ⌜ WaitsOf (bookIn (now (book .entry)) .part .rows) account (now (table .exit)) ⌝ }
+    ensures waits { λ _. ⌜ WaitsOf (bookIn (now (book .entry)) .part .rows) account (now (table .exit)) ⌝ }
+    ensures tells { λ r. ⌜ r ≡ any (alike account counterparty code) (bookIn (now (book .entry)) .part .rows) ⌝ }
 {
     let n = row_count(book);
+    let mut found = false;
     let mut number: u16 = 1;
     while number <= n {
-        take_own(table, book, number, account);
+        let here = take_own(table, book, number, account, counterparty, code);
+        found = found | here;
         number = number + 1;
     }
+    found
 }
 
 // What waits on the account in an hour, on a side.

@@ -1,4 +1,4 @@
--- The search for a pending row: its tests as the bytes have them, and the number found, row by row. Some row passes where a number is found.
+-- The search for a pending row: its tests as the bytes have them, and the number found, row by row.
 use Prim.Native.Nat.{ℕ, suc, _+_, _≤_}
 use mathlib.Core.Path.{_≡_, refl, sym, _∙_}
 use mathlib.Core.List.{List, [], _∷_}
@@ -10,7 +10,7 @@ use lib.Dec.{eqb}
 use borrow.Author.Tests.{eq-eqb, ne-eqb}
 use Rattle.wire.specs.Numbers.{numberAt}
 use Rattle.rules.specs.declared.Row.{Row}
-use Rattle.rules.specs.Basics.{any, indexOf}
+use Rattle.rules.specs.Basics.{indexOf}
 use Rattle.rules.specs.Books.{noRow}
 use Rattle.rules.specs.Registration.{alike}
 use Rattle.rules.specs.Calls.{numberFrom}
@@ -86,19 +86,3 @@ module _ (p : Row → Bool) where
       go : (o : Option ℕ) → indexOf p rows ≡ o → numberFrom o ≤ length rows
       go none e = omega arith
       go (some i) e = index-first p noRow rows i e .inside
-
--- ---- whether there is one
-
--- some row passes where a number is found
-pub any-found : (p : Row → Bool) (rows : List Row) → any p rows ≡ not (eqb (numberFrom (indexOf p rows)) 0)
-unfolding any indexOf
-any-found p [] = refl
-any-found p (x ∷ xs) = go (p x) refl (any-found p xs)
-  where
-    next : (o : Option ℕ) → not (eqb (numberFrom o) 0) ≡ not (eqb (numberFrom (elim o [ none ↦ none | some i ↦ some (suc i) ])) 0)
-    next none = refl
-    next (some i) = rw (ne-eqb (suc i) 0 (λ e. omega arith), ne-eqb (suc (suc i)) 0 (λ e. omega arith))
-
-    go : (t : Bool) → p x ≡ t → any p xs ≡ not (eqb (numberFrom (indexOf p xs)) 0) → any p (x ∷ xs) ≡ not (eqb (numberFrom (indexOf p (x ∷ xs))) 0)
-    go true e ih = rw (e, any, indexOf)
-    go false e ih = rw (e, any, indexOf) (ih ∙ next (indexOf p xs))

@@ -22,7 +22,7 @@ pub enum Broken {
 
 // The lowest hour in which the account breaks a margin once it took the trade, by what waits on it. An hour that is not the trade's stays
 // as it was, and a book keeps its margins.
-fn first_broken(book: &[u8], waits: &[u32], trade: Row, number: u8) -> Broken
+pub fn first_broken(book: &[u8], waits: &[u32], trade: Row, number: u8) -> Broken
     requires { ⌜ (isBook (now book) ≡ true) × WaitsOf (bookIn (now book) .part .rows) number (now waits) × (trade .quantity .0 ≤ mostEnergy) × (1 ≤ number) × (number ≤ accountCount (bookIn (now book) .setup)) × (1 ≤ trade .first) × (trade .first ≤ trade .last) × (trade .last ≤ bookIn (now book) .setup .hours) ⌝ }
     ensures { λ r. ⌜ r ≡ broken (brokenBy (bookIn (now (book .entry)) .setup) (bookIn (now (book .entry)) .part .rows) trade number) ⌝ }
 {
@@ -43,12 +43,12 @@ fn first_broken(book: &[u8], waits: &[u32], trade: Row, number: u8) -> Broken
     found
 }
 
-// The lowest hour in which the account of that number breaks a margin once it took the trade.
+// The lowest hour in which the account of that number breaks a margin once it took the trade. Whether a row of its own is alike is not asked.
 pub fn broken_hour(book: &[u8], trade: Row, number: u8) -> Broken
     requires { ⌜ (isBook (now book) ≡ true) × (trade .quantity .0 ≤ mostEnergy) × (1 ≤ number) × (number ≤ accountCount (bookIn (now book) .setup)) × (1 ≤ trade .first) × (trade .first ≤ trade .last) × (trade .last ≤ bookIn (now book) .setup .hours) ⌝ }
     ensures { λ r. ⌜ r ≡ broken (brokenBy (bookIn (now (book .entry)) .setup) (bookIn (now (book .entry)) .part .rows) trade number) ⌝ }
 {
     let mut waits = no_waits();
-    fill_waits(&mut waits, book, number);
+    fill_waits(&mut waits, book, number, trade.counterparty, trade.code);
     first_broken(book, &waits, trade, number)
 }

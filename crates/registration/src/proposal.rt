@@ -16,13 +16,13 @@ ghost use Rattle.rules.specs.Registration.{pending, alike, proposed, available}
 ghost use Rattle.book.specs.Layout.{rowWidths, presentAt, rowAt, rowCountAt};
 ghost use Rattle.book.specs.Image.{rowValues, rowBytes};
 ghost use Rattle.book.specs.Valid.{isBook, bookIn, bookBytes};
+ghost use Rattle.book.specs.Waits.{WaitsOf};
 ghost use Rattle.book.specs.Worth.{exposureWith, Takeable};
 ghost use Rattle.registration.specs.Kinds.{decided, outcomeOn, bookAfter, Ready};
 use crate::cover::in_force_covers;
 use crate::cover::operator_of;
 use crate::margins::Broken;
-use crate::margins::broken_hour;
-use crate::search::pending_number;
+use crate::margins::first_broken;
 use book::layout::MOST_ROWS;
 use book::layout::PRESENT_AT;
 use book::layout::ROW_COUNT_IN;
@@ -32,6 +32,8 @@ use book::state::PENDING;
 use book::state::REGISTRATION;
 use book::state::phase;
 use book::state::row_count;
+use book::waits::fill_waits;
+use book::waits::no_waits;
 use book::worth::exposure_with;
 use rules::Checked;
 use rules::Outcome;
@@ -59,14 +61,6 @@ fn proposed_row(request: Request) -> Row
     }
 }
 
-// A row with the request's parties and code, and its account as proposer, is pending already.
-fn already_pending(book: &[u8], request: Request) -> bool
-    requires { ⌜ isBook (now book) ≡ true ⌝ }
-    ensures { λ b. ⌜ b ≡ any (alike (request .account) (request .other) (request .code)) (bookIn (now (book .entry)) .part .rows) ⌝ }
-{
-    pending_number(book, request.account, request.other, request.code) != 0
-}
-
 // Whether the guarantee of the account's operator covers its exposure once the row is taken.
 fn row_covered(book: &[u8], row: Row, number: u8) -> bool
     requires { ⌜ (isBook (now book) ≡ true) × Takeable (bookIn (now book) .setup) row × (pending row ≡ true) × (1 ≤ number) × (number ≤ accountCount (bookIn (now book) .setup)) ⌝ }
@@ -81,13 +75,13 @@ fn row_covered(book: &[u8], row: Row, number: u8) -> bool
     in_force_covers(book, owed, operator)
 }
 
-// What register is refused for where its row is no twin and has a number: margins and exposure as they would be.
-fn weighed(book: &[u8], request: Request) -> Checked
-    requires { ⌜ (isBook (now book) ≡ true) × Ready register (bookIn (now book)) request × (bookIn (now book) .phase ≡ 1) × (any (alike (request .account) (request .other) (request .code)) (bookIn (now book) .part .rows) ≡ false) × (length (bookIn (now book) .part .rows) < mostRows) ⌝ }
+// What register is refused for where its row is no twin and has a number: margins, by what waits on the account, and exposure as they would be.
+fn weighed(book: &[u8], waits: &[u32], request: Request) -> Checked
+    requires { ⌜ (isBook (now book) ≡ true) × WaitsOf (bookIn (now book) .part .rows) (request .account) (now waits) × Ready register (bookIn (now book)) request × (bookIn (now book) .phase ≡ 1) × (any (alike (request .account) (request .other) (request .code)) (bookIn (now book) .part .rows) ≡ false) × (length (bookIn (now book) .part .rows) < mostRows) ⌝ }
     ensures { λ r. ⌜ r ≡ checked (decided register (bookIn (now (book .entry))) request) ⌝ }
 {
     let row = proposed_row(request);
-    if let Broken::Hour(hour) = broken_hour(book, row, request.account) {
+    if let Broken::Hour(hour) = first_broken(book, waits, row, request.account) {
         return Checked::Fails(Refusal::MarginBroken { hour });
     }
     if row_covered(book, row, request.account) {
@@ -105,13 +99,21 @@ fn register_fault(book: &[u8], request: Request) -> Checked
     if phase(book) != REGISTRATION {
         return Checked::Fails(Refusal::WrongPhase);
     }
-    if already_pending(book, request) {
+    // What waits on the account is summed while a row alike is looked for.
+    let mut waits = no_waits();
+    if fill_waits(
+        &mut waits,
+        book,
+        request.account,
+        request.other,
+        request.code,
+    ) {
         return Checked::Fails(Refusal::AlreadyPending);
     }
     if MOST_ROWS <= row_count(book) as usize {
         return Checked::Fails(Refusal::RowsFull);
     }
-    weighed(book, request)
+    weighed(book, &waits, request)
 }
 
 // The 18 bytes of a row.

@@ -1,4 +1,4 @@
-// The search for a pending row by its parties and its code.
+// The search for a pending row by its parties and its code: the one that a confirm names.
 ghost use mathlib.Core.Path.{_≡_};
 ghost use mathlib.Core.Bool.{true};
 ghost use Prim.Native.Nat.{_+_, _*_, _≤_};

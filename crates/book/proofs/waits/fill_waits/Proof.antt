@@ -1,26 +1,32 @@
--- What the table holds and what waits of the rows of later numbers make what waits of all rows.
+-- What the table holds and what waits of the rows of later numbers make what waits of all rows; what was found, or a later row alike, is that
+-- some row is.
 use Prim.Native.Nat.{_+_, _-_, _*_, _≤_}
-use mathlib.Core.Path.{_≡_}
+use mathlib.Core.Path.{_≡_, refl}
+use mathlib.Core.Bool.{_||_}
 use native.Mathlib.Omega.{arith}
 use lib.ListN.{length, drop}
 use borrow.Author.Needs.{needs}
+use Rattle.rules.specs.Basics.{any}
 use Rattle.rules.specs.Limits.{mostEnergy, mostRows}
+use Rattle.rules.specs.Registration.{alike}
 use Rattle.book.specs.Valid.{bookIn}
-use Rattle.book.proofs.WaitLaws.{Waiting, length-no-waits, waiting-first, waiting-next, waiting-last}
+use Rattle.book.proofs.WaitLaws.{Waiting, length-no-waits, waiting-first, waiting-next, waiting-last, told-next, told-last}
 use Rattle.book.proofs.waits.fill_waits.Statement.{statement}
 use Rattle.book.proofs.waits.fill_waits.Tie as tie
 
 abbrev Inv-loop : tie.InvT-loop
-Inv-loop table₀ book account n number₀ table number =
-    (n ≡ length (bookIn book .part .rows))
+Inv-loop table₀ book account counterparty code n found₀ number₀ table found number =
+    let rows = bookIn book .part .rows in
+    (n ≡ length rows)
     × (n ≤ mostRows)
     × (1 ≤ number)
     × (number ≤ n + 1)
     × (length table ≡ 50)
-    × Waiting account (bookIn book .part .rows) (drop (number - 1) (bookIn book .part .rows)) table ((number - 1) * mostEnergy)
+    × Waiting account rows (drop (number - 1) rows) table ((number - 1) * mostEnergy)
+    × (found || any (alike account counterparty code) (drop (number - 1) rows) ≡ any (alike account counterparty code) rows)
 
 abbrev μ-loop : tie.MeasureT-loop
-μ-loop table₀ book account n number₀ table number = n + 1 - number
+μ-loop table₀ book account counterparty code n found₀ number₀ table found number = n + 1 - number
 
 row-count-requires : tie.Need-row-count-requires Inv-loop μ-loop
 row-count-requires c κs = search needs
@@ -28,7 +34,7 @@ row-count-requires c κs = search needs
 loop-holds : tie.Need-loop-holds Inv-loop μ-loop
 loop-holds c =
     let start = c .before .before .before in
-    (c .row-count .ensures .0, c .row-count .ensures .1, search needs, search needs, length-no-waits _ (start .pre .0), waiting-first _ _ _ _ (start .pre .0))
+    (c .row-count .ensures .0, c .row-count .ensures .1, search needs, search needs, length-no-waits _ (start .pre .0), waiting-first _ _ _ _ (start .pre .0), refl)
 
 take-own-requires : tie.Need-take-own-requires Inv-loop μ-loop
 take-own-requires c κs =
@@ -51,7 +57,8 @@ loop-again c =
       search needs,
       search needs,
       search needs,
-      waiting-next _ _ (l .number) _ _ (l .inv .2) (omega (arith, l .inv .0)) (t .take-own .ensures) (l .inv .5),
+      waiting-next _ _ (l .number) _ _ (l .inv .2) (omega (arith, l .inv .0)) (t .take-own .ensures .0) (l .inv .5),
+      told-next _ _ (l .number) (l .found) (t .take-own .result) (l .inv .2) (omega (arith, l .inv .0)) (t .take-own .ensures .1) (l .inv .6),
     )
 
 same-length : tie.Need-same-length Inv-loop μ-loop
@@ -60,7 +67,8 @@ same-length c = omega (arith, length-no-waits _ (c .before .before .before .befo
 returns : tie.Need-returns Inv-loop μ-loop
 returns c =
     let l = c .before .loop in
-    waiting-last _ _ (l .number - 1) _ (omega (arith, l .inv .0)) (l .inv .4) (l .inv .5)
+    let all = l .inv .0 in
+    (waiting-last _ _ (l .number - 1) _ (omega arith) (l .inv .4) (l .inv .5), told-last _ _ (l .number - 1) _ (omega arith) (l .inv .6))
 
 pub fill-waits-spec : {M : Type 1} → statement M
 fill-waits-spec =

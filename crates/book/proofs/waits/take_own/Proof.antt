@@ -3,7 +3,7 @@ use mathlib.Core.Path.{_∙_, sym}
 use native.Mathlib.Omega.{arith}
 use Rattle.book.proofs.StateLaws.{book-length, row-count-high, numbered-row-stands}
 use Rattle.book.proofs.BookRows.{numbered-sound, numbered-tabled}
-use Rattle.book.proofs.WaitLaws.{own-stands, taken-own, taken-of-others, taken-of-ended}
+use Rattle.book.proofs.WaitLaws.{own-stands, taken-own, taken-of-others, taken-of-ended, others-unlike, ended-unlike, own-alike}
 use borrow.Author.Needs.{needs}
 use Rattle.book.proofs.waits.take_own.Statement.{statement}
 use Rattle.book.proofs.waits.take_own.Tie as tie
@@ -21,7 +21,8 @@ returns c =
     let start = place .before .before .before in
     let pre = start .pre in
     let stands = own-stands _ (pre .2) (start .args .number) _ (pre .3) (pre .4) (place .row-place .ensures) in
-    taken-of-others _ _ _ _ (c .before .get-u8 .ensures ∙ stands .0) (c .if1 .taken)
+    let proposer = c .before .get-u8 .ensures ∙ stands .0 in
+    (taken-of-others _ _ _ _ proposer (c .if1 .taken), others-unlike _ _ (start .args .counterparty) (start .args .code) _ proposer (c .if1 .taken))
 
 add-get-u8 : tie.Need-add-get-u8
 add-get-u8 c = search needs
@@ -30,6 +31,15 @@ get-u8-requires-2 : tie.Need-get-u8-requires-2
 get-u8-requires-2 c κs =
     let place = c .before .before in
     let pre = place .before .before .before .pre in omega (arith, place .row-place .ensures, row-count-high _ (pre .2), book-length _ (pre .2))
+
+returns-2 : tie.Need-returns-2
+returns-2 c =
+    let place = c .before .before .before .before in
+    let start = place .before .before .before in
+    let pre = start .pre in
+    let stands = own-stands _ (pre .2) (start .args .number) _ (pre .3) (pre .4) (place .row-place .ensures) in
+    let status = c .before .get-u82 .ensures ∙ stands .1 in
+    (taken-of-ended _ _ _ _ status (c .if2 .taken), ended-unlike _ (start .args .account) (start .args .counterparty) (start .args .code) _ status (c .if2 .taken))
 
 row-at-requires : tie.Need-row-at-requires
 row-at-requires c κs =
@@ -51,9 +61,9 @@ take-waiting-requires c κs =
 same-length : tie.Need-same-length
 same-length c = search needs
 
-returns-2 : tie.Need-returns-2
-returns-2 c =
-    let taken = c .before .before in
+returns-3 : tie.Need-returns-3
+returns-3 c =
+    let taken = c .before .before .before .before in
     let row = taken .before .before in
     let status = row .before in
     let proposer = status .before .before in
@@ -64,17 +74,11 @@ returns-2 c =
     let same = row .row-at .ensures ∙ numbered-row-stands _ (pre .2) n _ (pre .3) (pre .4) (place .row-place .ensures) in
     let stands = own-stands _ (pre .2) n _ (pre .3) (pre .4) (place .row-place .ensures) in
     let sound = numbered-sound _ (pre .2) n (pre .3) (pre .4) in
-    taken-own _ _ _ _ (numbered-tabled _ (pre .2) n (pre .3) (pre .4)) (sound .side-low) (sound .side-high)
-    (sym (status .before .get-u82 .ensures ∙ stands .1) ∙ status .if2 .taken) (sym (proposer .before .get-u8 .ensures ∙ stands .0) ∙ proposer .if1 .left)
-    (rw same at (taken .take-waiting .ensures))
-
-returns-3 : tie.Need-returns-3
-returns-3 c =
-    let place = c .before .before .before .before in
-    let start = place .before .before .before in
-    let pre = start .pre in
-    let stands = own-stands _ (pre .2) (start .args .number) _ (pre .3) (pre .4) (place .row-place .ensures) in
-    taken-of-ended _ _ _ _ (c .before .get-u82 .ensures ∙ stands .1) (c .if2 .left)
+    let waits = sym (status .before .get-u82 .ensures ∙ stands .1) ∙ status .if2 .left in
+    let own = sym (proposer .before .get-u8 .ensures ∙ stands .0) ∙ proposer .if1 .left in (
+      taken-own _ _ _ _ (numbered-tabled _ (pre .2) n (pre .3) (pre .4)) (sound .side-low) (sound .side-high) waits own (rw same at (taken .take-waiting .ensures)),
+      rw same (own-alike _ _ (start .args .counterparty) (start .args .code) waits own),
+    )
 
 pub take-own-spec : {M : Type 1} → statement M
 take-own-spec =
@@ -85,8 +89,8 @@ take-own-spec =
     returns
     add-get-u8
     get-u8-requires-2
+    returns-2
     row-at-requires
     take-waiting-requires
     same-length
-    returns-2
     returns-3)

@@ -15,12 +15,20 @@ phase-requires c κs = search needs
 returns : tie.Need-returns
 returns c = ap checked (sym (in-wrong-phase _ _ register (λ e. c .if1 .taken (c .before .phase .ensures ∙ e))))
 
-already-pending-requires : tie.Need-already-pending-requires
-already-pending-requires c κs = search needs
+no-waits-requires : tie.Need-no-waits-requires
+no-waits-requires c κs = search needs
+
+slice-aggregate-fill-waits : tie.Need-slice-aggregate-fill-waits
+slice-aggregate-fill-waits c = search needs
+
+fill-waits-requires : tie.Need-fill-waits-requires
+fill-waits-requires c κs = search needs
 
 returns-2 : tie.Need-returns-2
 returns-2 c =
-    ap checked (sym (twin-pending _ _ (sym (c .before .before .before .phase .ensures) ∙ c .before .before .if1 .left) (sym (c .before .already-pending .ensures) ∙ c .if2 .taken)))
+    let filled = c .before .before in
+    let phase = filled .before .before .before in
+    ap checked (sym (twin-pending _ _ (sym (phase .before .phase .ensures) ∙ phase .if1 .left) (sym (filled .fill-waits .ensures .1) ∙ c .if2 .taken)))
 
 row-count-requires : tie.Need-row-count-requires
 row-count-requires c κs = search needs
@@ -30,16 +38,24 @@ cast-if3 c = search needs
 
 returns-3 : tie.Need-returns-3
 returns-3 c =
-    let first = sym (c .before .before .before .before .before .phase .ensures) ∙ c .before .before .before .before .if1 .left in
-    let alone = sym (c .before .before .before .already-pending .ensures) ∙ c .before .before .if2 .left in
-    ap checked (sym (no-number-left _ _ first alone (omega (arith, c .before .row-count .ensures .0))))
+    let none = c .before .before in
+    let filled = none .before .before in
+    let phase = filled .before .before .before in
+    let alone = sym (filled .fill-waits .ensures .1) ∙ none .if2 .left in
+    ap checked (sym (no-number-left _ _ (sym (phase .before .phase .ensures) ∙ phase .if1 .left) alone (omega (arith, c .before .row-count .ensures .0))))
+
+slice-aggregate-weighed : tie.Need-slice-aggregate-weighed
+slice-aggregate-weighed c = search needs
 
 weighed-requires : tie.Need-weighed-requires
 weighed-requires c κs =
-    let pre = c .before .before .before .before .before .before .before .pre in
-    let first = sym (c .before .before .before .before .before .phase .ensures) ∙ c .before .before .before .before .if1 .left in
-    let alone = sym (c .before .before .before .already-pending .ensures) ∙ c .before .before .if2 .left in
-    (pre .0, pre .1, first, alone, omega (arith, c .before .row-count .ensures .0))
+    let count = c .before .before in
+    let none = count .before in
+    let filled = none .before .before in
+    let phase = filled .before .before .before in
+    let pre = phase .before .before .before .pre in
+    let alone = sym (filled .fill-waits .ensures .1) ∙ none .if2 .left in
+    (pre .0, filled .fill-waits .ensures .0, pre .1, sym (phase .before .phase .ensures) ∙ phase .if1 .left, alone, omega (arith, count .row-count .ensures .0))
 
 returns-4 : tie.Need-returns-4
 returns-4 c = search needs
@@ -50,10 +66,13 @@ register-fault-spec =
     (tie.spec
     phase-requires
     returns
-    already-pending-requires
+    no-waits-requires
+    slice-aggregate-fill-waits
+    fill-waits-requires
     returns-2
     row-count-requires
     cast-if3
     returns-3
+    slice-aggregate-weighed
     weighed-requires
     returns-4)

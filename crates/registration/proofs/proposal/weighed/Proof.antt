@@ -11,12 +11,12 @@ use Rattle.registration.proofs.proposal.weighed.Tie as tie
 proposed-row-requires : tie.Need-proposed-row-requires
 proposed-row-requires c κs = search needs
 
-broken-hour-requires : tie.Need-broken-hour-requires
-broken-hour-requires c κs =
-    let pre = c .before .before .pre in
-    let row = ready-row _ _ (pre .1) in
+first-broken-requires : tie.Need-first-broken-requires
+first-broken-requires c κs =
+    let pre = c .before .before .before .pre in
+    let row = ready-row _ _ (pre .2) in
     let same = c .proposed-row .ensures in
-    (pre .0, rw same (row .quantity-high), row .proposer-low, row .proposer-high, rw same (row .first-low), rw same (row .in-order), rw same (row .last-high))
+    (pre .0, pre .1, rw same (row .quantity-high), row .proposer-low, row .proposer-high, rw same (row .first-low), rw same (row .in-order), rw same (row .last-high))
 
 enum-known-hour : tie.Need-enum-known-hour
 enum-known-hour c = search needs
@@ -25,9 +25,9 @@ returns : tie.Need-returns
 returns c =
     let hour = c .before .before .before in
     let trade = hour .before in
-    let pre = trade .before .before .pre in
-    ap checked (sym (margin-breaks _ _ (pre .2) (pre .3) (pre .4) _
-    (found-hour _ _ _ _ _ _ (trade .proposed-row .ensures) (sym (c .before .hour .given .1) ∙ hour .broken-hour .ensures))))
+    let pre = trade .before .before .before .pre in
+    ap checked (sym (margin-breaks _ _ (pre .3) (pre .4) (pre .5) _
+    (found-hour _ _ _ _ _ _ (trade .proposed-row .ensures) (sym (c .before .hour .given .1) ∙ hour .first-broken .ensures))))
 
 enum-told : tie.Need-enum-told
 enum-told c = search needs
@@ -35,8 +35,8 @@ enum-told c = search needs
 row-covered-requires : tie.Need-row-covered-requires
 row-covered-requires c κs =
     let trade = c .before .before .before in
-    let pre = trade .before .before .pre in
-    let row = ready-row _ _ (pre .1) in
+    let pre = trade .before .before .before .pre in
+    let row = ready-row _ _ (pre .2) in
     (pre .0, rw (trade .proposed-row .ensures) (sound-takeable _ _ row), rw (trade .proposed-row .ensures), row .proposer-low, row .proposer-high)
 
 returns-2 : tie.Need-returns-2
@@ -44,27 +44,27 @@ returns-2 c =
     let told = c .before .before in
     let hour = told .before .before in
     let trade = hour .before in
-    let pre = trade .before .before .pre in
+    let pre = trade .before .before .before .pre in
     let same = trade .proposed-row .ensures in
-    let kept = found-nowhere _ _ _ _ _ same (sym (told .enum-told .given .1) ∙ hour .broken-hour .ensures) in
-    ap checked (sym (row-covered _ _ (pre .2) (pre .3) (pre .4) kept _ (rw same at (c .before .row-covered .ensures)) (c .if1 .taken)))
+    let kept = found-nowhere _ _ _ _ _ same (sym (told .enum-told .given .1) ∙ hour .first-broken .ensures) in
+    ap checked (sym (row-covered _ _ (pre .3) (pre .4) (pre .5) kept _ (rw same at (c .before .row-covered .ensures)) (c .if1 .taken)))
 
 returns-3 : tie.Need-returns-3
 returns-3 c =
     let told = c .before .before in
     let hour = told .before .before in
     let trade = hour .before in
-    let pre = trade .before .before .pre in
+    let pre = trade .before .before .before .pre in
     let same = trade .proposed-row .ensures in
-    let kept = found-nowhere _ _ _ _ _ same (sym (told .enum-told .given .1) ∙ hour .broken-hour .ensures) in
-    ap checked (sym (row-uncovered _ _ (pre .2) (pre .3) (pre .4) kept _ (rw same at (c .before .row-covered .ensures)) (c .if1 .left)))
+    let kept = found-nowhere _ _ _ _ _ same (sym (told .enum-told .given .1) ∙ hour .first-broken .ensures) in
+    ap checked (sym (row-uncovered _ _ (pre .3) (pre .4) (pre .5) kept _ (rw same at (c .before .row-covered .ensures)) (c .if1 .left)))
 
 pub weighed-spec : {M : Type 1} → statement M
 weighed-spec =
     tie.close
     (tie.spec
     proposed-row-requires
-    broken-hour-requires
+    first-broken-requires
     enum-known-hour
     returns
     enum-told
