@@ -46,7 +46,7 @@ part-rows top operators s at n e l =
     rw (count, place, chunks-front rowWidth n (rowWidth * mostRows) (drop (at + rowsAt) s) (omega arith))
 
 -- the table of sums has room for a sound row
-pub sound-tabled : (u : Setup) → SoundSetup u → (r : Row) → SoundRow u r → Tabled r
+pub sound-tabled : (u : Setup) → SoundSetup u → (r : Row) → SoundRow u r → Tabled mostHours r
 sound-tabled u k r s =
     record {
       proposer-low = s .proposer-low;
@@ -95,7 +95,7 @@ module _ (s : List ℕ) (h : isBook s ≡ true) where
   unfolding setupOf
   estimates-in = rw (ap (λ (u : Setup). u .estimates) setup-in) at (values-in .estimates-sound)
 
-  pub rows-tabled : Each Tabled (bookIn s .part .rows)
+  pub rows-tabled : Each (Tabled mostHours) (bookIn s .part .rows)
   rows-tabled = each-map (sound-tabled (bookIn s .setup) (book-is-sound s h .setup-sound)) (book-is-sound s h .part-sound .rows-sound)
 
   -- the operator of an account stands in the account's first byte
@@ -112,7 +112,7 @@ module _ (s : List ℕ) (h : isBook s ≡ true) where
   pub numbered-sound : (n : ℕ) → 1 ≤ n → n ≤ length (bookIn s .part .rows) → SoundRow (bookIn s .setup) (nth (bookIn s .part .rows) n noRow)
   numbered-sound n low high = each-nth noRow n (book-is-sound s h .part-sound .rows-sound) low high
 
-  pub numbered-tabled : (n : ℕ) → 1 ≤ n → n ≤ length (bookIn s .part .rows) → Tabled (nth (bookIn s .part .rows) n noRow)
+  pub numbered-tabled : (n : ℕ) → 1 ≤ n → n ≤ length (bookIn s .part .rows) → Tabled mostHours (nth (bookIn s .part .rows) n noRow)
   numbered-tabled n low high = sound-tabled (bookIn s .setup) (book-is-sound s h .setup-sound) _ (numbered-sound n low high)
 
   module _ (n : ℕ) (e : n ≡ length (bookIn s .part .rows)) where
@@ -126,9 +126,9 @@ module _ (s : List ℕ) (h : isBook s ≡ true) where
         ∙ part-rows mostHours (countsIn s .operators) s presentAt n (e ∙ sym (row-count-stands s h)) few
 
     -- what the sums ask of them
-    pub rows-summable : (presentAt + rowsAt + rowWidth * n ≤ length s) × (n ≤ mostRows) × Each Tabled (rowsFrom s (presentAt + rowsAt) n)
+    pub rows-summable : (presentAt + rowsAt + rowWidth * n ≤ length s) × (n ≤ mostRows) × Each (Tabled mostHours) (rowsFrom s (presentAt + rowsAt) n)
     rows-summable = (omega (arith, book-length s h, few), few, rw rows-in at rows-tabled)
 
     -- and the table that is made of them is that of the book's rows
-    pub table-of-a-book : (table : List ℕ) → SumsOf (rowsFrom s (presentAt + rowsAt) n) table → SumsOf (bookIn s .part .rows) table
+    pub table-of-a-book : (table : List ℕ) → SumsOf mostHours (rowsFrom s (presentAt + rowsAt) n) table → SumsOf mostHours (bookIn s .part .rows) table
     table-of-a-book table t = rw rows-in t

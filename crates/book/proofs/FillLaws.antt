@@ -1,5 +1,5 @@
 -- The table row by row: what it holds and the sums of the rows that are left make the sums of all rows.
-use Prim.Native.Nat.{ℕ, zero, suc, _+_, _^_, _≤_, _<_}
+use Prim.Native.Nat.{ℕ, zero, suc, _+_, _*_, _^_, _≤_, _<_}
 use mathlib.Core.Path.{_≡_, refl, ap, _∙_}
 use mathlib.Core.List.{List, [], _∷_}
 use native.Mathlib.Omega.{arith}
@@ -8,7 +8,7 @@ use Rattle.rules.specs.declared.Row.{Row}
 use Rattle.rules.specs.Basics.{total, Each, cons}
 use Rattle.rules.specs.Limits.{mostEnergy}
 use Rattle.rules.specs.Registration.{moved, waiting}
-use Rattle.book.specs.Sums.{cellOf, InTable, SumsOf, Tabled, noSums, Room, Taken, laneSum}
+use Rattle.book.specs.Sums.{slots, cellOf, InTable, SumsOf, Tabled, NoSums, Room, Taken, laneSum}
 
 -- ---- the first and the others
 
@@ -37,8 +37,8 @@ lane-none (suc (suc (suc lane))) a h = refl
 -- ---- a table that is being filled
 
 -- the table holds the sums of all rows but those that are left, and no cell is above the bound
-pub record Filling (all left : List Row) (table : List ℕ) (most : ℕ) : Type 0 where
-  pub sums : (lane a h : ℕ) → lane ≤ 3 → InTable a h → getD table (cellOf lane a h) 0 + laneSum lane left a h ≡ laneSum lane all a h
+pub record Filling (top : ℕ) (all left : List Row) (table : List ℕ) (most : ℕ) : Type 0 where
+  pub sums : (lane a h : ℕ) → lane ≤ 3 → InTable top a h → getD table (cellOf top lane a h) 0 + laneSum lane left a h ≡ laneSum lane all a h
   pub bounded : (k : ℕ) → getD table k 0 ≤ most
 
 pub zero-at : (n k : ℕ) → _≡_ {A = ℕ} (getD (replicate n 0) k 0) 0
@@ -46,22 +46,20 @@ zero-at zero k = refl
 zero-at (suc n) zero = refl
 zero-at (suc n) (suc k) = zero-at n k
 
-pub length-none : (table : List ℕ) → table ≡ noSums → length table ≡ 3200
-unfolding noSums
-length-none table e = rw e (length-replicate {A = ℕ} 3200 0)
+pub none-of-zeros : (top n : ℕ) → slots * top ≤ n → NoSums top (replicate n 0)
+none-of-zeros top n h = record { whole = omega (arith, length-replicate {A = ℕ} n 0); zeros = zero-at n }
 
-pub filling-none : (table : List ℕ) (rows : List Row) (most : ℕ) → table ≡ noSums → Filling rows rows table most
-unfolding noSums
-filling-none table rows most e =
-    rw e (record { sums = λ lane a h l i. omega (arith, zero-at 3200 (cellOf lane a h)); bounded = λ k. omega (arith, zero-at 3200 k) })
+pub filling-none : {top : ℕ} (table : List ℕ) (rows : List Row) (most : ℕ) → NoSums top table → Filling top rows rows table most
+filling-none {top} table rows most e =
+    record { sums = λ lane a h l i. omega (arith, e .zeros (cellOf top lane a h)); bounded = λ k. omega (arith, e .zeros k) }
 
 -- there is room for a row more
-pub filling-room : (all left : List Row) (table : List ℕ) (most : ℕ) (r : Row) → Filling all left table most → Tabled r
+pub filling-room : {top : ℕ} (all left : List Row) (table : List ℕ) (most : ℕ) (r : Row) → Filling top all left table most → Tabled top r
     → most + mostEnergy < 2 ^ 32 → Room table 0 (r .quantity .0)
 filling-room all left table most r f t h k l = omega (arith, f .bounded k, t .quantity-high)
 
-pub filling-next : (all left rest : List Row) (before after : List ℕ) (most more : ℕ) (r : Row) → left ≡ r ∷ rest → more ≡ most + mostEnergy
-    → Tabled r → Taken before after r → Filling all left before most → Filling all rest after more
+pub filling-next : {top : ℕ} (all left rest : List Row) (before after : List ℕ) (most more : ℕ) (r : Row) → left ≡ r ∷ rest → more ≡ most + mostEnergy
+    → Tabled top r → Taken top before after r → Filling top all left before most → Filling top all rest after more
 filling-next all left rest before after most more r e d t w f =
     record {
       sums = λ lane a h l i.
@@ -73,8 +71,8 @@ filling-next all left rest before after most more r e d t w f =
     }
 
 -- a table whose cells are these lane sums
-pub sums-by : {rows : List Row} (table : List ℕ) → length table ≡ 3200 → ((k : ℕ) → getD table k 0 < 2 ^ 32)
-    → ((lane : ℕ) → lane ≤ 3 → (a h : ℕ) → InTable a h → getD table (cellOf lane a h) 0 ≡ laneSum lane rows a h) → SumsOf rows table
+pub sums-by : {top : ℕ} {rows : List Row} (table : List ℕ) → slots * top ≤ length table → ((k : ℕ) → getD table k 0 < 2 ^ 32)
+    → ((lane : ℕ) → lane ≤ 3 → (a h : ℕ) → InTable top a h → getD table (cellOf top lane a h) 0 ≡ laneSum lane rows a h) → SumsOf top rows table
 unfolding laneSum
 sums-by table n small at =
     record {
@@ -86,8 +84,8 @@ sums-by table n small at =
       purchases-at = at 3 (omega arith);
     }
 
-pub filling-done : (all left : List Row) (table : List ℕ) (most : ℕ) → left ≡ [] → length table ≡ 3200 → most < 2 ^ 32
-    → Filling all left table most → SumsOf all table
+pub filling-done : {top : ℕ} (all left : List Row) (table : List ℕ) (most : ℕ) → left ≡ [] → slots * top ≤ length table → most < 2 ^ 32
+    → Filling top all left table most → SumsOf top all table
 filling-done all left table most e n h f =
     sums-by table n (λ k. omega (arith, f .bounded k)) (λ lane l a h i.
     omega (arith, f .sums lane a h l i, ap (λ (rows : List Row). laneSum lane rows a h) e ∙ lane-none lane a h))

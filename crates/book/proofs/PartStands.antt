@@ -26,7 +26,7 @@ use Rattle.rules.proofs.SetupEntries.{counts-of-setup}
 use Rattle.book.specs.Layout.{rowWidth, partWidths, partSize, rowsAt, netsAt, netAt}
 use Rattle.book.specs.Image.{rowIn, partOf, partIn}
 use Rattle.book.specs.Valid.{rowOk, noTwins, marginsKept, guaranteesKept, partTests, partOk}
-use Rattle.book.specs.Sums.{rowsFrom, guaranteesFrom, InTable, SumsOf, Tabled, netStored, netsStored}
+use Rattle.book.specs.Sums.{placeOf, rowsFrom, guaranteesFrom, InTable, SumsOf, Tabled, netStored, netsStored}
 use Rattle.book.specs.Plain.{netsHeld, partAt, partPlain}
 use Rattle.book.specs.Stands.{SetupKnown, rowCount, rowsOf, partWith, guaranteesStand, rowsStand, sumsStand, partStands}
 use Rattle.book.proofs.Soundness.{SoundRow, sound-row, all-holds, holds-all, every-upTo, upTo-every}
@@ -42,17 +42,17 @@ every-alike p q n f =
     (λ t. upTo-every q n (λ k l h. sym (f k l h) ∙ every-upTo p n t k l h))
     (λ t. upTo-every p n (λ k l h. f k l h ∙ every-upTo q n t k l h))
 
-pub nets-by-sums : (s : List ℕ) (at : ℕ) (rows : List Row) (table : List ℕ) → SumsOf rows table → netsStored s (at + netsAt) table ≡ netsHeld mostHours rows s at
+pub nets-by-sums : (s : List ℕ) (at : ℕ) (rows : List Row) (table : List ℕ) → SumsOf mostHours rows table → netsStored mostHours s (at + netsAt) table ≡ netsHeld mostHours rows s at
 unfolding netsStored netsHeld netStored
 nets-by-sums s at rows table sums =
     every-alike _ _ mostAccounts (λ a al ah. every-alike _ _ mostHours (λ h hl hh.
-    let i : InTable a h = record { account-low = al; account-high = ah; hour-low = hl; hour-high = hh } in
-    let place : at + 4738 + 100 * (a - 1) + 4 * (h - 1) ≡ at + netAt mostHours a h = omega arith in
+    let i : InTable mostHours a h = record { account-low = al; account-high = ah; hour-low = hl; hour-high = hh } in
+    let place : at + netsAt + 4 * placeOf mostHours a h ≡ at + netAt mostHours a h = omega arith in
     rw (place, sums .bought-at a h i, sums .sold-at a h i)))
 
 -- what follows of the rows, each test by the table
-pub sums-stand : (s : List ℕ) (at : ℕ) (rows : List Row) (table : List ℕ) {nets margins covers : Bool} → SumsOf rows table
-    → nets ≡ netsStored s (at + netsAt) table → margins ≡ marginsKept (setupOf s) rows → covers ≡ guaranteesKept (setupOf s) (partWith s at rows)
+pub sums-stand : (s : List ℕ) (at : ℕ) (rows : List Row) (table : List ℕ) {nets margins covers : Bool} → SumsOf mostHours rows table
+    → nets ≡ netsStored mostHours s (at + netsAt) table → margins ≡ marginsKept (setupOf s) rows → covers ≡ guaranteesKept (setupOf s) (partWith s at rows)
     → ((nets && margins) && covers) ≡ sumsStand s at rows
 unfolding sumsStand
 sums-stand s at rows table sums n m g = rw (n, m, g, nets-by-sums s at rows table sums)
@@ -163,7 +163,7 @@ module _ (s : List ℕ) (at n operators : ℕ) (k : SetupKnown s) (en : n ≡ ro
 
 -- ---- what the sums ask of rows and guarantees that stand
 
-pub rows-tabled : (s : List ℕ) (at n : ℕ) → SetupKnown s → rowsStand s at n ≡ true → Each Tabled (rowsFrom s (at + rowsAt) n)
+pub rows-tabled : (s : List ℕ) (at n : ℕ) → SetupKnown s → rowsStand s at n ≡ true → Each (Tabled mostHours) (rowsFrom s (at + rowsAt) n)
 unfolding rowsStand
 rows-tabled s at n k t =
     let c = counts-of-setup s in

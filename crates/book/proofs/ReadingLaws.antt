@@ -99,7 +99,7 @@ module _ (s : List ℕ) (h : isBook s ≡ true) (a t : ℕ) (i : (1 ≤ a) × (a
         (book-is-sound s h .part-sound .keeps-margins a t (i .0) (i .1) (j .0) (j .1))
 
     -- it has its place
-    pub net-has-place : InTable a t
+    pub net-has-place : InTable mostHours a t
     net-has-place =
         let k = book-is-sound s h .setup-sound in
         record {
@@ -159,7 +159,7 @@ module _ (s : List ℕ) (h : isBook s ≡ true) (n : Counts) (e : n ≡ countsIn
       hour-inside : (1 ≤ t) × (t ≤ u .hours)
       hour-inside = within-true 1 t (u .hours) .0 (not-false _ (by-hour y))
 
-      pub net-in-table : InTable a t
+      pub net-in-table : InTable mostHours a t
       net-in-table = net-has-place s h a t account-inside hour-inside
 
       pub net-stands : (v : ℕ) → v ≡ numberAt s (presentAt + netAt mostHours a t) 4

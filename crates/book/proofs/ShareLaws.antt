@@ -1,5 +1,5 @@
 -- What one row adds to each lane: by cases on the lane, with the row's status and side known.
-use Prim.Native.Nat.{ℕ, zero, suc, _+_, _-_, _≤_, _<_}
+use Prim.Native.Nat.{ℕ, zero, suc, _+_, _-_, _*_, _≤_, _<_}
 use mathlib.Core.Path.{_≡_, sym, ap, _∙_}
 use mathlib.Core.List.{List, [], _∷_}
 use mathlib.Core.Bool.{and-true, and-false}
@@ -14,19 +14,19 @@ use Rattle.rules.specs.Basics.{if_then_else_, total}
 use Rattle.rules.specs.Limits.{mostAccounts}
 use Rattle.rules.specs.Registration.{moved, waiting, buyer, seller}
 use Rattle.rules.proofs.Balanced.{picked-in}
-use Rattle.book.specs.Sums.{cellOf, InTable, Tabled, Raised, Taken, laneSum}
-use Rattle.book.proofs.SumLaws.{lt-or-ge, hits, raised-cell, raised-most}
+use Rattle.book.specs.Sums.{slotOf, cellOf, InTable, Tabled, Raised, Taken, laneSum}
+use Rattle.book.proofs.SumLaws.{lt-or-ge, stride, hits, raised-cell, raised-most}
 
 -- ---- the parties of a row are accounts of the table
 
-pub buyer-in : (r : Row) → Tabled r → (1 ≤ buyer r) × (buyer r ≤ mostAccounts)
+pub buyer-in : {top : ℕ} (r : Row) → Tabled top r → (1 ≤ buyer r) × (buyer r ≤ mostAccounts)
 buyer-in r t = picked-in mostAccounts (eqb (r .side) 1) _ _ (t .counterparty-low, t .counterparty-high) (t .proposer-low, t .proposer-high)
 
-pub seller-in : (r : Row) → Tabled r → (1 ≤ seller r) × (seller r ≤ mostAccounts)
+pub seller-in : {top : ℕ} (r : Row) → Tabled top r → (1 ≤ seller r) × (seller r ≤ mostAccounts)
 seller-in r t = picked-in mostAccounts (eqb (r .side) 1) _ _ (t .proposer-low, t .proposer-high) (t .counterparty-low, t .counterparty-high)
 
 -- the row's first hour is one that a book can have, of any account
-pub first-hour : (r : Row) (a : ℕ) → Tabled r → (1 ≤ a) × (a ≤ mostAccounts) → InTable a (r .first)
+pub first-hour : {top : ℕ} (r : Row) (a : ℕ) → Tabled top r → (1 ≤ a) × (a ≤ mostAccounts) → InTable top a (r .first)
 first-hour r a t i = record { account-low = i .0; account-high = i .1; hour-low = t .first-low; hour-high = omega (arith, t) }
 
 -- ---- what one row adds
@@ -78,21 +78,21 @@ module _ (r : Row) (a h : ℕ) where
 -- ---- one row more
 
 -- a row's hours raised in a lane, as each account hour sees it
-raised-share : (before after : List ℕ) (r : Row) (lane account : ℕ) → Tabled r → 1 ≤ account → account ≤ mostAccounts
-    → Raised before after (cellOf lane account (r .first)) (r .last - r .first + 1) (r .quantity .0)
-    → (other a h : ℕ) → InTable a h → getD after (cellOf other a h) 0 ≡ getD before (cellOf other a h) 0 + share r a h lane account other
+raised-share : {top : ℕ} (before after : List ℕ) (r : Row) (lane account : ℕ) → Tabled top r → 1 ≤ account → account ≤ mostAccounts
+    → Raised before after (cellOf top lane account (r .first)) (r .last - r .first + 1) (r .quantity .0)
+    → (other a h : ℕ) → InTable top a h → getD after (cellOf top other a h) 0 ≡ getD before (cellOf top other a h) 0 + share r a h lane account other
 unfolding share
-raised-share before after r lane account t l u w other a h i =
-    let low : InTable account (r .first) = first-hour r account t (l, u) in
-    let high : InTable account (r .last) = record { account-low = l; account-high = u; hour-low = omega (arith, t); hour-high = t .last-high } in
-    raised-cell lane account (r .first) (r .last) other a h low high (t .in-order) i before after (r .quantity .0) w
+raised-share {top} before after r lane account t l u w other a h i =
+    let low : InTable top account (r .first) = first-hour r account t (l, u) in
+    let high : InTable top account (r .last) = record { account-low = l; account-high = u; hour-low = omega (arith, t); hour-high = t .last-high } in
+    raised-cell top lane account (r .first) (r .last) other a h low high (t .in-order) i before after (r .quantity .0) w
 
 -- a confirmed row
-pub taken-confirmed : (before middle after : List ℕ) (r : Row) → Tabled r → r .status ≡ 2
-    → Raised before middle (cellOf 0 (buyer r) (r .first)) (r .last - r .first + 1) (r .quantity .0)
-    → Raised middle after (cellOf 1 (seller r) (r .first)) (r .last - r .first + 1) (r .quantity .0)
-    → Taken before after r
-taken-confirmed before middle after r t e b s =
+pub taken-confirmed : {top : ℕ} (before middle after : List ℕ) (r : Row) → Tabled top r → r .status ≡ 2
+    → Raised before middle (cellOf top 0 (buyer r) (r .first)) (r .last - r .first + 1) (r .quantity .0)
+    → Raised middle after (cellOf top 1 (seller r) (r .first)) (r .last - r .first + 1) (r .quantity .0)
+    → Taken top before after r
+taken-confirmed {top} before middle after r t e b s =
     let buys = buyer-in r t in
     let sells = seller-in r t in
     record {
@@ -103,40 +103,41 @@ taken-confirmed before middle after r t e b s =
           omega arith;
       grown = λ k.
           ⊎-elim
-          (λ (w : k < 800). omega (arith, s .below k (omega arith), raised-most before middle _ _ _ b k))
-          (λ (w : 800 ≤ k). omega (arith, b .above k (omega (arith, t)), raised-most middle after _ _ _ s k))
-          (lt-or-ge k 800);
+          (λ (w : k < mostAccounts * top). omega (arith, s .below k (omega arith), raised-most before middle _ _ _ b k))
+          (λ (w : mostAccounts * top ≤ k).
+          omega (arith, b .above k (omega (arith, t, stride top (slotOf 0 (buyer r)) mostAccounts (omega arith))), raised-most middle after _ _ _ s k))
+          (lt-or-ge k (mostAccounts * top));
     }
 
 -- a pending row, of which the share falls to that lane for its proposer
-taken-pending : (before after : List ℕ) (r : Row) (lane : ℕ) → Tabled r
+taken-pending : {top : ℕ} (before after : List ℕ) (r : Row) (lane : ℕ) → Tabled top r
     → ((a h other : ℕ) → other ≤ 3 → laneSum other (r ∷ []) a h ≡ share r a h lane (r .proposer) other)
-    → Raised before after (cellOf lane (r .proposer) (r .first)) (r .last - r .first + 1) (r .quantity .0)
-    → Taken before after r
-taken-pending before after r lane t e w =
+    → Raised before after (cellOf top lane (r .proposer) (r .first)) (r .last - r .first + 1) (r .quantity .0)
+    → Taken top before after r
+taken-pending {top} before after r lane t e w =
     record {
       share = λ other a h l i.
           raised-share before after r lane (r .proposer) t (t .proposer-low) (t .proposer-high) w other a h i
-          ∙ ap (λ (x : ℕ). getD before (cellOf other a h) 0 + x) (sym (e a h other l));
+          ∙ ap (λ (x : ℕ). getD before (cellOf top other a h) 0 + x) (sym (e a h other l));
       grown = raised-most before after _ _ _ w;
     }
 
-pub taken-sale : (before after : List ℕ) (r : Row) → Tabled r → r .status ≡ 1 → r .side ≡ 1
-    → Raised before after (cellOf 2 (r .proposer) (r .first)) (r .last - r .first + 1) (r .quantity .0)
-    → Taken before after r
+pub taken-sale : {top : ℕ} (before after : List ℕ) (r : Row) → Tabled top r → r .status ≡ 1 → r .side ≡ 1
+    → Raised before after (cellOf top 2 (r .proposer) (r .first)) (r .last - r .first + 1) (r .quantity .0)
+    → Taken top before after r
 taken-sale before after r t e d w = taken-pending before after r 2 t (λ a h. share-sale r a h e d) w
 
-pub taken-purchase : (before after : List ℕ) (r : Row) → Tabled r → r .status ≡ 1 → r .side ≡ 2
-    → Raised before after (cellOf 3 (r .proposer) (r .first)) (r .last - r .first + 1) (r .quantity .0)
-    → Taken before after r
+pub taken-purchase : {top : ℕ} (before after : List ℕ) (r : Row) → Tabled top r → r .status ≡ 1 → r .side ≡ 2
+    → Raised before after (cellOf top 3 (r .proposer) (r .first)) (r .last - r .first + 1) (r .quantity .0)
+    → Taken top before after r
 taken-purchase before after r t e d w = taken-pending before after r 3 t (λ a h. share-purchase r a h e d) w
 
 -- a row that adds nothing
-taken-nothing : (before : List ℕ) (r : Row) → ((a h lane : ℕ) → laneSum lane (r ∷ []) a h ≡ 0) → Taken before before r
+taken-nothing : {top : ℕ} (before : List ℕ) (r : Row) → ((a h lane : ℕ) → laneSum lane (r ∷ []) a h ≡ 0) → Taken top before before r
 taken-nothing before r e = record { share = λ lane a h l i. rw (e a h lane) (sym (add-zero _)); grown = λ k. omega arith }
 
-pub taken-sideless : (before : List ℕ) (r : Row) → r .status ≡ 1 → (r .side ≡ 1 → ⊥) → (r .side ≡ 2 → ⊥) → Taken before before r
+pub taken-sideless : {top : ℕ} (before : List ℕ) (r : Row) → r .status ≡ 1 → (r .side ≡ 1 → ⊥) → (r .side ≡ 2 → ⊥) → Taken top before before r
 taken-sideless before r e f g = taken-nothing before r (λ a h. share-sideless r a h e f g)
 
-pub taken-idle : (before : List ℕ) (r : Row) → (r .status ≡ 1 → ⊥) → (r .status ≡ 2 → ⊥) → Taken before before r
+pub taken-idle : {top : ℕ} (before : List ℕ) (r : Row) → (r .status ≡ 1 → ⊥) → (r .status ≡ 2 → ⊥) → Taken top before before r
 taken-idle before r f g = taken-nothing before r (λ a h. share-idle r a h f g)

@@ -1,18 +1,19 @@
 -- Cells of the table of sums: a range raised by a row's quantity gives the row's share to each account hour, and to no other.
-use Prim.Native.Nat.{ℕ, _+_, _-_, _≤_, _<_}
+use Prim.Native.Nat.{ℕ, suc, _+_, _-_, _*_, _≤_, _<_}
 use mathlib.Core.Path.{_≡_, refl, sym, ap, _∙_}
 use mathlib.Core.List.{List}
 use mathlib.Core.Bool.{Bool, true, false, _&&_}
 use mathlib.Core.Logic.{_⊎_, inl, inr, ⊎-elim}
-use native.Mathlib.Nat.{eq-zero-or-pos}
+use native.Mathlib.Nat.{eq-zero-or-pos, mul-le-mul-left}
 use native.Mathlib.Omega.{arith}
 use lib.ListN.{length, getD, set}
 use lib.Seq.{getD-set-other, getD-set-same}
 use lib.Dec.{eqb}
 use borrow.Author.Tests.{eqb-true, eq-eqb}
 use Rattle.rules.specs.Basics.{if_then_else_, within}
+use Rattle.rules.specs.Limits.{mostAccounts}
 use Rattle.rules.proofs.Tests.{and-both, within-true}
-use Rattle.book.specs.Sums.{cellOf, InTable, Room, Raised}
+use Rattle.book.specs.Sums.{slots, slotOf, placeOf, cellOf, InTable, Room, Raised}
 
 -- of two numbers, the first is below the second or it is not
 pub lt-or-ge : (a b : ℕ) → (a < b) ⊎ (b ≤ a)
@@ -56,6 +57,23 @@ raised-most before after at n q r k =
 pub room-past : (before after : List ℕ) (at n q from : ℕ) → Raised before after at n q → at + n ≤ from → Room before 0 q → Room after from q
 room-past before after at n q from r h room k l = omega (arith, r .above k (omega arith), room k (omega arith))
 
+-- ---- slots of `top` cells each: all that is known of a product of two variables
+
+-- a later slot begins past the end of an earlier one
+pub stride : (top s t : ℕ) → s < t → top * s + top ≤ top * t
+stride top s t h = omega (arith, mul-le-mul-left {m = suc s} {n = t} top h)
+
+-- a cell that is not past another is in a slot that is not past the other's
+pub slot-order : (top s t i j : ℕ) → j < top → top * s + i ≤ top * t + j → s ≤ t
+slot-order top s t i j h l = ⊎-elim (λ (w : t < s). absurd (omega (arith, stride top t s w))) (λ w. w) (lt-or-ge t s)
+
+-- all of an account's places are below those that all accounts have, and its cells below those of the table
+pub place-fits : (top a h : ℕ) → InTable top a h → placeOf top a h + top < mostAccounts * top + h
+place-fits top a h i = omega (arith, i, stride top (a - 1) mostAccounts (omega arith))
+
+pub cell-fits : (top lane a h : ℕ) → lane ≤ 3 → InTable top a h → cellOf top lane a h + top < slots * top + h
+cell-fits top lane a h l i = omega (arith, i, stride top (slotOf lane a) slots (omega arith))
+
 -- ---- the cells of a row's hours
 
 same-by : (a b : ℕ) → (a < b → ⊥) → (b < a → ⊥) → a ≡ b
@@ -69,40 +87,44 @@ same-by a b f g =
 abbrev pub hits : ℕ → ℕ → ℕ → ℕ → ℕ → ℕ → ℕ → Bool
 hits lane account first last other a h = eqb lane other && within first h last && eqb account a
 
-module _ (lane account first last other a h : ℕ) (low : InTable account first) (high : InTable account last) (order : first ≤ last) (i : InTable a h) where
-  hits-inside : cellOf lane account first ≤ cellOf other a h → cellOf other a h < cellOf lane account first + (last - first + 1)
+module _ (top lane account first last other a h : ℕ) (low : InTable top account first) (high : InTable top account last) (order : first ≤ last) (i : InTable top a h) where
+  hits-inside : cellOf top lane account first ≤ cellOf top other a h → cellOf top other a h < cellOf top lane account first + (last - first + 1)
       → hits lane account first last other a h ≡ true
   hits-inside l u =
+      let x = slot-order top (slotOf lane account) (slotOf other a) (first - 1) (h - 1) (omega arith) l in
+      let y = slot-order top (slotOf other a) (slotOf lane account) (h - 1) (last - 1) (omega arith) (omega arith) in
       let e1 : lane ≡ other = same-by lane other (λ w. omega arith) (λ w. omega arith) in
       let e2 : account ≡ a = same-by account a (λ w. omega arith) (λ w. omega arith) in
+      let e : top * slotOf lane account ≡ top * slotOf other a = rw (e1, e2) in
       and-both _ _ .1 (and-both _ _ .1 (eq-eqb lane other e1, within-true first h last .1 (omega arith, omega arith)), eq-eqb account a e2)
 
   inside-hits : hits lane account first last other a h ≡ true
-      → (cellOf lane account first ≤ cellOf other a h) × (cellOf other a h < cellOf lane account first + (last - first + 1))
+      → (cellOf top lane account first ≤ cellOf top other a h) × (cellOf top other a h < cellOf top lane account first + (last - first + 1))
   inside-hits e =
       let p = and-both (eqb lane other && within first h last) (eqb account a) .0 e in
       let q = and-both (eqb lane other) (within first h last) .0 (p .0) in
       let e1 : lane ≡ other = eqb-true lane other (q .0) in
       let e2 : account ≡ a = eqb-true account a (p .1) in
       let w = within-true first h last .0 (q .1) in
+      let e : top * slotOf lane account ≡ top * slotOf other a = rw (e1, e2) in
       (omega arith, omega arith)
 
   -- what raising them does to the cell of any account hour
-  pub raised-cell : (before after : List ℕ) (q : ℕ) → Raised before after (cellOf lane account first) (last - first + 1) q
-      → getD after (cellOf other a h) 0 ≡ getD before (cellOf other a h) 0 + (if hits lane account first last other a h then q else 0)
+  pub raised-cell : (before after : List ℕ) (q : ℕ) → Raised before after (cellOf top lane account first) (last - first + 1) q
+      → getD after (cellOf top other a h) 0 ≡ getD before (cellOf top other a h) 0 + (if hits lane account first last other a h then q else 0)
   raised-cell before after q r = go (hits lane account first last other a h) refl
     where
-      go : (t : Bool) → hits lane account first last other a h ≡ t → getD after (cellOf other a h) 0 ≡ getD before (cellOf other a h) 0 + (if t then q else 0)
-      go true e = let w = inside-hits e in r .inside (cellOf other a h) (w .0) (w .1)
+      go : (t : Bool) → hits lane account first last other a h ≡ t → getD after (cellOf top other a h) 0 ≡ getD before (cellOf top other a h) 0 + (if t then q else 0)
+      go true e = let w = inside-hits e in r .inside (cellOf top other a h) (w .0) (w .1)
       go false e =
           ⊎-elim
-          (λ (w : cellOf other a h < cellOf lane account first). r .below (cellOf other a h) w ∙ omega arith)
-          (λ (w : cellOf lane account first ≤ cellOf other a h).
+          (λ (w : cellOf top other a h < cellOf top lane account first). r .below (cellOf top other a h) w ∙ omega arith)
+          (λ (w : cellOf top lane account first ≤ cellOf top other a h).
           ⊎-elim
-          (λ (v : cellOf other a h < cellOf lane account first + (last - first + 1)).
+          (λ (v : cellOf top other a h < cellOf top lane account first + (last - first + 1)).
           let z : true ≡ false = sym (hits-inside w v) ∙ e in
           let y : _≡_ {A = ℕ} 0 1 = cc in
           absurd (omega arith))
-          (λ (v : cellOf lane account first + (last - first + 1) ≤ cellOf other a h). r .above (cellOf other a h) v ∙ omega arith)
-          (lt-or-ge (cellOf other a h) (cellOf lane account first + (last - first + 1))))
-          (lt-or-ge (cellOf other a h) (cellOf lane account first))
+          (λ (v : cellOf top lane account first + (last - first + 1) ≤ cellOf top other a h). r .above (cellOf top other a h) v ∙ omega arith)
+          (lt-or-ge (cellOf top other a h) (cellOf top lane account first + (last - first + 1))))
+          (lt-or-ge (cellOf top other a h) (cellOf top lane account first))

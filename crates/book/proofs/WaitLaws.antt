@@ -12,7 +12,7 @@ use borrow.Author.Tests.{eq-eqb, ne-eqb}
 use Rattle.wire.specs.Numbers.{numberAt}
 use Rattle.rules.specs.declared.Row.{Row}
 use Rattle.rules.specs.Basics.{if_then_else_, total, any, nth}
-use Rattle.rules.specs.Limits.{mostEnergy}
+use Rattle.rules.specs.Limits.{mostEnergy, mostHours}
 use Rattle.rules.specs.Books.{noRow}
 use Rattle.rules.specs.Registration.{pending, covers, alike, waiting}
 use Rattle.book.specs.Layout.{presentAt, rowAt}
@@ -44,23 +44,23 @@ waits-none r a side h e = go (pending r) (covers h r) (eqb (r .proposer) a) (eqb
     go false c o s z = refl
 
 -- a side has its cells as an account has in the first lane
-side-cell : (side h : ℕ) → cellOf 0 side h ≡ waitCell side h
+side-cell : (side h : ℕ) → cellOf mostHours 0 side h ≡ waitCell side h
 side-cell side h = omega arith
 
 -- the row's hours raised on its side
-pub taken-own : (before after : List ℕ) (r : Row) (a : ℕ) → Tabled r → 1 ≤ r .side → r .side ≤ 2 → r .status ≡ 1 → r .proposer ≡ a
+pub taken-own : (before after : List ℕ) (r : Row) (a : ℕ) → Tabled mostHours r → 1 ≤ r .side → r .side ≤ 2 → r .status ≡ 1 → r .proposer ≡ a
     → Raised before after (waitCell (r .side) (r .first)) (r .last - r .first + 1) (r .quantity .0) → WaitTaken before after r a
 taken-own before after r a t sl sh e d w =
     record {
       share = λ side h i.
-          let low : InTable (r .side) (r .first) =
+          let low : InTable mostHours (r .side) (r .first) =
           record { account-low = sl; account-high = omega arith; hour-low = t .first-low; hour-high = omega (arith, t .in-order, t .last-high) } in
-          let high : InTable (r .side) (r .last) =
+          let high : InTable mostHours (r .side) (r .last) =
           record { account-low = sl; account-high = omega arith; hour-low = omega (arith, t .first-low, t .in-order); hour-high = t .last-high } in
-          let cell : InTable side h =
+          let cell : InTable mostHours side h =
           record { account-low = i .side-low; account-high = omega (arith, i .side-high); hour-low = i .hour-low; hour-high = i .hour-high } in
-          let range : Raised before after (cellOf 0 (r .side) (r .first)) (r .last - r .first + 1) (r .quantity .0) = rw (side-cell (r .side) (r .first)) w in
-          (rw (side-cell side h) at (raised-cell 0 (r .side) (r .first) (r .last) 0 side h low high (t .in-order) cell before after (r .quantity .0) range))
+          let range : Raised before after (cellOf mostHours 0 (r .side) (r .first)) (r .last - r .first + 1) (r .quantity .0) = rw (side-cell (r .side) (r .first)) w in
+          (rw (side-cell side h) at (raised-cell mostHours 0 (r .side) (r .first) (r .last) 0 side h low high (t .in-order) cell before after (r .quantity .0) range))
           ∙ ap (λ (x : ℕ). getD before (waitCell side h) 0 + x) (sym (waits-own r a side h e d));
       grown = λ k. omega (arith, raised-most before after _ _ _ w k, t .quantity-high);
     }

@@ -4,6 +4,10 @@ use Prim.Native.Nat.{ℕ, _+_, _-_, _*_}
 use mathlib.Core.List.{List, [], _∷_}
 use Rattle.rules.specs.Limits.{mostOperators, mostAccounts, mostRows, mostSchedules}
 
+-- periods of a day of any kind: four quarters to an hour
+abbrev pub mostPeriods : ℕ
+mostPeriods = 100
+
 -- ---- widths
 
 -- room for a set-up, today's and later ones

@@ -9,6 +9,7 @@ ghost use Rattle.rules.specs.Limits.{mostAccounts, mostHours, mostPrice};
 ghost use Rattle.rules.specs.Opening.{countsIn, setupOf, estimatesIn};
 ghost use Rattle.rules.specs.Registration.{exposed, exposure};
 ghost use Rattle.book.specs.Sums.{SumsOf, SetupTabled, accountExposure, exposureShare};
+use crate::layout::PERIODS;
 use crate::sums::account_hour;
 use rules::AccountHour;
 use rules::Net;
@@ -43,14 +44,14 @@ fn hour_exposure(x: AccountHour, price: CentsPerMwh) -> MilliCents
 // The exposure of an account over all hours, at the estimated prices.
 fn account_exposure(book: &[u8], table: &[u32], number: u8) -> MilliCents
     requires { ⌜ SetupTabled (now book) × Each (λ p. p .0 ≤ mostPrice) (estimatesIn (now book)) × (length (now table) ≡ 3200) × (1 ≤ number) × (number ≤ mostAccounts) ⌝ }
-    ensures meaning { λ r. ⌜ ((rows : List Row) → SumsOf rows (now (table .entry)) → r .0 ≡ accountExposure (setupOf (now (book .entry))) rows number) ⌝ }
+    ensures meaning { λ r. ⌜ ((rows : List Row) → SumsOf mostHours rows (now (table .entry)) → r .0 ≡ accountExposure (setupOf (now (book .entry))) rows number) ⌝ }
     ensures bounded { λ r. ⌜ r .0 ≤ mostHours * (mostPrice * 2 ^ 33) ⌝ }
 {
     let n = counts(book);
     let mut sum = MilliCents(0);
     let mut hour: u8 = 1;
     while hour <= n.hours {
-        let x = account_hour(table, number, hour);
+        let x = account_hour(table, PERIODS, number, hour);
         let price = estimate(book, hour);
         sum = sum.plus(hour_exposure(x, price));
         hour = hour + 1;
@@ -61,7 +62,7 @@ fn account_exposure(book: &[u8], table: &[u32], number: u8) -> MilliCents
 // What an account adds to the operator's exposure: nothing where it is another's.
 fn exposure_share(book: &[u8], table: &[u32], number: u8, operator: u8) -> MilliCents
     requires { ⌜ SetupTabled (now book) × Each (λ p. p .0 ≤ mostPrice) (estimatesIn (now book)) × (length (now table) ≡ 3200) × (1 ≤ number) × (number ≤ countsIn (now book) .accounts) ⌝ }
-    ensures meaning { λ r. ⌜ ((rows : List Row) → SumsOf rows (now (table .entry)) → r .0 ≡ exposureShare (setupOf (now (book .entry))) rows operator number) ⌝ }
+    ensures meaning { λ r. ⌜ ((rows : List Row) → SumsOf mostHours rows (now (table .entry)) → r .0 ≡ exposureShare (setupOf (now (book .entry))) rows operator number) ⌝ }
     ensures bounded { λ r. ⌜ r .0 ≤ mostHours * (mostPrice * 2 ^ 33) ⌝ }
 {
     let owner = account(book, number);
@@ -74,7 +75,7 @@ fn exposure_share(book: &[u8], table: &[u32], number: u8, operator: u8) -> Milli
 // The exposure of an operator.
 pub fn exposure_of(book: &[u8], table: &[u32], operator: u8) -> MilliCents
     requires { ⌜ SetupTabled (now book) × Each (λ p. p .0 ≤ mostPrice) (estimatesIn (now book)) × (length (now table) ≡ 3200) ⌝ }
-    ensures { λ r. ⌜ ((rows : List Row) → SumsOf rows (now (table .entry)) → r .0 ≡ exposure (setupOf (now (book .entry))) rows operator) ⌝ }
+    ensures { λ r. ⌜ ((rows : List Row) → SumsOf mostHours rows (now (table .entry)) → r .0 ≡ exposure (setupOf (now (book .entry))) rows operator) ⌝ }
 {
     let n = counts(book);
     let mut sum = MilliCents(0);

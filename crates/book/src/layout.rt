@@ -41,15 +41,21 @@ pub const STATUS_IN: usize = 17;
 // Rows that may have numbers in a day.
 pub const MOST_ROWS: usize = rules::limits::MOST_ROWS as usize;
 
+// The most periods of a day of hours, and of a day of any kind.
+pub const PERIODS: usize = 25;
+
 // Bytes of an account's net positions: 4 for each of 25 periods.
 pub const ACCOUNT_NETS: usize = 100;
+
+// Bytes of a net position.
+pub const NET_WIDTH: usize = 4;
 
 // What the 4 bytes of a net position count to, and the greatest number in them.
 pub const TURN: u64 = 4_294_967_296;
 
 pub const MOST_IN_4: u32 = 4_294_967_295;
 
-// The table of sums: cells of a lane, and of the whole.
-pub const LANE_SIZE: usize = 800;
+// The table of sums: the accounts of a lane, each with a cell for each period, and the cells of the whole.
+pub const LANE_SLOTS: usize = 32;
 
 pub const TABLE_SIZE: usize = 3_200;

@@ -10,6 +10,7 @@ ghost use Rattle.rules.specs.Opening.{setupOf};
 ghost use Rattle.rules.specs.Registration.{accountHour, keepsMargins};
 ghost use Rattle.book.specs.Valid.{marginsKept};
 ghost use Rattle.book.specs.Sums.{SumsOf, SetupTabled};
+use crate::layout::PERIODS;
 use crate::sums::account_hour;
 use rules::Account;
 use rules::AccountHour;
@@ -32,11 +33,11 @@ pub fn keeps_margins(account: Account, x: AccountHour) -> bool
 // Whether the account of that number keeps its margins in each hour.
 fn hours_kept(table: &[u32], account: Account, number: u8, hours: u8) -> bool
     requires { ⌜ (length (now table) ≡ 3200) × (1 ≤ number) × (number ≤ mostAccounts) × (hours ≤ mostHours) ⌝ }
-    ensures { λ r. ⌜ ((rows : List Row) → SumsOf rows (now (table .entry)) → r ≡ every (λ h. keepsMargins account (accountHour rows number h)) (upTo hours)) ⌝ }
+    ensures { λ r. ⌜ ((rows : List Row) → SumsOf mostHours rows (now (table .entry)) → r ≡ every (λ h. keepsMargins account (accountHour rows number h)) (upTo hours)) ⌝ }
 {
     let mut hour: u8 = 1;
     while hour <= hours {
-        let x = account_hour(table, number, hour);
+        let x = account_hour(table, PERIODS, number, hour);
         if keeps_margins(account, x) {
             hour = hour + 1;
         } else {
@@ -49,7 +50,7 @@ fn hours_kept(table: &[u32], account: Account, number: u8, hours: u8) -> bool
 // Whether every account keeps its margins in every hour.
 pub fn margins_kept(book: &[u8], table: &[u32]) -> bool
     requires { ⌜ SetupTabled (now book) × (length (now table) ≡ 3200) ⌝ }
-    ensures { λ r. ⌜ ((rows : List Row) → SumsOf rows (now (table .entry)) → r ≡ marginsKept (setupOf (now (book .entry))) rows) ⌝ }
+    ensures { λ r. ⌜ ((rows : List Row) → SumsOf mostHours rows (now (table .entry)) → r ≡ marginsKept (setupOf (now (book .entry))) rows) ⌝ }
 {
     let n = counts(book);
     let mut number: u8 = 1;

@@ -5,7 +5,7 @@ ghost use Prim.Native.Nat.{_+_, _*_, _≤_};
 ghost use lib.ListN.{length};
 ghost use Rattle.rules.specs.declared.Row.{Row};
 ghost use Rattle.rules.specs.Basics.{Each};
-ghost use Rattle.rules.specs.Limits.{mostGuarantee};
+ghost use Rattle.rules.specs.Limits.{mostGuarantee, mostHours};
 ghost use Rattle.rules.specs.Opening.{countsIn, setupOf};
 ghost use Rattle.rules.specs.Registration.{covered};
 ghost use Rattle.book.specs.Valid.{guaranteesKept};
@@ -17,6 +17,7 @@ use crate::exposure::exposure_of;
 use crate::layout::GUARANTEE_WIDTH;
 use crate::layout::MOST_ROWS;
 use crate::layout::NETS_IN;
+use crate::layout::PERIODS;
 use crate::layout::ROW_COUNT_IN;
 use crate::layout::ROW_WIDTH;
 use crate::layout::ROWS_IN;
@@ -56,7 +57,7 @@ fn rows_stand(book: &[u8], at: usize, n: usize) -> bool
 // The exposure of the operator is at most what is available of its guarantee in the part at `at`.
 fn operator_covered(book: &[u8], at: usize, table: &[u32], number: u8) -> bool
     requires { ⌜ SetupKnown (now book) × (at + 128 ≤ length (now book)) × Each (λ g. g .0 ≤ mostGuarantee) (guaranteesFrom (now book) at (countsIn (now book) .operators)) × (length (now table) ≡ 3200) × (1 ≤ number) × (number ≤ countsIn (now book) .operators) ⌝ }
-    ensures { λ r. ⌜ ((rows : List Row) → SumsOf rows (now (table .entry)) → r ≡ covered (setupOf (now (book .entry))) (partWith (now (book .entry)) at rows) number) ⌝ }
+    ensures { λ r. ⌜ ((rows : List Row) → SumsOf mostHours rows (now (table .entry)) → r ≡ covered (setupOf (now (book .entry))) (partWith (now (book .entry)) at rows) number) ⌝ }
 {
     let exposed = exposure_of(book, table, number);
     let owner = operator(book, number);
@@ -67,7 +68,7 @@ fn operator_covered(book: &[u8], at: usize, table: &[u32], number: u8) -> bool
 // Whether that is so of every operator.
 fn guarantees_cover(book: &[u8], at: usize, table: &[u32]) -> bool
     requires { ⌜ SetupKnown (now book) × (at + 128 ≤ length (now book)) × Each (λ g. g .0 ≤ mostGuarantee) (guaranteesFrom (now book) at (countsIn (now book) .operators)) × (length (now table) ≡ 3200) ⌝ }
-    ensures { λ r. ⌜ ((rows : List Row) → SumsOf rows (now (table .entry)) → r ≡ guaranteesKept (setupOf (now (book .entry))) (partWith (now (book .entry)) at rows)) ⌝ }
+    ensures { λ r. ⌜ ((rows : List Row) → SumsOf mostHours rows (now (table .entry)) → r ≡ guaranteesKept (setupOf (now (book .entry))) (partWith (now (book .entry)) at rows)) ⌝ }
 {
     let n = counts(book);
     let mut number: u8 = 1;
@@ -83,11 +84,11 @@ fn guarantees_cover(book: &[u8], at: usize, table: &[u32]) -> bool
 
 // What follows of the sums of the rows: the nets are theirs, margins are kept, and every exposure is covered.
 fn sums_stand(book: &[u8], at: usize, n: usize) -> bool
-    requires { ⌜ SetupKnown (now book) × (at + 7938 ≤ length (now book)) × (n ≤ 256) × Each Tabled (rowsFrom (now book) (at + 130) n) × Each (λ g. g .0 ≤ mostGuarantee) (guaranteesFrom (now book) at (countsIn (now book) .operators)) ⌝ }
+    requires { ⌜ SetupKnown (now book) × (at + 7938 ≤ length (now book)) × (n ≤ 256) × Each (Tabled mostHours) (rowsFrom (now book) (at + 130) n) × Each (λ g. g .0 ≤ mostGuarantee) (guaranteesFrom (now book) at (countsIn (now book) .operators)) ⌝ }
     ensures { λ r. ⌜ r ≡ sumsStand (now (book .entry)) at (rowsFrom (now (book .entry)) (at + 130) n) ⌝ }
 {
     let table = sums_of(book, at + ROWS_IN, n);
-    nets_kept(book, at + NETS_IN, &table)
+    nets_kept(book, at + NETS_IN, &table, PERIODS)
         & margins_kept(book, &table)
         & guarantees_cover(book, at, &table)
 }

@@ -48,7 +48,7 @@ fn position_of(stored: u32) -> Position
 
 // The 4 bytes that hold the net of an account in an hour.
 pub fn stored_net(book: &[u8], account: u8, hour: u8) -> u32
-    requires { ⌜ (isBook (now book) ≡ true) × InTable account hour ⌝ }
+    requires { ⌜ (isBook (now book) ≡ true) × InTable mostHours account hour ⌝ }
     ensures { λ r. ⌜ r ≡ numberAt (now (book .entry)) (presentAt + netAt mostHours account hour) 4 ⌝ }
 {
     get_u32(book, net_place(account, hour))

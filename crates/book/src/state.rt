@@ -90,7 +90,7 @@ pub fn row_place(number: u16) -> usize
 
 // Where the net position of an account in an hour begins.
 pub fn net_place(account: u8, hour: u8) -> usize
-    requires { ⌜ InTable account hour ⌝ }
+    requires { ⌜ InTable mostHours account hour ⌝ }
     ensures { λ r. ⌜ r ≡ presentAt + netAt mostHours account hour ⌝ }
 {
     let cell = ACCOUNT_NETS * (account as usize - 1) + 4 * (hour as usize - 1);

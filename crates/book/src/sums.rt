@@ -7,9 +7,11 @@ ghost use Rattle.rules.specs.declared.Row.{Row};
 ghost use Rattle.rules.specs.Basics.{every, upTo, Each};
 ghost use Rattle.rules.specs.Limits.{mostAccounts, mostHours};
 ghost use Rattle.rules.specs.Registration.{accountHour};
-ghost use Rattle.book.specs.Sums.{rowsFrom, cellOf, InTable, SumsOf, Tabled, noSums, Room, Raised, Taken, netStored, netsStored};
-use crate::layout::ACCOUNT_NETS;
-use crate::layout::LANE_SIZE;
+ghost use Rattle.book.specs.Layout.{mostPeriods, accountWidth};
+ghost use Rattle.book.specs.Sums.{rowsFrom, slots, placeOf, cellOf, Inside, InTable, SumsOf, Tabled, NoSums, Room, Raised, Taken, netStored, netsStored};
+use crate::layout::LANE_SLOTS;
+use crate::layout::NET_WIDTH;
+use crate::layout::PERIODS;
 use crate::layout::ROW_WIDTH;
 use crate::layout::TABLE_SIZE;
 use crate::layout::TURN;
@@ -19,7 +21,6 @@ use rules::Net;
 use rules::Row;
 use rules::hours::pick;
 use rules::limits::MOST_ACCOUNTS;
-use rules::limits::MOST_HOURS;
 use units::Kwh;
 use wire::numbers::get_u32;
 
@@ -31,9 +32,6 @@ const SOLD: usize = 1;
 const SALES: usize = 2;
 
 const PURCHASES: usize = 3;
-
-// The cells of an account in a lane.
-const ACCOUNT_CELLS: usize = 25;
 
 // Adds `q` to the `n` cells from `at` on.
 pub fn add_range(table: &mut [u32], at: usize, n: usize, q: u32)
@@ -49,76 +47,84 @@ pub fn add_range(table: &mut [u32], at: usize, n: usize, q: u32)
 }
 
 // The cell of an account hour in a lane.
-fn cell(lane: usize, account: u8, hour: u8) -> usize
-    requires { ⌜ (lane ≤ 3) × InTable account hour ⌝ }
-    ensures { λ r. ⌜ r ≡ cellOf lane account hour ⌝ }
+fn cell(top: usize, lane: usize, account: u8, hour: u8) -> usize
+    requires { ⌜ (lane ≤ 3) × InTable top account hour × (top ≤ mostPeriods) ⌝ }
+    ensures { λ r. ⌜ Inside top slots (cellOf top lane account hour) hour r ⌝ }
 {
-    LANE_SIZE * lane + (ACCOUNT_CELLS * (account as usize - 1) + (hour as usize - 1))
+    top * (LANE_SLOTS * lane + (account as usize - 1)) + (hour as usize - 1)
+}
+
+// The place of an account hour among those of all accounts.
+fn place(top: usize, account: u8, hour: u8) -> usize
+    requires { ⌜ InTable top account hour × (top ≤ mostPeriods) ⌝ }
+    ensures { λ r. ⌜ Inside top mostAccounts (placeOf top account hour) hour r ⌝ }
+{
+    top * (account as usize - 1) + (hour as usize - 1)
 }
 
 // Adds the row's quantity to the account's cells of its hours in a lane.
-fn add_hours(table: &mut [u32], lane: usize, account: u8, r: Row)
-    requires { ⌜ (length (now table) ≡ 3200) × (lane ≤ 3) × (1 ≤ account) × (account ≤ mostAccounts) × Tabled r × Room (now table) (800 * lane) (r .quantity .0) ⌝ }
-    ensures { λ _. ⌜ Raised (now (table .entry)) (now (table .exit)) (cellOf lane account (r .first)) (r .last - r .first + 1) (r .quantity .0) ⌝ }
+fn add_hours(table: &mut [u32], top: usize, lane: usize, account: u8, r: Row)
+    requires { ⌜ (slots * top ≤ length (now table)) × (lane ≤ 3) × (1 ≤ account) × (account ≤ mostAccounts) × Tabled top r × Room (now table) (top * (mostAccounts * lane)) (r .quantity .0) × (top ≤ mostPeriods) ⌝ }
+    ensures { λ _. ⌜ Raised (now (table .entry)) (now (table .exit)) (cellOf top lane account (r .first)) (r .last - r .first + 1) (r .quantity .0) ⌝ }
 {
-    let at = cell(lane, account, r.first);
+    let at = cell(top, lane, account, r.first);
     let n = (r.last - r.first) as usize + 1;
     let quantity = r.quantity;
     add_range(table, at, n, quantity.0);
 }
 
 // A confirmed row: its buyer bought, and its seller sold.
-fn take_confirmed(table: &mut [u32], r: Row)
-    requires { ⌜ (length (now table) ≡ 3200) × Tabled r × Room (now table) 0 (r .quantity .0) × (r .status ≡ 2) ⌝ }
-    ensures { λ _. ⌜ Taken (now (table .entry)) (now (table .exit)) r ⌝ }
+fn take_confirmed(table: &mut [u32], top: usize, r: Row)
+    requires { ⌜ (slots * top ≤ length (now table)) × Tabled top r × Room (now table) 0 (r .quantity .0) × (r .status ≡ 2) × (top ≤ mostPeriods) ⌝ }
+    ensures { λ _. ⌜ Taken top (now (table .entry)) (now (table .exit)) r ⌝ }
 {
     let buyer = pick(r.side == 1, r.counterparty, r.proposer);
     let seller = pick(r.side == 1, r.proposer, r.counterparty);
-    add_hours(table, BOUGHT, buyer, r);
-    add_hours(table, SOLD, seller, r);
+    add_hours(table, top, BOUGHT, buyer, r);
+    add_hours(table, top, SOLD, seller, r);
 }
 
 // A pending row: it waits on its proposer, as a sale or as a purchase.
-fn take_pending(table: &mut [u32], r: Row)
-    requires { ⌜ (length (now table) ≡ 3200) × Tabled r × Room (now table) 0 (r .quantity .0) × (r .status ≡ 1) ⌝ }
-    ensures { λ _. ⌜ Taken (now (table .entry)) (now (table .exit)) r ⌝ }
+fn take_pending(table: &mut [u32], top: usize, r: Row)
+    requires { ⌜ (slots * top ≤ length (now table)) × Tabled top r × Room (now table) 0 (r .quantity .0) × (r .status ≡ 1) × (top ≤ mostPeriods) ⌝ }
+    ensures { λ _. ⌜ Taken top (now (table .entry)) (now (table .exit)) r ⌝ }
 {
     if r.side == 1 {
-        add_hours(table, SALES, r.proposer, r);
+        add_hours(table, top, SALES, r.proposer, r);
     } else if r.side == 2 {
-        add_hours(table, PURCHASES, r.proposer, r);
+        add_hours(table, top, PURCHASES, r.proposer, r);
     }
 }
 
 // One row more. A withdrawn one counts for nobody.
-fn take_row(table: &mut [u32], r: Row)
-    requires { ⌜ (length (now table) ≡ 3200) × Tabled r × Room (now table) 0 (r .quantity .0) ⌝ }
-    ensures { λ _. ⌜ Taken (now (table .entry)) (now (table .exit)) r ⌝ }
+fn take_row(table: &mut [u32], top: usize, r: Row)
+    requires { ⌜ (slots * top ≤ length (now table)) × Tabled top r × Room (now table) 0 (r .quantity .0) × (top ≤ mostPeriods) ⌝ }
+    ensures { λ _. ⌜ Taken top (now (table .entry)) (now (table .exit)) r ⌝ }
 {
     if r.status == 2 {
-        take_confirmed(table, r);
+        take_confirmed(table, top, r);
     } else if r.status == 1 {
-        take_pending(table, r);
+        take_pending(table, top, r);
     }
 }
 
 // A table of no rows.
 fn zeros() -> [u32; TABLE_SIZE]
-    ensures { λ r. ⌜ r ≡ noSums ⌝ }
+    ensures { λ r. ⌜ NoSums mostHours r ⌝ }
 {
     [0u32; TABLE_SIZE]
 }
 
 // Takes the `n` rows that stand from `at` on into a table of no rows.
-fn fill(table: &mut [u32], s: &[u8], at: usize, n: usize)
-    requires { ⌜ (now table ≡ noSums) × (at + 18 * n ≤ length (now s)) × (n ≤ 256) × Each Tabled (rowsFrom (now s) at n) ⌝ }
-    ensures { λ _. ⌜ SumsOf (rowsFrom (now (s .entry)) at n) (now (table .exit)) ⌝ }
+fn fill(table: &mut [u32], top: usize, s: &[u8], at: usize, n: usize)
+    requires { ⌜ NoSums top (now table) × (at + 18 * n ≤ length (now s)) × (n ≤ 256) × Each (Tabled top) (rowsFrom (now s) at n) × (top ≤ mostPeriods) ⌝ }
+    ensures { λ _. ⌜ SumsOf top (rowsFrom (now (s .entry)) at n) (now (table .exit)) ⌝ }
 {
     let mut place = at;
     let mut left = n;
     while 0 < left {
         let r = row_at(s, place);
-        take_row(table, r);
+        take_row(table, top, r);
         place = place + ROW_WIDTH;
         left = left - 1;
     }
@@ -126,59 +132,59 @@ fn fill(table: &mut [u32], s: &[u8], at: usize, n: usize)
 
 // The sums of all account hours by the `n` rows that stand from `at` on.
 pub fn sums_of(s: &[u8], at: usize, n: usize) -> [u32; TABLE_SIZE]
-    requires { ⌜ (at + 18 * n ≤ length (now s)) × (n ≤ 256) × Each Tabled (rowsFrom (now s) at n) ⌝ }
-    ensures { λ r. ⌜ SumsOf (rowsFrom (now (s .entry)) at n) r ⌝ }
+    requires { ⌜ (at + 18 * n ≤ length (now s)) × (n ≤ 256) × Each (Tabled mostHours) (rowsFrom (now s) at n) ⌝ }
+    ensures { λ r. ⌜ SumsOf mostHours (rowsFrom (now (s .entry)) at n) r ⌝ }
 {
     let mut table = zeros();
-    fill(&mut table, s, at, n);
+    fill(&mut table, PERIODS, s, at, n);
     table
 }
 
 // The sum that a lane holds for an account hour.
-fn sum_at(table: &[u32], lane: usize, account: u8, hour: u8) -> u32
-    requires { ⌜ (length (now table) ≡ 3200) × (lane ≤ 3) × InTable account hour ⌝ }
-    ensures { λ r. ⌜ r ≡ getD (now (table .entry)) (cellOf lane account hour) 0 ⌝ }
+fn sum_at(table: &[u32], top: usize, lane: usize, account: u8, hour: u8) -> u32
+    requires { ⌜ (slots * top ≤ length (now table)) × (lane ≤ 3) × InTable top account hour × (top ≤ mostPeriods) ⌝ }
+    ensures { λ r. ⌜ r ≡ getD (now (table .entry)) (cellOf top lane account hour) 0 ⌝ }
 {
-    let k = cell(lane, account, hour);
+    let k = cell(top, lane, account, hour);
     table[k]
 }
 
 // What an account holds in an hour.
-pub fn account_hour(table: &[u32], account: u8, hour: u8) -> AccountHour
-    requires { ⌜ (length (now table) ≡ 3200) × InTable account hour ⌝ }
-    ensures { λ r. ⌜ ((rows : List Row) → SumsOf rows (now (table .entry)) → r ≡ accountHour rows account hour) ⌝ }
+pub fn account_hour(table: &[u32], top: usize, account: u8, hour: u8) -> AccountHour
+    requires { ⌜ (slots * top ≤ length (now table)) × InTable top account hour × (top ≤ mostPeriods) ⌝ }
+    ensures { λ r. ⌜ ((rows : List Row) → SumsOf top rows (now (table .entry)) → r ≡ accountHour rows account hour) ⌝ }
 {
     let net = Net {
-        bought: Kwh(sum_at(table, BOUGHT, account, hour)),
-        sold: Kwh(sum_at(table, SOLD, account, hour)),
+        bought: Kwh(sum_at(table, top, BOUGHT, account, hour)),
+        sold: Kwh(sum_at(table, top, SOLD, account, hour)),
     };
     AccountHour {
         net,
-        sales: Kwh(sum_at(table, SALES, account, hour)),
-        purchases: Kwh(sum_at(table, PURCHASES, account, hour)),
+        sales: Kwh(sum_at(table, top, SALES, account, hour)),
+        purchases: Kwh(sum_at(table, top, PURCHASES, account, hour)),
     }
 }
 
 // Whether the 4 bytes of a net position are what the account bought in the hour less what it sold.
-fn net_kept(s: &[u8], nets: usize, table: &[u32], account: u8, hour: u8) -> bool
-    requires { ⌜ (nets + 3200 ≤ length (now s)) × (length (now table) ≡ 3200) × InTable account hour ⌝ }
-    ensures { λ r. ⌜ r ≡ netStored (now (s .entry)) nets (now (table .entry)) account hour ⌝ }
+fn net_kept(s: &[u8], nets: usize, table: &[u32], top: usize, account: u8, hour: u8) -> bool
+    requires { ⌜ (nets + mostAccounts * accountWidth top ≤ length (now s)) × (slots * top ≤ length (now table)) × InTable top account hour × (top ≤ mostPeriods) ⌝ }
+    ensures { λ r. ⌜ r ≡ netStored top (now (s .entry)) nets (now (table .entry)) account hour ⌝ }
 {
-    let at = nets + ACCOUNT_NETS * (account as usize - 1) + 4 * (hour as usize - 1);
+    let at = nets + NET_WIDTH * place(top, account, hour);
     let stored = get_u32(s, at) as u64;
-    let bought = sum_at(table, BOUGHT, account, hour) as u64;
-    let sold = sum_at(table, SOLD, account, hour) as u64;
+    let bought = sum_at(table, top, BOUGHT, account, hour) as u64;
+    let sold = sum_at(table, top, SOLD, account, hour) as u64;
     (stored + sold) % TURN == bought % TURN
 }
 
 // The same for all hours of an account.
-fn account_nets_kept(s: &[u8], nets: usize, table: &[u32], account: u8) -> bool
-    requires { ⌜ (nets + 3200 ≤ length (now s)) × (length (now table) ≡ 3200) × (1 ≤ account) × (account ≤ mostAccounts) ⌝ }
-    ensures { λ r. ⌜ r ≡ every (netStored (now (s .entry)) nets (now (table .entry)) account) (upTo mostHours) ⌝ }
+fn account_nets_kept(s: &[u8], nets: usize, table: &[u32], top: usize, account: u8) -> bool
+    requires { ⌜ (nets + mostAccounts * accountWidth top ≤ length (now s)) × (slots * top ≤ length (now table)) × (1 ≤ account) × (account ≤ mostAccounts) × (top ≤ mostPeriods) ⌝ }
+    ensures { λ r. ⌜ r ≡ every (netStored top (now (s .entry)) nets (now (table .entry)) account) (upTo top) ⌝ }
 {
     let mut hour: u8 = 1;
-    while hour <= MOST_HOURS {
-        if net_kept(s, nets, table, account, hour) {
+    while hour as usize <= top {
+        if net_kept(s, nets, table, top, account, hour) {
             hour = hour + 1;
         } else {
             return false;
@@ -188,13 +194,13 @@ fn account_nets_kept(s: &[u8], nets: usize, table: &[u32], account: u8) -> bool
 }
 
 // Whether all net positions that stand from `nets` on are those of the table.
-pub fn nets_kept(s: &[u8], nets: usize, table: &[u32]) -> bool
-    requires { ⌜ (nets + 3200 ≤ length (now s)) × (length (now table) ≡ 3200) ⌝ }
-    ensures { λ r. ⌜ r ≡ netsStored (now (s .entry)) nets (now (table .entry)) ⌝ }
+pub fn nets_kept(s: &[u8], nets: usize, table: &[u32], top: usize) -> bool
+    requires { ⌜ (nets + mostAccounts * accountWidth top ≤ length (now s)) × (slots * top ≤ length (now table)) × (top ≤ mostPeriods) ⌝ }
+    ensures { λ r. ⌜ r ≡ netsStored top (now (s .entry)) nets (now (table .entry)) ⌝ }
 {
     let mut account: u8 = 1;
     while account <= MOST_ACCOUNTS {
-        if account_nets_kept(s, nets, table, account) {
+        if account_nets_kept(s, nets, table, top, account) {
             account = account + 1;
         } else {
             return false;

@@ -4,7 +4,7 @@ ghost use mathlib.Core.Bool.{true};
 ghost use Prim.Native.Nat.{_+_, _-_, _≤_};
 ghost use lib.ListN.{length, getD};
 ghost use Rattle.rules.specs.Basics.{any, nth};
-ghost use Rattle.rules.specs.Limits.{mostEnergy};
+ghost use Rattle.rules.specs.Limits.{mostEnergy, mostHours};
 ghost use Rattle.rules.specs.Books.{noRow, accountCount};
 ghost use Rattle.rules.specs.Registration.{alike};
 ghost use Rattle.book.specs.Valid.{isBook, bookIn};
@@ -37,7 +37,7 @@ fn wait_cell(side: u8, hour: u8) -> usize
 
 // Adds the row's quantity to the cells of its hours, on its side.
 fn take_waiting(table: &mut [u32], r: Row)
-    requires { ⌜ (length (now table) ≡ 50) × Tabled r × (1 ≤ r .side) × (r .side ≤ 2) × Room (now table) 0 (r .quantity .0) ⌝ }
+    requires { ⌜ (length (now table) ≡ 50) × Tabled mostHours r × (1 ≤ r .side) × (r .side ≤ 2) × Room (now table) 0 (r .quantity .0) ⌝ }
     ensures { λ _. ⌜ Raised (now (table .entry)) (now (table .exit)) (waitCell (r .side) (r .first)) (r .last - r .first + 1) (r .quantity .0) ⌝ }
 {
     let at = wait_cell(r.side, r.first);

@@ -226,7 +226,7 @@ module _ (s : List ℕ) (q : Request) (number : ℕ) (h : isBook s ≡ true) (fr
     accepted-sound : SoundRow (bookIn s .setup) r
     accepted-sound = row-sound s h number r (accepted-number .0) (accepted-number .1) row
 
-    pub accepted-tabled : Tabled r
+    pub accepted-tabled : Tabled mostHours r
     accepted-tabled = sound-tabled (bookIn s .setup) (book-is-sound s h .setup-sound) r accepted-sound
 
     pub accepted-energy : 1 ≤ r .quantity .0

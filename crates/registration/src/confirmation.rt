@@ -136,7 +136,7 @@ fn confirm_fault(book: &[u8], request: Request, number: u16) -> Checked
 
 // The row of that number becomes a trade: its status, then the net positions of its seller and its buyer.
 fn put_trade(book: &mut [u8], number: u16, row: Row)
-    requires { ⌜ (length (now book) ≡ bookSize) × (1 ≤ number) × (number ≤ mostRows) × Tabled row × (1 ≤ row .quantity .0) ⌝ }
+    requires { ⌜ (length (now book) ≡ bookSize) × (1 ≤ number) × (number ≤ mostRows) × Tabled mostHours row × (1 ≤ row .quantity .0) ⌝ }
     ensures { λ _. ⌜ now (book .exit) ≡ sweep (raised 4 (row .quantity .0)) 4 (sweep (raised 4 (256 ^ 4 - row .quantity .0)) 4 (splice (now (book .entry)) (presentAt + rowAt (number - 1) + statusIn) (le 1 2)) (presentAt + netAt mostHours (seller row) (row .first)) (row .last - row .first + 1)) (presentAt + netAt mostHours (buyer row) (row .first)) (row .last - row .first + 1) ⌝ }
 {
     put_u8(book, row_place(number) + STATUS_IN, CONFIRMED);

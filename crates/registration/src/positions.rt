@@ -42,7 +42,7 @@ fn raise_nets(s: &mut [u8], from: usize, n: usize, more: u32)
 
 // Moves the nets of both parties of a trade in each of its hours: the seller's fall by its quantity, then the buyer's rise by it.
 pub fn move_nets(book: &mut [u8], r: Row)
-    requires { ⌜ (length (now book) ≡ bookSize) × Tabled r × (1 ≤ r .quantity .0) ⌝ }
+    requires { ⌜ (length (now book) ≡ bookSize) × Tabled mostHours r × (1 ≤ r .quantity .0) ⌝ }
     ensures { λ _. ⌜ now (book .exit) ≡ sweep (raised 4 (r .quantity .0)) 4 (sweep (raised 4 (256 ^ 4 - r .quantity .0)) 4 (now (book .entry)) (presentAt + netAt mostHours (seller r) (r .first)) (r .last - r .first + 1)) (presentAt + netAt mostHours (buyer r) (r .first)) (r .last - r .first + 1) ⌝ }
 {
     let quantity = r.quantity;

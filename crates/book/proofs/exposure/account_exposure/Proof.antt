@@ -7,7 +7,7 @@ use borrow.Author.Needs.{needs}
 use Rattle.rules.specs.declared.Counts.{Counts}
 use Rattle.rules.specs.declared.Row.{Row}
 use Rattle.rules.specs.Basics.{total, counting}
-use Rattle.rules.specs.Limits.{mostPrice}
+use Rattle.rules.specs.Limits.{mostPrice, mostHours}
 use Rattle.rules.specs.Opening.{countsIn}
 use Rattle.book.specs.Sums.{SumsOf}
 use Rattle.book.proofs.CountingLaws.{sum-begins, sum-next, sum-done}
@@ -21,7 +21,7 @@ Inv-loop book table number n sum₀ hour₀ sum hour =
     × (1 ≤ hour)
     × (hour ≤ countsIn book .hours + 1)
     × (sum .0 ≤ (hour - 1) * (mostPrice * 2 ^ 33))
-    × ((rows : List Row) → SumsOf rows table
+    × ((rows : List Row) → SumsOf mostHours rows table
     → sum .0 + total (hourExposure book rows number) (counting (countsIn book .hours + 1 - hour) hour)
     ≡ total (hourExposure book rows number) (counting (countsIn book .hours) 1))
 

@@ -21,7 +21,7 @@ Inv-loop book table operator n sum₀ number₀ sum number =
     × (1 ≤ number)
     × (number ≤ countsIn book .accounts + 1)
     × (sum .0 ≤ (number - 1) * (mostHours * (mostPrice * 2 ^ 33)))
-    × ((rows : List Row) → SumsOf rows table
+    × ((rows : List Row) → SumsOf mostHours rows table
     → sum .0 + total (exposureShare (setupOf book) rows operator) (counting (countsIn book .accounts + 1 - number) number)
     ≡ total (exposureShare (setupOf book) rows operator) (counting (countsIn book .accounts) 1))
 

@@ -7,6 +7,7 @@ use borrow.Author.Needs.{needs}
 use Rattle.rules.specs.declared.Row.{Row}
 use Rattle.rules.specs.Basics.{every, counting}
 use Rattle.rules.specs.Registration.{accountHour, keepsMargins}
+use Rattle.rules.specs.Limits.{mostHours}
 use Rattle.book.specs.Sums.{SumsOf}
 use Rattle.book.proofs.CountingLaws.{every-done, every-next, every-fails, every-same}
 use Rattle.book.proofs.margins.hours_kept.Statement.{statement}
@@ -16,7 +17,7 @@ abbrev Inv-loop : tie.InvT-loop
 Inv-loop table account number hours hour₀ hour =
     (1 ≤ hour)
     × (hour ≤ hours + 1)
-    × ((rows : List Row) → SumsOf rows table
+    × ((rows : List Row) → SumsOf mostHours rows table
     → every (λ h. keepsMargins account (accountHour rows number h)) (counting hours 1)
     ≡ every (λ h. keepsMargins account (accountHour rows number h)) (counting (hours + 1 - hour) hour))
 

@@ -9,6 +9,7 @@ use Rattle.rules.specs.declared.Row.{Row}
 use Rattle.rules.specs.Basics.{every, nth, counting}
 use Rattle.rules.specs.Books.{noAccount}
 use Rattle.rules.specs.Opening.{countsIn, setupOf, accountsIn}
+use Rattle.rules.specs.Limits.{mostHours}
 use Rattle.book.specs.Valid.{marginsKept}
 use Rattle.book.specs.Sums.{SumsOf}
 use Rattle.book.proofs.CountingLaws.{every-done, every-next, every-fails, every-same}
@@ -22,7 +23,7 @@ Inv-loop book table n number₀ number =
     × (n .hours ≡ countsIn book .hours)
     × (1 ≤ number)
     × (number ≤ countsIn book .accounts + 1)
-    × ((rows : List Row) → SumsOf rows table
+    × ((rows : List Row) → SumsOf mostHours rows table
     → marginsKept (setupOf book) rows
     ≡ every (λ a. accountKeeps rows (nth (accountsIn book) a noAccount) (countsIn book .hours) a) (counting (countsIn book .accounts + 1 - number) number))
 

@@ -9,6 +9,7 @@ use Rattle.rules.specs.declared.Row.{Row}
 use Rattle.rules.specs.Basics.{every, counting}
 use Rattle.rules.specs.Opening.{countsIn, setupOf}
 use Rattle.rules.specs.Registration.{covered}
+use Rattle.rules.specs.Limits.{mostHours}
 use Rattle.rules.proofs.SetupEntries.{counts-of-setup}
 use Rattle.book.specs.Valid.{guaranteesKept}
 use Rattle.book.specs.Sums.{SumsOf}
@@ -22,7 +23,7 @@ Inv-loop book at table n number₀ number =
     (n .operators ≡ countsIn book .operators)
     × (1 ≤ number)
     × (number ≤ countsIn book .operators + 1)
-    × ((rows : List Row) → SumsOf rows table
+    × ((rows : List Row) → SumsOf mostHours rows table
     → guaranteesKept (setupOf book) (partWith book at rows)
     ≡ every (covered (setupOf book) (partWith book at rows)) (counting (countsIn book .operators + 1 - number) number))
 

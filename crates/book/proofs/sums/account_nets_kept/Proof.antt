@@ -1,25 +1,28 @@
 -- Every hour passes the test where every hour that is left does.
-use Prim.Native.Nat.{_-_, _≤_}
-use mathlib.Core.Path.{_≡_, _∙_, sym, refl}
+use Prim.Native.Nat.{_+_, _-_, _≤_}
+use mathlib.Core.Path.{_≡_, _∙_, sym}
 use native.Mathlib.Omega.{arith}
 use borrow.Author.Needs.{needs}
 use Rattle.rules.specs.Basics.{every, counting}
 use Rattle.book.specs.Sums.{netStored}
-use Rattle.book.proofs.CountingLaws.{every-done, every-next, every-fails}
+use Rattle.book.proofs.CountingLaws.{every-done, every-next, every-fails, every-same}
 use Rattle.book.proofs.sums.account_nets_kept.Statement.{statement}
 use Rattle.book.proofs.sums.account_nets_kept.Tie as tie
 
 abbrev Inv-loop : tie.InvT-loop
-Inv-loop s nets table account hour₀ hour =
+Inv-loop s nets table top account hour₀ hour =
     (1 ≤ hour)
-    × (hour ≤ 26)
-    × (every (netStored s nets table account) (counting 25 1) ≡ every (netStored s nets table account) (counting (26 - hour) hour))
+    × (hour ≤ top + 1)
+    × (every (netStored top s nets table account) (counting top 1) ≡ every (netStored top s nets table account) (counting (top + 1 - hour) hour))
 
 abbrev μ-loop : tie.MeasureT-loop
-μ-loop s nets table account hour₀ hour = 26 - hour
+μ-loop s nets table top account hour₀ hour = top + 1 - hour
 
 loop-holds : tie.Need-loop-holds Inv-loop μ-loop
-loop-holds c = (search needs, search needs, refl)
+loop-holds c = (search needs, search needs, every-same _ _ _ _ (omega arith))
+
+cast-loop : tie.Need-cast-loop Inv-loop μ-loop
+cast-loop c = search needs
 
 net-kept-requires : tie.Need-net-kept-requires Inv-loop μ-loop
 net-kept-requires c κs = search needs
@@ -50,6 +53,7 @@ account-nets-kept-spec =
     Inv-loop
     μ-loop
     loop-holds
+    cast-loop
     net-kept-requires
     add-hour
     loop-less

@@ -24,7 +24,7 @@ same-length : tie.Need-same-length
 same-length c = search needs
 
 returns : tie.Need-returns
-returns c = rw (← c .before .before .before .before .before .before .cell .ensures) (c .before .before .add-range .ensures)
+returns c = rw (← c .before .before .before .before .before .before .cell .ensures .is) (c .before .before .add-range .ensures)
 
 pub add-hours-spec : {M : Type 1} → statement M
 add-hours-spec =

@@ -8,25 +8,25 @@ use Rattle.rules.specs.Basics.{Each}
 use Rattle.rules.specs.Limits.{mostEnergy}
 use Rattle.book.specs.Sums.{rowsFrom, Tabled}
 use Rattle.book.proofs.RowsFrom.{rows-done, rows-step}
-use Rattle.book.proofs.FillLaws.{each-first, each-rest, Filling, length-none, filling-none, filling-room, filling-next, filling-done}
+use Rattle.book.proofs.FillLaws.{each-first, each-rest, Filling, filling-none, filling-room, filling-next, filling-done}
 use Rattle.book.proofs.sums.fill.Statement.{statement}
 use Rattle.book.proofs.sums.fill.Tie as tie
 
 abbrev Inv-loop : tie.InvT-loop
-Inv-loop table₀ s at n place₀ left₀ table place left =
+Inv-loop table₀ top s at n place₀ left₀ table place left =
     (place + 18 * left ≤ length s)
     × (left ≤ 256)
-    × (length table ≡ 3200)
-    × Each Tabled (rowsFrom s place left)
-    × Filling (rowsFrom s at n) (rowsFrom s place left) table ((256 - left) * mostEnergy)
+    × (length table ≡ length table₀)
+    × Each (Tabled top) (rowsFrom s place left)
+    × Filling top (rowsFrom s at n) (rowsFrom s place left) table ((256 - left) * mostEnergy)
 
 abbrev μ-loop : tie.MeasureT-loop
-μ-loop table₀ s at n place₀ left₀ table place left = left
+μ-loop table₀ top s at n place₀ left₀ table place left = left
 
 loop-holds : tie.Need-loop-holds Inv-loop μ-loop
 loop-holds c =
     let start = c .before .before in
-    (search needs, search needs, length-none _ (start .pre .0), start .pre .3, filling-none _ _ _ (start .pre .0))
+    (search needs, search needs, search needs, start .pre .3, filling-none _ _ _ (start .pre .0))
 
 row-at-requires : tie.Need-row-at-requires Inv-loop μ-loop
 row-at-requires c κs = search needs
@@ -37,8 +37,8 @@ take-row-requires c κs =
     let s = c .before .before .before .before .before .before .args .s .now in
     let step = rows-step s (l .place) (l .left) (l .left - 1) (omega arith) in
     let first = rw step at (l .inv .3) in
-    let r : Tabled (c .before .row-at .result) = rw (c .before .row-at .ensures) (each-first first) in
-    (search needs, r, filling-room _ _ _ _ _ (l .inv .4) r (omega arith))
+    let r : Tabled (c .before .before .before .before .before .before .args .top) (c .before .row-at .result) = rw (c .before .row-at .ensures) (each-first first) in
+    (search needs, r, filling-room _ _ _ _ _ (l .inv .4) r (omega arith), search needs)
 
 add-place : tie.Need-add-place Inv-loop μ-loop
 add-place c = search needs
@@ -64,10 +64,10 @@ loop-again c =
     )
 
 same-length : tie.Need-same-length Inv-loop μ-loop
-same-length c = omega (arith, length-none _ (c .before .before .before .before .pre .0))
+same-length c = search needs
 
 returns : tie.Need-returns Inv-loop μ-loop
-returns c = let l = c .before .loop in filling-done _ _ _ _ (rows-done _ _ _ (c .loop-test .left)) (l .inv .2) (omega arith) (l .inv .4)
+returns c = let l = c .before .loop in filling-done _ _ _ _ (rows-done _ _ _ (c .loop-test .left)) (omega (arith, c .before .before .before .before .pre .0 .whole)) (omega arith) (l .inv .4)
 
 pub fill-spec : {M : Type 1} → statement M
 fill-spec =

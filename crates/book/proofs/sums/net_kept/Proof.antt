@@ -4,23 +4,14 @@ use borrow.Author.Needs.{needs}
 use Rattle.book.proofs.sums.net_kept.Statement.{statement}
 use Rattle.book.proofs.sums.net_kept.Tie as tie
 
-sub-at : tie.Need-sub-at
-sub-at c = search needs
+place-requires : tie.Need-place-requires
+place-requires c κs = search needs
 
 mul-at : tie.Need-mul-at
 mul-at c = search needs
 
 add-at : tie.Need-add-at
 add-at c = search needs
-
-sub-at-2 : tie.Need-sub-at-2
-sub-at-2 c = search needs
-
-mul-at-2 : tie.Need-mul-at-2
-mul-at-2 c = search needs
-
-add-at-2 : tie.Need-add-at-2
-add-at-2 c = search needs
 
 get-u32-requires : tie.Need-get-u32-requires
 get-u32-requires c κs = search needs
@@ -45,18 +36,15 @@ add-result c = search needs
 
 returns : tie.Need-returns
 unfolding netStored
-returns c = rw (c .before .before .get-u32 .ensures, c .before .sum-at .ensures, c .sum-at2 .ensures)
+returns c = rw (c .before .before .get-u32 .ensures, c .before .before .before .place .ensures .is, c .before .sum-at .ensures, c .sum-at2 .ensures)
 
 pub net-kept-spec : {M : Type 1} → statement M
 net-kept-spec =
     tie.close
     (tie.spec
-    sub-at
+    place-requires
     mul-at
     add-at
-    sub-at-2
-    mul-at-2
-    add-at-2
     get-u32-requires
     cast-stored
     sum-at-requires

@@ -4,20 +4,19 @@ use mathlib.Core.Path.{_≡_, _∙_, sym, refl}
 use native.Mathlib.Omega.{arith}
 use borrow.Author.Needs.{needs}
 use Rattle.rules.specs.Basics.{every, counting, upTo}
-use Rattle.rules.specs.Limits.{mostHours}
 use Rattle.book.specs.Sums.{netStored, netsStored}
 use Rattle.book.proofs.CountingLaws.{every-done, every-next, every-fails}
 use Rattle.book.proofs.sums.nets_kept.Statement.{statement}
 use Rattle.book.proofs.sums.nets_kept.Tie as tie
 
 abbrev Inv-loop : tie.InvT-loop
-Inv-loop s nets table account₀ account =
+Inv-loop s nets table top account₀ account =
     (1 ≤ account)
     × (account ≤ 33)
-    × (netsStored s nets table ≡ every (λ a. every (netStored s nets table a) (upTo mostHours)) (counting (33 - account) account))
+    × (netsStored top s nets table ≡ every (λ a. every (netStored top s nets table a) (upTo top)) (counting (33 - account) account))
 
 abbrev μ-loop : tie.MeasureT-loop
-μ-loop s nets table account₀ account = 33 - account
+μ-loop s nets table top account₀ account = 33 - account
 
 loop-holds : tie.Need-loop-holds Inv-loop μ-loop
 unfolding netsStored

@@ -1,6 +1,8 @@
 -- The buyer's cells are raised in the first lane and then the seller's in the second, which the first has not touched.
 use native.Mathlib.Omega.{arith}
-use Rattle.book.proofs.SumLaws.{room-past}
+use Rattle.rules.specs.Limits.{mostAccounts}
+use Rattle.book.specs.Sums.{slotOf}
+use Rattle.book.proofs.SumLaws.{stride, room-past}
 use Rattle.book.proofs.ShareLaws.{buyer-in, seller-in, taken-confirmed}
 use borrow.Author.Needs.{needs}
 use Rattle.book.proofs.sums.take_confirmed.Statement.{statement}
@@ -17,7 +19,7 @@ add-hours-requires c κs =
     let start = c .before .before .before .before .before .before in
     let buys = buyer-in (start .args .r) (start .pre .1) in
     let e = c .before .before .before .pick .ensures in
-    (search needs, search needs, rw e (buys .0), rw e (buys .1), start .pre .1, start .pre .2)
+    (search needs, search needs, rw e (buys .0), rw e (buys .1), start .pre .1, λ k l. start .pre .2 k (omega arith), search needs)
 
 add-hours-requires-2 : tie.Need-add-hours-requires-2
 add-hours-requires-2 c κs =
@@ -27,7 +29,7 @@ add-hours-requires-2 c κs =
     let sells = seller-in (start .args .r) (start .pre .1) in
     let e = c .before .before .before .before .before .pick2 .ensures in
     let f = first .before .before .before .before .pick .ensures in
-    (search needs, search needs, rw e (sells .0), rw e (sells .1), start .pre .1, room-past _ _ _ _ _ _ (first .add-hours .ensures) (omega arith) (start .pre .2))
+    (search needs, search needs, rw e (sells .0), rw e (sells .1), start .pre .1, room-past _ _ _ _ _ _ (first .add-hours .ensures) (omega (arith, stride (start .args .top) (slotOf 0 (first .before .before .before .before .pick .result)) mostAccounts (omega arith))) (start .pre .2), search needs)
 
 same-length : tie.Need-same-length
 same-length c = search needs

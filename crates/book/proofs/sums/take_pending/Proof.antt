@@ -8,12 +8,12 @@ use Rattle.book.proofs.sums.take_pending.Tie as tie
 add-hours-requires : tie.Need-add-hours-requires
 add-hours-requires c κs =
     let start = c .before .before .before .before in
-    (search needs, search needs, search needs, search needs, start .pre .1, λ k l. start .pre .2 k (omega arith))
+    (search needs, search needs, search needs, search needs, start .pre .1, λ k l. start .pre .2 k (omega arith), search needs)
 
 add-hours-requires-2 : tie.Need-add-hours-requires-2
 add-hours-requires-2 c κs =
     let start = c .before .before .before .before .before .before in
-    (search needs, search needs, search needs, search needs, start .pre .1, λ k l. start .pre .2 k (omega arith))
+    (search needs, search needs, search needs, search needs, start .pre .1, λ k l. start .pre .2 k (omega arith), search needs)
 
 same-length : tie.Need-same-length
 same-length c = search needs

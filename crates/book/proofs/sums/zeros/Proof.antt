@@ -1,12 +1,11 @@
 -- The array is written out as the list of zeros is.
-use mathlib.Core.Path.{refl}
-use Rattle.book.specs.Sums.{noSums}
+use native.Mathlib.Omega.{arith}
+use Rattle.book.proofs.FillLaws.{none-of-zeros}
 use Rattle.book.proofs.sums.zeros.Statement.{statement}
 use Rattle.book.proofs.sums.zeros.Tie as tie
 
 returns : tie.Need-returns
-unfolding noSums
-returns c = refl
+returns c = none-of-zeros 25 3200 (omega arith)
 
 pub zeros-spec : {M : Type 1} → statement M
 zeros-spec = tie.close (tie.spec returns)
