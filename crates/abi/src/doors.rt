@@ -3,7 +3,7 @@ ghost use mathlib.Core.Path.{_≡_};
 ghost use Rattle.rules.specs.Verdicts.{numbers};
 ghost use Rattle.rules.specs.Opening.{openOutcome};
 ghost use Rattle.rules.specs.Requests.{reading};
-ghost use Rattle.book.specs.Valid.{isBook};
+ghost use Rattle.image.specs.Valid.{isBook};
 ghost use Rattle.book.specs.Doors.{openBytes, netAnswer, exposureAnswer};
 ghost use Rattle.day.specs.Doors.{callAnswer, callWith};
 ghost use Rattle.abi.specs.Packing.{packed, unpacked};
@@ -34,7 +34,7 @@ pub extern "C" fn energy_book_open(setup: &[u8], book: &mut [u8]) -> u64
 pub extern "C" fn energy_book_is_book(book: &[u8]) -> bool
     ensures { λ r. ⌜ r ≡ isBook (now (book .entry)) ⌝ }
 {
-    book::whole::is_book(book)
+    audit::whole::is_book(book)
 }
 
 // A call of any kind. Only settle looks at the price table and the buffers for results and balances.

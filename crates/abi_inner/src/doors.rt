@@ -5,7 +5,7 @@ ghost use mathlib.Core.Path.{_≡_};
 ghost use mathlib.Core.Bool.{true};
 ghost use Rattle.rules.specs.Verdicts.{numbers};
 ghost use Rattle.rules.specs.Readings.{netReading, exposureReading};
-ghost use Rattle.book.specs.Valid.{isBook, bookIn};
+ghost use Rattle.image.specs.Valid.{isBook, bookIn};
 ghost use Rattle.day.specs.Doors.{callAnswer, callWith};
 ghost use Rattle.abi.specs.Packing.{packed, unpacked};
 ghost use Rattle.abi.specs.Lending.{netOutcome, netBytes, exposureOutcome, exposureBytes};

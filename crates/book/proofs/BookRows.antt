@@ -1,6 +1,6 @@
 -- The set-up and the rows of bytes that are a book stand at their places, and what they say is in range: all that the sums, the margins and
 -- the exposure ask of such bytes.
-use Prim.Native.Nat.{ℕ, _+_, _-_, _*_, _≤_}
+use Prim.Native.Nat.{ℕ, zero, suc, _+_, _-_, _*_, _≤_}
 use mathlib.Core.Path.{_≡_, sym, ap, _∙_}
 use mathlib.Core.List.{List, []}
 use mathlib.Core.Bool.{true}
@@ -15,21 +15,21 @@ use Rattle.rules.specs.declared.Account.{Account}
 use Rattle.rules.specs.declared.Counts.{Counts}
 use Rattle.rules.specs.declared.Row.{Row}
 use Rattle.rules.specs.Basics.{nth, Each}
-use Rattle.rules.specs.Limits.{mostPrice, mostRows, mostHours, bookSize}
-use Rattle.rules.specs.Books.{Setup, Book, noAccount, noRow, operatorOf, countsOf, operatorCount, accountCount}
+use Rattle.rules.specs.Limits.{mostPrice, mostRows, mostHours, mostAccounts, bookSize}
+use Rattle.rules.specs.Books.{Setup, Book, noAccount, noRow, accountAt, operatorOf, countsOf, operatorCount, accountCount}
 use Rattle.rules.specs.Opening.{countsIn, accountsIn, accountIn, accountsFrom, estimatesIn, setupOf, operatorsOf}
-use Rattle.rules.proofs.Searches.{each-map, each-nth}
+use Rattle.rules.proofs.Searches.{each-map, each-nth, each-at}
 use Rattle.rules.proofs.SetupEntries.{nth-entry, account-at, counts-of-setup}
-use Rattle.book.specs.Layout.{setupRoom, rowWidth, partWidths, partSize, presentAt, rowCountAt, rowsAt}
-use Rattle.book.specs.Image.{partOf, partIn}
-use Rattle.book.specs.Valid.{isBook, bookIn}
-use Rattle.book.specs.Plain.{partAt}
-use Rattle.book.specs.Sums.{rowsFrom, SumsOf, Tabled, SetupTabled}
-use Rattle.book.proofs.Soundness.{SoundSetup, SoundRow}
-use Rattle.book.proofs.SetupRanges.{InRange, values-in-range}
-use Rattle.book.proofs.SetupAgain.{counts-first-bytes, setup-short, setup-in-front}
+use Rattle.image.specs.Layout.{setupRoom, rowWidth, partWidths, partSize, presentAt, rowCountAt, rowsAt}
+use Rattle.image.specs.Image.{partOf, partIn}
+use Rattle.image.specs.Valid.{isBook, bookIn}
+use Rattle.image.specs.Cells.{partAt, rowsFrom}
+use Rattle.image.specs.Tables.{Tabled, SetupTabled}
+use Rattle.image.proofs.Soundness.{SoundSetup, SoundRow}
+use Rattle.image.proofs.SetupRanges.{InRange, values-in-range}
+use Rattle.image.proofs.SetupAgain.{counts-first-bytes, setup-short, setup-in-front}
+use Rattle.image.proofs.Places.{decode-places}
 use Rattle.book.proofs.StateLaws.{book-length, book-is-sound, row-count-stands}
-use Rattle.book.proofs.Places.{decode-places}
 
 -- ---- a part
 
@@ -98,6 +98,21 @@ module _ (s : List ℕ) (h : isBook s ≡ true) where
   pub rows-tabled : Each (Tabled mostHours) (bookIn s .part .rows)
   rows-tabled = each-map (sound-tabled (bookIn s .setup) (book-is-sound s h .setup-sound)) (book-is-sound s h .part-sound .rows-sound)
 
+  -- the counts and an account, as they were read
+  pub hours-read : (n : Counts) → n ≡ countsIn s → n .hours ≡ bookIn s .setup .hours
+  hours-read n e = ap (λ (m : Counts). m .hours) (e ∙ sym (counts-in))
+
+  pub account-read : (x : Account) (a : ℕ) → x ≡ nth (accountsIn s) a noAccount → x ≡ accountAt (bookIn s .setup) a
+  unfolding setupOf
+  account-read x a e = e ∙ ap (λ (u : Setup). accountAt u a) (sym (setup-in))
+
+  pub accounts-read : (a : ℕ) → a ≤ accountCount (bookIn s .setup) → (a ≤ countsIn s .accounts) × (a ≤ mostAccounts)
+  accounts-read a l =
+      (omega (arith, ap (λ (m : Counts). m .accounts) (counts-in)), omega (arith, book-is-sound s h .setup-sound .accounts-high))
+
+  pub hours-few : bookIn s .setup .hours ≤ mostHours
+  hours-few = book-is-sound s h .setup-sound .hours-high
+
   -- the operator of an account stands in the account's first byte
   pub owner-stands : (a from : ℕ) → from ≡ accountsFrom (countsIn s) → 1 ≤ a → a ≤ accountCount (bookIn s .setup)
       → numberAt s (from + 10 * (a - 1)) 1 ≡ operatorOf (bookIn s .setup) a
@@ -129,6 +144,10 @@ module _ (s : List ℕ) (h : isBook s ≡ true) where
     pub rows-summable : (presentAt + rowsAt + rowWidth * n ≤ length s) × (n ≤ mostRows) × Each (Tabled mostHours) (rowsFrom s (presentAt + rowsAt) n)
     rows-summable = (omega (arith, book-length s h, few), few, rw rows-in at rows-tabled)
 
-    -- and the table that is made of them is that of the book's rows
-    pub table-of-a-book : (table : List ℕ) → SumsOf mostHours (rowsFrom s (presentAt + rowsAt) n) table → SumsOf mostHours (bookIn s .part .rows) table
-    table-of-a-book table t = rw rows-in t
+-- ---- the operator of a calling account
+
+-- the operator of an account is one of the book's
+pub caller-operator : (s : List ℕ) (a : ℕ) → isBook s ≡ true → 1 ≤ a → a ≤ accountCount (bookIn s .setup)
+    → (1 ≤ operatorOf (bookIn s .setup) a) × (operatorOf (bookIn s .setup) a ≤ operatorCount (bookIn s .setup))
+caller-operator s zero h low high = absurd (omega arith)
+caller-operator s (suc i) h low high = let x = each-at noAccount i (values-in s h .accounts-sound) (omega arith) in (x .operator-low, x .operator-high)

@@ -10,8 +10,8 @@ use Rattle.rules.specs.declared.Net.{Net}
 use Rattle.rules.specs.Limits.{mostHours}
 use Rattle.rules.specs.Books.{accountCount}
 use Rattle.rules.specs.Registration.{netOf}
-use Rattle.book.specs.Layout.{presentAt, netAt}
-use Rattle.book.specs.Valid.{isBook, bookIn}
+use Rattle.image.specs.Layout.{presentAt, netAt}
+use Rattle.image.specs.Valid.{isBook, bookIn}
 use Rattle.book.specs.Netted.{netted}
 use Rattle.book.proofs.ReadingLaws.{net-near, net-stored}
 

@@ -28,14 +28,14 @@ use Rattle.rules.specs.Opening.{countsIn, operatorsFrom, setupLength, operatorI
 use Rattle.rules.specs.Registration.{moved}
 use Rattle.rules.proofs.SetupEntries.{operator-at, counts-of-setup}
 use Rattle.rules.proofs.SetupShape.{accepted-shape}
-use Rattle.book.specs.Layout.{setupRoom, rowWidth, scheduleWidth, accountWidth, partWidths, partSize, usedSize, bookWidths, phaseAt, presentAt}
-use Rattle.book.specs.Image.{rowBytes, scheduleBytes, accountNets, netsBytes, partSections, partBytes, savedBytes, storedSetup, sectionsWith, sections, image}
+use Rattle.image.specs.Layout.{setupRoom, rowWidth, scheduleWidth, accountWidth, partWidths, partSize, usedSize, bookWidths, phaseAt, presentAt}
+use Rattle.image.specs.Image.{rowBytes, scheduleBytes, accountNets, netsBytes, partSections, partBytes, savedBytes, storedSetup, sectionsWith, sections, image}
+use Rattle.image.proofs.Soundness.{sound-setup}
+use Rattle.image.proofs.SoundBooks.{sound}
+use Rattle.image.proofs.Sizes.{Fits, fits, length-row, length-schedule, length-guarantee, length-joined, length-operator-bytes, length-operators, length-stored}
+use Rattle.image.proofs.Opened.{opened-valid}
+use Rattle.image.proofs.SetupAgain.{bytes-again, length-guarantees, accepted-sound}
 use Rattle.book.specs.Fresh.{unlodged, lodged}
-use Rattle.book.proofs.Soundness.{sound-setup}
-use Rattle.book.proofs.SoundBooks.{sound}
-use Rattle.book.proofs.Sizes.{Fits, fits, length-row, length-schedule, length-guarantee, length-joined, length-operator-bytes, length-operators, length-stored}
-use Rattle.book.proofs.Opened.{opened-valid}
-use Rattle.book.proofs.SetupAgain.{bytes-again, length-guarantees, accepted-sound}
 
 -- ---- the two loops over operators
 

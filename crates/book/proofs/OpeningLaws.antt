@@ -22,14 +22,14 @@ use Rattle.rules.specs.Verdicts.{lowest, accepted, refused}
 use Rattle.rules.specs.Opening.{countsIn, operatorsFrom, setupRefusal, openRefusal, openOutcome, opened}
 use Rattle.rules.proofs.Clearing.{clear, clear-lowest}
 use Rattle.rules.proofs.SetupShape.{accepted-shape}
-use Rattle.book.specs.Layout.{setupRoom, phaseAt, presentAt}
-use Rattle.book.specs.Valid.{isBook, bookBytes}
+use Rattle.image.specs.Layout.{setupRoom, phaseAt, presentAt}
+use Rattle.image.specs.Valid.{isBook, bookBytes}
+use Rattle.image.proofs.SoundBooks.{sound}
+use Rattle.image.proofs.Sizes.{Fits, fits}
+use Rattle.image.proofs.SetupAgain.{length-guarantees}
+use Rattle.image.proofs.Opened.{opened-valid, opened-is-book}
 use Rattle.book.specs.Fresh.{unlodged, lodged}
 use Rattle.book.specs.Doors.{openBytes}
-use Rattle.book.proofs.SoundBooks.{sound}
-use Rattle.book.proofs.Sizes.{Fits, fits}
-use Rattle.book.proofs.SetupAgain.{length-guarantees}
-use Rattle.book.proofs.Opened.{opened-valid, opened-is-book}
 use Rattle.book.proofs.OpenedBytes.{length-stored-opened, opening-writes}
 
 -- ---- bytes cleared

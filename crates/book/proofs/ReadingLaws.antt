@@ -31,13 +31,13 @@ use Rattle.rules.specs.Readings.{position, netChecks, netReadingOf, netReading,
 use Rattle.rules.proofs.Tests.{and-both, within-true}
 use Rattle.rules.proofs.Searches.{each-at}
 use Rattle.rules.proofs.Clearing.{clear-lowest}
-use Rattle.book.specs.Layout.{presentAt, netAt}
-use Rattle.book.specs.Valid.{isBook, bookIn}
-use Rattle.book.specs.Sums.{InTable}
-use Rattle.book.proofs.Sizes.{fits}
-use Rattle.book.proofs.SetupRanges.{InRange, SoundAccount}
-use Rattle.book.proofs.Round.{book-is-image}
-use Rattle.book.proofs.ImageReads.{net-read}
+use Rattle.image.specs.Layout.{presentAt, netAt}
+use Rattle.image.specs.Valid.{isBook, bookIn}
+use Rattle.image.specs.Tables.{InTable}
+use Rattle.image.proofs.Sizes.{fits}
+use Rattle.image.proofs.SetupRanges.{InRange, SoundAccount}
+use Rattle.image.proofs.Round.{book-is-image}
+use Rattle.image.proofs.ImageReads.{net-read}
 use Rattle.book.proofs.StateLaws.{book-is-sound}
 use Rattle.book.proofs.BookRows.{counts-in, setup-in, values-in}
 

@@ -15,13 +15,12 @@ use Rattle.rules.specs.Basics.{if_then_else_, total, any, nth}
 use Rattle.rules.specs.Limits.{mostEnergy, mostHours}
 use Rattle.rules.specs.Books.{noRow}
 use Rattle.rules.specs.Registration.{pending, covers, alike, waiting}
-use Rattle.book.specs.Layout.{presentAt, rowAt}
-use Rattle.book.specs.Valid.{isBook, bookIn}
-use Rattle.book.specs.Sums.{cellOf, InTable, Tabled, Raised}
+use Rattle.image.specs.Layout.{presentAt, rowAt}
+use Rattle.image.specs.Valid.{isBook, bookIn}
+use Rattle.image.specs.Tables.{cellOf, InTable, Tabled, Raised}
+use Rattle.image.proofs.SumLaws.{raised-cell, raised-most, zero-at}
+use Rattle.image.proofs.RowBytes.{row-at}
 use Rattle.book.specs.Waits.{waitCell, Waits, WaitsOf, noWaits, WaitTaken}
-use Rattle.book.proofs.SumLaws.{raised-cell, raised-most}
-use Rattle.book.proofs.FillLaws.{zero-at}
-use Rattle.book.proofs.RowBytes.{row-at}
 use Rattle.book.proofs.StateLaws.{book-is-sound, numbered-row-stands}
 
 -- ---- one row

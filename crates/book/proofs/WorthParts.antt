@@ -18,18 +18,18 @@ use Rattle.rules.specs.Basics.{if_then_else_, total, nth, counting, upTo, withi
 use Rattle.rules.specs.Limits.{mostEnergy, mostPrice, mostHours}
 use Rattle.rules.specs.Books.{Setup, noRow, estimateAt, operatorOf, accountCount}
 use Rattle.rules.specs.Opening.{countsIn, estimatesIn, setupOf}
-use Rattle.rules.specs.Registration.{pending, exposure}
+use Rattle.rules.specs.Registration.{pending, exposure, exposureWith}
 use Rattle.rules.proofs.Searches.{each-map}
 use Rattle.rules.proofs.Tests.{within-true}
 use Rattle.rules.proofs.Totals.{total-zero, total-last, total-upTo}
-use Rattle.book.specs.Valid.{isBook, bookIn}
-use Rattle.book.specs.Worth.{shortWorth, spanPrice, saleWorth, exposureWith, PriceSums, Takeable, netWith}
-use Rattle.book.proofs.Soundness.{SoundRow}
-use Rattle.book.proofs.SumLaws.{lt-or-ge}
+use Rattle.rules.proofs.Differences.{lt-or-ge}
+use Rattle.image.specs.Valid.{isBook, bookIn}
+use Rattle.image.proofs.Soundness.{SoundRow}
+use Rattle.image.proofs.MoneyLaws.{price-most}
+use Rattle.book.specs.Worth.{shortWorth, spanPrice, saleWorth, PriceSums, Takeable, netWith}
 use Rattle.book.proofs.BookRows.{counts-in, setup-in, estimates-in, values-in}
 use Rattle.book.proofs.StateLaws.{book-is-sound}
 use Rattle.book.proofs.WorthLaws.{with-none, exposure-split}
-use Rattle.book.proofs.MoneyLaws.{price-most}
 
 -- ---- prices
 

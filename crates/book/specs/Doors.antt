@@ -9,7 +9,7 @@ use Rattle.rules.specs.Basics.{if_then_else_}
 use Rattle.rules.specs.Opening.{openRefusal, opened}
 use Rattle.rules.specs.Requests.{unlessRefused}
 use Rattle.rules.specs.Readings.{netReading, exposureReading}
-use Rattle.book.specs.Valid.{isBook, bookBytes, bookIn}
+use Rattle.image.specs.Valid.{isBook, bookBytes, bookIn}
 
 -- opening fills the whole buffer with the image of the fresh book; a refusal changes no byte
 unfoldable pub openBytes : List ℕ → List ℕ → List ℕ

@@ -1,14 +1,4 @@
 -- The bytes of a book.
--- Layout: how wide each section is, and where it begins.
-pub mod Layout
--- Image: a plain book in bytes, and the plain book that bytes say.
-pub mod Image
--- Valid: which plain books are valid, and which bytes are a book.
-pub mod Valid
--- Sums: the sums of all account hours in one table.
-pub mod Sums
--- Changes: what a loop over cells of a book puts to each.
-pub mod Changes
 -- Netted: a net position by itself.
 pub mod Netted
 -- Waits: what waits on one account.
@@ -19,9 +9,5 @@ pub mod Worth
 pub mod Doors
 -- Fresh: the loops by which opening writes a fresh book.
 pub mod Fresh
--- Plain: tests, each of one place, that bytes are an image.
-pub mod Plain
--- Twins: the keys by which pending rows alike are found.
-pub mod Twins
--- Stands: a book section by section, as code tests it.
-pub mod Stands
+-- Kinds: what a request that was read is answered on a book, and the book after it.
+pub mod Kinds

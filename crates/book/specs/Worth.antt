@@ -10,7 +10,7 @@ use Rattle.rules.specs.declared.Net.{Net}
 use Rattle.rules.specs.Basics.{if_then_else_, total, upTo}
 use Rattle.rules.specs.Limits.{mostEnergy}
 use Rattle.rules.specs.Books.{Setup, estimateAt, operatorOf, accountCount}
-use Rattle.rules.specs.Registration.{pending, covers, accountHour, takes, ofOperator, exposureOf}
+use Rattle.rules.specs.Registration.{pending, covers, accountHour, takes, ofOperator}
 
 -- what lies below zero of an account's net positions, at estimated prices
 unfoldable pub accountShort : Setup → (ℕ → ℕ → Net) → ℕ → ℕ
@@ -40,10 +40,6 @@ pub record PriceSums (u : Setup) (sums : List ℕ) : Type 0 where
 -- what a row weighs on the operator as a pending sale of one of its accounts; nothing where it is none
 unfoldable pub saleWorth : Setup → ℕ → Row → ℕ
 saleWorth u o r = if pending r && eqb (r .side) 1 && eqb (operatorOf u (r .proposer)) o then r .quantity .0 * spanPrice u r else 0
-
--- the operator's exposure once the trade is taken
-abbrev pub exposureWith : Setup → List Row → Row → ℕ → ℕ
-exposureWith u rows trade o = exposureOf u (λ a h. takes a h (accountHour rows a h) trade) o
 
 -- a trade that can be taken: where it waits, its proposer and its hours are those of the set-up; its quantity is in range
 pub record Takeable (u : Setup) (trade : Row) : Type 0 where

@@ -1,16 +1,31 @@
 // Net positions as settlement works from them: read off the 4 bytes that hold each.
 ghost use mathlib.Core.Path.{_≡_};
 ghost use mathlib.Core.Bool.{true};
-ghost use Prim.Native.Nat.{_≤_};
+ghost use Prim.Native.Nat.{_+_, _≤_};
+ghost use Rattle.wire.specs.Numbers.{numberAt};
+ghost use Rattle.rules.specs.Limits.{mostHours};
 ghost use Rattle.rules.specs.Books.{accountCount};
 ghost use Rattle.rules.specs.Registration.{netOf};
-ghost use Rattle.book.specs.Valid.{isBook, bookIn};
+ghost use Rattle.image.specs.Valid.{isBook, bookIn};
+ghost use Rattle.image.specs.Layout.{presentAt, netAt};
+ghost use Rattle.image.specs.Tables.{InTable};
 ghost use Rattle.book.specs.Netted.{netted};
-use crate::layout::MOST_IN_4;
-use crate::readings::HALF_TURN;
-use crate::readings::stored_net;
+use crate::state::net_place;
+use image::layout::MOST_IN_4;
 use rules::Net;
 use units::Kwh;
+use wire::numbers::get_u32;
+
+// Half of what 4 bytes count to, from which on they are below zero.
+pub const HALF_TURN: u32 = 2_147_483_648;
+
+// The 4 bytes that hold the net of an account in an hour.
+pub fn stored_net(book: &[u8], account: u8, hour: u8) -> u32
+    requires { ⌜ (isBook (now book) ≡ true) × InTable mostHours account hour ⌝ }
+    ensures { λ r. ⌜ r ≡ numberAt (now (book .entry)) (presentAt + netAt mostHours account hour) 4 ⌝ }
+{
+    get_u32(book, net_place(account, hour))
+}
 
 // The net position of an account in an hour, both of the set-up: what was bought over what was sold, or the reverse.
 pub fn net_at(book: &[u8], account: u8, hour: u8) -> Net

@@ -1,33 +1,24 @@
-// The readings: a net position and an exposure, of bytes that are known to be a book and of any bytes.
+// The readings: a net position and an exposure, of bytes that are known to be a book.
 ghost use mathlib.Core.Path.{_≡_};
 ghost use mathlib.Core.Bool.{true, not};
-ghost use Prim.Native.Nat.{_+_, _-_, _^_};
+ghost use Prim.Native.Nat.{_-_, _^_};
 ghost use lib.Dec.{ltb};
-ghost use Rattle.wire.specs.Numbers.{numberAt};
 ghost use Rattle.units.specs.Units.{kwh};
 ghost use Rattle.rules.specs.declared.Position.the-variants.{Long, Short};
 ghost use Rattle.rules.specs.Basics.{if_then_else_, within};
-ghost use Rattle.rules.specs.Limits.{mostHours};
 ghost use Rattle.rules.specs.Readings.{netReading, exposureReading};
-ghost use Rattle.book.specs.Layout.{presentAt, netAt};
-ghost use Rattle.book.specs.Valid.{isBook, bookIn};
-ghost use Rattle.book.specs.Sums.{InTable};
-ghost use Rattle.book.specs.Doors.{netAnswer, exposureAnswer};
-use crate::layout::MOST_IN_4;
-use crate::state::net_place;
-use crate::whole::is_book;
+ghost use Rattle.image.specs.Valid.{isBook, bookIn};
+use crate::positions::HALF_TURN;
+use crate::positions::stored_net;
 use crate::worth::exposure_with;
 use crate::worth::no_trade;
+use image::layout::MOST_IN_4;
 use rules::ExposureReading;
 use rules::NetReading;
 use rules::Position;
 use rules::Refusal;
 use setup::counts::counts;
 use units::Kwh;
-use wire::numbers::get_u32;
-
-// Half of what 4 bytes count to, from which on they are below zero.
-pub const HALF_TURN: u32 = 2_147_483_648;
 
 // The number is not among those from 1 to `most`.
 fn outside(number: u8, most: u8) -> bool
@@ -44,14 +35,6 @@ fn position_of(stored: u32) -> Position
         return Position::Long(Kwh(stored));
     }
     Position::Short(Kwh(MOST_IN_4 - stored + 1))
-}
-
-// The 4 bytes that hold the net of an account in an hour.
-pub fn stored_net(book: &[u8], account: u8, hour: u8) -> u32
-    requires { ⌜ (isBook (now book) ≡ true) × InTable mostHours account hour ⌝ }
-    ensures { λ r. ⌜ r ≡ numberAt (now (book .entry)) (presentAt + netAt mostHours account hour) 4 ⌝ }
-{
-    get_u32(book, net_place(account, hour))
 }
 
 // The net position of an account in an hour.
@@ -79,24 +62,4 @@ pub fn exposure_in(book: &[u8], operator: u8) -> ExposureReading
         return ExposureReading::Unread(Refusal::OutOfRange { bit: 9 });
     }
     ExposureReading::Stands(exposure_with(book, operator, no_trade()))
-}
-
-// The net position of an account in an hour, of any bytes: 1 where they are no book, else as `net_in`.
-pub fn net(book: &[u8], account: u8, hour: u8) -> NetReading
-    ensures { λ r. ⌜ r ≡ netAnswer (now (book .entry)) account hour ⌝ }
-{
-    if is_book(book) {
-        return net_in(book, account, hour);
-    }
-    NetReading::Unread(Refusal::NotABook)
-}
-
-// The exposure of an operator, of any bytes: 1 where they are no book, else as `exposure_in`.
-pub fn exposure(book: &[u8], operator: u8) -> ExposureReading
-    ensures { λ r. ⌜ r ≡ exposureAnswer (now (book .entry)) operator ⌝ }
-{
-    if is_book(book) {
-        return exposure_in(book, operator);
-    }
-    ExposureReading::Unread(Refusal::NotABook)
 }

@@ -4,21 +4,23 @@ ghost use mathlib.Core.Bool.{true};
 ghost use Prim.Native.Nat.{_+_, _-_, _≤_};
 ghost use lib.ListN.{length};
 ghost use Rattle.rules.specs.Basics.{isSome};
-ghost use Rattle.rules.specs.Limits.{mostRows, mostSchedules, mostHours};
+ghost use Rattle.rules.specs.Limits.{mostRows, mostSchedules, mostHours, mostOperators};
+ghost use Rattle.rules.specs.Books.{operatorOf, operatorCount, accountCount};
 ghost use Rattle.rules.specs.Calls.{restored};
-ghost use Rattle.book.specs.Layout.{presentAt, rowAt, netAt};
-ghost use Rattle.book.specs.Valid.{isBook, bookIn};
-ghost use Rattle.book.specs.Sums.{InTable};
-use crate::layout::ACCOUNT_NETS;
-use crate::layout::FLAG_AT;
-use crate::layout::NETS_IN;
-use crate::layout::PHASE_AT;
-use crate::layout::PRESENT_AT;
-use crate::layout::ROW_COUNT_IN;
-use crate::layout::ROW_WIDTH;
-use crate::layout::ROWS_IN;
-use crate::layout::SAVED_AT;
-use crate::layout::SCHEDULE_COUNT_AT;
+ghost use Rattle.image.specs.Layout.{presentAt, rowAt, netAt};
+ghost use Rattle.image.specs.Valid.{isBook, bookIn};
+ghost use Rattle.image.specs.Tables.{InTable};
+use image::layout::ACCOUNT_NETS;
+use image::layout::FLAG_AT;
+use image::layout::NETS_IN;
+use image::layout::PHASE_AT;
+use image::layout::PRESENT_AT;
+use image::layout::ROW_COUNT_IN;
+use image::layout::ROW_WIDTH;
+use image::layout::ROWS_IN;
+use image::layout::SAVED_AT;
+use image::layout::SCHEDULE_COUNT_AT;
+use setup::entries::account;
 use wire::numbers::get_u8;
 use wire::numbers::get_u16;
 
@@ -95,4 +97,14 @@ pub fn net_place(account: u8, hour: u8) -> usize
 {
     let cell = ACCOUNT_NETS * (account as usize - 1) + 4 * (hour as usize - 1);
     PRESENT_AT + (NETS_IN + cell)
+}
+
+// The operator of an account.
+pub fn operator_of(book: &[u8], number: u8) -> u8
+    requires { ⌜ (isBook (now book) ≡ true) × (1 ≤ number) × (number ≤ accountCount (bookIn (now book) .setup)) ⌝ }
+    ensures meaning { λ r. ⌜ r ≡ operatorOf (bookIn (now (book .entry)) .setup) number ⌝ }
+    ensures inside { λ r. ⌜ (1 ≤ r) × (r ≤ operatorCount (bookIn (now (book .entry)) .setup)) × (r ≤ mostOperators) ⌝ }
+{
+    let owner = account(book, number);
+    owner.operator
 }

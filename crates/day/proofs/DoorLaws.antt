@@ -13,9 +13,9 @@ use Rattle.rules.specs.Limits.{mostHours, bookSize}
 use Rattle.rules.specs.Calls.{Call, step}
 use Rattle.rules.proofs.Clearing.{never-both}
 use Rattle.rules.proofs.Passed.{Passed, Kept, step-cases}
-use Rattle.book.specs.Valid.{isBook, bookIn}
-use Rattle.book.proofs.Keeps.{keeps-valid}
-use Rattle.book.proofs.Round.{book-is-image}
+use Rattle.image.specs.Valid.{isBook, bookIn}
+use Rattle.image.proofs.Keeps.{keeps-valid}
+use Rattle.image.proofs.Round.{book-is-image}
 use Rattle.day.specs.Doors.{Answered, inBytes, refusedOn, callAnswer}
 use Rattle.day.proofs.Images.{image-stands}
 

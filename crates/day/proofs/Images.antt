@@ -11,10 +11,10 @@ use Rattle.rules.specs.Requests.{Kind, openBatch, undo}
 use Rattle.rules.specs.Calls.{Call, kindIn, _∈_, step}
 use Rattle.rules.specs.Lists.{runs, after, isAcceptance, accepts, acceptsAs, endsNoBatch, UndoneBatch}
 use Rattle.rules.specs.Ledger.{heard}
-use Rattle.book.specs.Valid.{valid, isBook, bookBytes, bookIn}
-use Rattle.book.proofs.Round.{decode-image, image-is-book}
-use Rattle.book.proofs.Keeps.{keeps-valid}
-use Rattle.book.proofs.Reachable.{OfBytes, after-valid}
+use Rattle.image.specs.Valid.{valid, isBook, bookBytes, bookIn}
+use Rattle.image.proofs.Round.{decode-image, image-is-book}
+use Rattle.image.proofs.Keeps.{keeps-valid}
+use Rattle.image.proofs.Reachable.{OfBytes, after-valid}
 use Rattle.day.specs.Doors.{Answered, inBytes, callAnswer}
 use Rattle.day.specs.Lists.{answersOn, bytesAfter, acceptsOn, acceptsOnAs, heardOn, endsNoBatchOn, UndoneOn}
 

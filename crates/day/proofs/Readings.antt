@@ -10,7 +10,7 @@ use Rattle.rules.specs.Readings.{netReading, exposureReading}
 use Rattle.rules.specs.Ledger.{Ledger}
 use Rattle.rules.proofs.Agreement.{Agrees}
 use Rattle.rules.proofs.LedgerReadings.{net-read-is-the-ledgers, exposure-read-is-the-ledgers}
-use Rattle.book.specs.Valid.{valid, bookBytes}
+use Rattle.image.specs.Valid.{valid, bookBytes}
 use Rattle.book.specs.Doors.{netAnswer, exposureAnswer}
 use Rattle.day.specs.Readings.{ledgerNetReading, ledgerExposureReading}
 use Rattle.day.proofs.Images.{image-says, image-stands}

@@ -25,10 +25,10 @@ use Rattle.rules.proofs.Tests.{within-true}
 use Rattle.rules.proofs.Clearing.{checked-same, clear, spared, spared↑}
 use Rattle.rules.proofs.Passed.{kind-number}
 use Rattle.rules.proofs.RoundTrip.{read-as, read-is-known, read-fits}
-use Rattle.book.specs.Valid.{isBook, bookIn, bookBytes}
+use Rattle.image.specs.Valid.{isBook, bookIn, bookBytes}
+use Rattle.book.specs.Kinds.{decided, outcomeOn, bookAfter, Ready}
 use Rattle.book.proofs.BookRows.{counts-in}
-use Rattle.registration.specs.Kinds.{decided, outcomeOn, bookAfter, Ready}
-use Rattle.registration.proofs.Answers.{Answered as KindAnswered}
+use Rattle.book.proofs.Answers.{Answered as KindAnswered}
 use Rattle.day.specs.Doors.{Answered, refusedOn, callAnswer}
 use Rattle.day.proofs.Stages.{input-refused, state-decides, call-refused, call-decided}
 

@@ -27,8 +27,8 @@ use Rattle.rules.proofs.Clearing.{Clear}
 use Rattle.rules.proofs.Passed.{passed-6-prices}
 use Rattle.rules.proofs.CallLists.{accepts-passed}
 use Rattle.rules.proofs.Batches.{the-kind}
-use Rattle.book.specs.Valid.{valid}
-use Rattle.book.proofs.MoneyLaws.{mostMoney, settled-gained-most, settled-lost-most}
+use Rattle.image.specs.Valid.{valid}
+use Rattle.image.proofs.MoneyLaws.{mostMoney, settled-gained-most, settled-lost-most}
 
 each-made : {A B : Type 0} {P : B → Type 0} (f : A → B) (xs : List A) → ((x : A) → P (f x)) → Each P (map f xs)
 each-made f [] h = nil

@@ -11,8 +11,8 @@ use Rattle.rules.specs.Verdicts.{Check, applies, lowest, outcomeOf}
 use Rattle.rules.specs.Books.{Book}
 use Rattle.rules.specs.Requests.{Kind, register, confirm, withdraw, guarantee, openBatch, undo, keep, closeGate, schedule, settle, readChecks, unlessRefused}
 use Rattle.rules.specs.Calls.{Call, requestIn, kindIn, next, given, _∈_, inputChecks, stateChecks, checks, refusal, settles, answer, step}
-use Rattle.book.specs.Valid.{isBook, bookBytes, bookIn}
-use Rattle.book.proofs.Round.{book-is-image}
+use Rattle.image.specs.Valid.{isBook, bookBytes, bookIn}
+use Rattle.image.proofs.Round.{book-is-image}
 use Rattle.day.specs.Doors.{inBytes, refusedOn, callAnswer}
 use Rattle.day.proofs.DoorLaws.{call-on-book}
 

@@ -25,12 +25,12 @@ use Rattle.rules.proofs.LedgerDay.{dayBook, dayLedger, day-setup, day-settled}
 use Rattle.rules.proofs.SettledTotal.{Owned}
 use Rattle.rules.proofs.Searches.{each-map}
 use Rattle.rules.proofs.Batches.{undone-batch-cut-out}
-use Rattle.book.specs.Valid.{bookBytes}
+use Rattle.image.specs.Valid.{bookBytes}
+use Rattle.image.proofs.SetupRanges.{each-split, each-join}
+use Rattle.image.proofs.SetupAgain.{accepted-in-range}
+use Rattle.image.proofs.Opened.{opened-valid}
+use Rattle.image.proofs.Reachable.{OfBytes, after-valid, reachable-valid, reachable-setup, reachable-nets-cancel, reachable-nets-within-margins, reachable-margins-kept, reachable-covered}
 use Rattle.book.specs.Doors.{openBytes}
-use Rattle.book.proofs.SetupRanges.{each-split, each-join}
-use Rattle.book.proofs.SetupAgain.{accepted-in-range}
-use Rattle.book.proofs.Opened.{opened-valid}
-use Rattle.book.proofs.Reachable.{OfBytes, after-valid, reachable-valid, reachable-setup, reachable-nets-cancel, reachable-nets-within-margins, reachable-margins-kept, reachable-covered}
 use Rattle.day.specs.Doors.{Answered, inBytes, callAnswer}
 use Rattle.day.specs.Lists.{answersOn, bytesAfter, acceptsOnAs, ledgerOn, UndoneOn, CutOutOn}
 use Rattle.day.specs.Promise.{Promise}

@@ -8,7 +8,7 @@ use Rattle.rules.specs.declared.Refusal.the-variants.{NotABook}
 use Rattle.rules.specs.Basics.{if_then_else_}
 use Rattle.rules.specs.Verdicts.{refused}
 use Rattle.rules.specs.Calls.{Call, Answer, step}
-use Rattle.book.specs.Valid.{isBook, bookBytes, bookIn}
+use Rattle.image.specs.Valid.{isBook, bookBytes, bookIn}
 
 -- the outcome, and the bytes of the book and of the two output buffers as the call leaves them
 pub record Answered : Type 0 where

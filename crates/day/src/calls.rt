@@ -1,10 +1,10 @@
 // A call: of any bytes, and of bytes that are known to be a book.
 ghost use mathlib.Core.Path.{_≡_};
 ghost use mathlib.Core.Bool.{true};
-ghost use Rattle.book.specs.Valid.{isBook};
+ghost use Rattle.image.specs.Valid.{isBook};
 ghost use Rattle.day.specs.Doors.{callAnswer, callWith};
 use crate::kinds::answer;
-use book::whole::is_book;
+use audit::whole::is_book;
 use records::reader::read;
 use rules::Outcome;
 use rules::Reading;

@@ -4,12 +4,14 @@ ghost use mathlib.Core.Bool.{true};
 ghost use Rattle.rules.specs.Opening.{openOutcome};
 ghost use Rattle.rules.specs.Requests.{reading, writeOutcome, written};
 ghost use Rattle.rules.specs.Readings.{netReading, exposureReading};
-ghost use Rattle.book.specs.Valid.{isBook, bookIn};
+ghost use Rattle.image.specs.Valid.{isBook, bookIn};
 ghost use Rattle.book.specs.Doors.{openBytes, netAnswer, exposureAnswer};
+use audit::whole::is_book;
 use rules::ExposureReading;
 use rules::NetReading;
 use rules::Outcome;
 use rules::Reading;
+use rules::Refusal;
 use rules::Request;
 
 // Opens a book from the bytes of a set-up, or refuses by 1, 8 or 9.
@@ -24,7 +26,10 @@ pub fn open(setup: &[u8], book: &mut [u8]) -> Outcome
 pub fn net(book: &[u8], account: u8, hour: u8) -> NetReading
     ensures { λ r. ⌜ r ≡ netAnswer (now (book .entry)) account hour ⌝ }
 {
-    book::readings::net(book, account, hour)
+    if is_book(book) {
+        return book::readings::net_in(book, account, hour);
+    }
+    NetReading::Unread(Refusal::NotABook)
 }
 
 // As `net`, of bytes that are known to be a book.
@@ -39,7 +44,10 @@ pub fn net_in(book: &[u8], account: u8, hour: u8) -> NetReading
 pub fn exposure(book: &[u8], operator: u8) -> ExposureReading
     ensures { λ r. ⌜ r ≡ exposureAnswer (now (book .entry)) operator ⌝ }
 {
-    book::readings::exposure(book, operator)
+    if is_book(book) {
+        return book::readings::exposure_in(book, operator);
+    }
+    ExposureReading::Unread(Refusal::NotABook)
 }
 
 // As `exposure`, of bytes that are known to be a book.

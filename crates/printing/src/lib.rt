@@ -5,7 +5,7 @@ ghost use Prim.Native.Nat.{_+_, _≤_};
 ghost use lib.ListN.{length};
 ghost use Rattle.rules.specs.Limits.{bookSize, longestStream};
 ghost use Rattle.walk.specs.Lent.{stepRoom};
-use book::layout::BOOK_SIZE;
+use image::layout::BOOK_SIZE;
 use walk::Gathered;
 use walk::gathering::gather;
 use walk::gathering::gather_first;

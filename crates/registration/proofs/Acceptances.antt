@@ -23,17 +23,16 @@ use Rattle.rules.specs.Calls.{confirmedNumber, restored, given}
 use Rattle.rules.proofs.Passed.{passed-13}
 use Rattle.rules.proofs.RowTests.{passed-confirm, passed-withdraw}
 use Rattle.rules.proofs.AccountHours.{pending-inside}
-use Rattle.book.specs.Layout.{rowWidth, partSize, phaseAt, flagAt, presentAt, savedAt, rowAt, netAt, statusIn}
-use Rattle.book.specs.Valid.{isBook, bookIn}
-use Rattle.book.specs.Changes.{raised, ended}
-use Rattle.book.proofs.Sizes.{RowFits, row-fits-of, statuses-small}
 use Rattle.rules.proofs.Searches.{each-nth}
-use Rattle.book.proofs.BookWrites.{write-confirm, write-withdraw, write-open, write-undo, write-keep, write-close}
-use Rattle.book.proofs.KeepsKinds.{confirm-keeps, withdraw-keeps, open-keeps, undo-keeps, keep-keeps, close-keeps}
+use Rattle.image.specs.Layout.{rowWidth, partSize, phaseAt, flagAt, presentAt, savedAt, rowAt, netAt, statusIn}
+use Rattle.image.specs.Valid.{isBook, bookIn}
+use Rattle.image.specs.Changes.{raised, ended}
+use Rattle.image.proofs.Sizes.{RowFits, row-fits-of, statuses-small}
+use Rattle.image.proofs.BookWrites.{write-confirm, write-withdraw, write-open, write-undo, write-keep, write-close}
+use Rattle.image.proofs.KeepsKinds.{confirm-keeps, withdraw-keeps, open-keeps, undo-keeps, keep-keeps, close-keeps}
+use Rattle.book.specs.Kinds.{decided}
 use Rattle.book.proofs.StateLaws.{book-image, book-fits, book-is-sound}
-use Rattle.registration.specs.Kinds.{decided}
-use Rattle.registration.proofs.Decisions.{decided-clear}
-use Rattle.registration.proofs.Answers.{Answered, AnsweredAll, accepted-answered, answered-all}
+use Rattle.book.proofs.Answers.{decided-clear, Answered, AnsweredAll, accepted-answered, answered-all}
 
 module _ (s t : List ℕ) (h : isBook s ≡ true) where
   -- 2: the row's status, the hours of its seller, those of its buyer

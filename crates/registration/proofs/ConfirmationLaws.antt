@@ -21,27 +21,28 @@ use Rattle.rules.specs.Limits.{mostEnergy, mostHours}
 use Rattle.rules.specs.Verdicts.{accepted}
 use Rattle.rules.specs.Books.{Setup, Book, noRow, accountAt, operatorOf, accountCount}
 use Rattle.rules.specs.Requests.{confirm}
-use Rattle.rules.specs.Registration.{pending, seller, buyer, withStatus, mark, alike, confirms, mirrors, accountHour, takes, keepsMargins, brokenHour, exposure, available, covered}
+use Rattle.rules.specs.Registration.{pending, seller, buyer, withStatus, mark, alike, confirms, mirrors, accountHour, takes, keepsMargins, brokenHour, exposure, available, covered, exposureWith}
 use Rattle.rules.specs.Calls.{numberFrom, confirmedNumber, next}
 use Rattle.rules.proofs.Searches.{index-first}
 use Rattle.rules.proofs.RowTests.{Alike, alike-true, passed-confirm}
 use Rattle.rules.proofs.Passed.{passed-16-confirm}
 use Rattle.rules.proofs.AccountHours.{pending-inside, hour-takes-confirmed}
-use Rattle.book.specs.Layout.{presentAt, rowAt, netAt, statusIn}
-use Rattle.book.specs.Changes.{raised}
-use Rattle.book.specs.Valid.{isBook, bookIn}
-use Rattle.book.specs.Sums.{Tabled}
-use Rattle.book.specs.Worth.{saleWorth, exposureWith, Takeable}
-use Rattle.book.proofs.Soundness.{SoundRow}
-use Rattle.book.proofs.Easing.{sale-eases-operators}
+use Rattle.image.specs.Layout.{presentAt, rowAt, netAt, statusIn}
+use Rattle.image.specs.Changes.{raised}
+use Rattle.image.specs.Valid.{isBook, bookIn}
+use Rattle.image.specs.Tables.{Tabled}
+use Rattle.image.proofs.Soundness.{SoundRow}
+use Rattle.image.proofs.Easing.{sale-eases-operators}
+use Rattle.book.specs.Worth.{saleWorth, Takeable}
+use Rattle.book.specs.Kinds.{decided}
 use Rattle.book.proofs.StateLaws.{book-is-sound}
 use Rattle.book.proofs.BookRows.{sound-tabled, numbered-sound}
 use Rattle.book.proofs.WorthLaws.{with-confirmed}
-use Rattle.registration.specs.Kinds.{decided, Confirming, WaitsIn}
+use Rattle.book.proofs.Answers.{decided-clear, Answered}
+use Rattle.registration.specs.Confirming.{Confirming, WaitsIn}
 use Rattle.registration.specs.Margins.{brokenBy, broken}
 use Rattle.registration.specs.declared.margins.Broken.the-variants.{Hour, Nowhere}
-use Rattle.registration.proofs.Decisions.{decided-clear, no-row-to-confirm, terms-differ, confirm-breaks, confirm-uncovered, confirm-passes}
-use Rattle.registration.proofs.Answers.{Answered}
+use Rattle.registration.proofs.Decisions.{no-row-to-confirm, terms-differ, confirm-breaks, confirm-uncovered, confirm-passes}
 use Rattle.registration.proofs.Acceptances.{confirmed-answered}
 use Rattle.registration.proofs.SearchLaws.{find-cong}
 use Rattle.registration.proofs.PendingLaws.{number-high}

@@ -15,20 +15,20 @@ use Rattle.rules.specs.declared.Operator.{Operator}
 use Rattle.rules.specs.declared.Row.{Row}
 use Rattle.rules.specs.Basics.{nth, Each, nil, cons}
 use Rattle.rules.specs.Limits.{mostHours, mostEnergy, mostGuarantee, thousand, bookSize}
-use Rattle.rules.specs.Books.{Setup, Part, Book, noAccount, maintenanceAt, guaranteeAt, operatorOf, operatorCount, accountCount}
+use Rattle.rules.specs.Books.{Setup, Part, Book, maintenanceAt, guaranteeAt, operatorOf, operatorCount, accountCount}
 use Rattle.rules.specs.Opening.{countsIn, operatorsIn, setupOf}
 use Rattle.rules.specs.Registration.{pending, exposure, available, covered}
 use Rattle.rules.specs.declared.Counts.{Counts}
 use Rattle.rules.proofs.Searches.{each-at}
 use Rattle.setup.specs.Faults.{noOperator}
-use Rattle.book.specs.Layout.{presentAt}
-use Rattle.book.specs.Valid.{isBook, bookIn}
+use Rattle.image.specs.Layout.{presentAt}
+use Rattle.image.specs.Valid.{isBook, bookIn}
+use Rattle.image.proofs.Soundness.{SoundRow}
+use Rattle.image.proofs.SetupRanges.{SoundOperator, maintenance-of}
+use Rattle.image.proofs.ImageReads.{guarantee-read}
 use Rattle.book.specs.Worth.{Takeable}
-use Rattle.book.proofs.Soundness.{SoundRow}
-use Rattle.book.proofs.SetupRanges.{SoundOperator, maintenance-of}
-use Rattle.book.proofs.ImageReads.{guarantee-read}
 use Rattle.book.proofs.StateLaws.{book-fits, book-is-sound, number-in-book}
-use Rattle.book.proofs.BookRows.{counts-in, setup-in, values-in}
+use Rattle.book.proofs.BookRows.{counts-in, setup-in, values-in, caller-operator}
 
 maintenance-in-range : {os : List Operator} → Each SoundOperator os → Each (λ m. m ≤ thousand) (map (λ x. x .maintenance) os)
 maintenance-in-range nil = nil
@@ -87,14 +87,6 @@ pub covered-by : (u : Setup) (p : Part) (o g : ℕ) → guaranteeAt (p .guarante
     → covered u p o ≡ leb (exposure u (p .rows) o) (g * (thousand - maintenanceAt u o))
 unfolding covered available
 covered-by u p o g e = rw e
-
--- ---- the operator of a calling account
-
--- the operator of an account is one of the book's
-pub caller-operator : (s : List ℕ) (a : ℕ) → isBook s ≡ true → 1 ≤ a → a ≤ accountCount (bookIn s .setup)
-    → (1 ≤ operatorOf (bookIn s .setup) a) × (operatorOf (bookIn s .setup) a ≤ operatorCount (bookIn s .setup))
-caller-operator s zero h low high = absurd (omega arith)
-caller-operator s (suc i) h low high = let x = each-at noAccount i (values-in s h .accounts-sound) (omega arith) in (x .operator-low, x .operator-high)
 
 -- ---- exposure and what is available
 

@@ -7,9 +7,9 @@ use mathlib.Core.Bool.{Bool, true, false, _||_}
 use native.Mathlib.Omega.{arith}
 use lib.ListN.{length}
 use lib.Dec.{eqb, leb}
-use borrow.Author.Tests.{eq-eqb, ne-eqb}
+use borrow.Author.Tests.{eq-eqb}
 use Rattle.rules.specs.declared.Request.{Request}
-use Rattle.rules.specs.declared.Refusal.the-variants.{WrongPhase, BatchOpen, NoBatch, AlreadyPending, RowsFull, NoSuchRow, NotMirrored, MarginBroken, Uncovered}
+use Rattle.rules.specs.declared.Refusal.the-variants.{BatchOpen, NoBatch, AlreadyPending, RowsFull, NoSuchRow, NotMirrored, MarginBroken, Uncovered}
 use Rattle.rules.specs.Basics.{any, isSome, nth}
 use Rattle.rules.specs.Limits.{mostRows}
 use Rattle.rules.specs.Verdicts.{lowest}
@@ -17,15 +17,10 @@ use Rattle.rules.specs.Books.{Book, noRow, operatorOf}
 use Rattle.rules.specs.Requests.{Kind, register, confirm, withdraw, guarantee, openBatch, undo, keep, closeGate, kindNumber}
 use Rattle.rules.specs.Registration.{alike, confirms, withdraws, mirrors, brokenHour, covered}
 use Rattle.rules.specs.Calls.{_∈_, confirmedNumber, next, phaseOf, stateChecks}
-use Rattle.rules.proofs.Clearing.{Clear, clear}
 use Rattle.rules.proofs.KindTables.{same-kind}
 use Rattle.rules.proofs.Passed.{passed-12, passed-13}
-use Rattle.registration.specs.Kinds.{decided}
-
--- where nothing is decided every check passed
-pub decided-clear : (k : Kind) (b : Book) (q : Request) → decided k b q ≡ none → Clear (stateChecks b k q)
-unfolding decided
-decided-clear k b q e = clear (stateChecks b k q) e
+use Rattle.book.specs.Kinds.{decided}
+use Rattle.book.proofs.Answers.{decided-clear}
 
 -- ---- a kind of a list is one of it
 
@@ -43,11 +38,6 @@ module _ (P : Kind → Type 0) (i j k : Kind) where
 -- ---- the tests
 
 module _ (b : Book) (q : Request) where
-  -- 11, of every kind
-  pub in-wrong-phase : (k : Kind) → (b .phase ≡ phaseOf k → ⊥) → decided k b q ≡ some WrongPhase
-  unfolding decided stateChecks lowest
-  in-wrong-phase k n = rw (ne-eqb _ _ n)
-
   module _ (first : b .phase ≡ 1) where
     -- 12, of opening a batch and of closing the gate
     pub with-batch : (k : Kind) → k ∈ (openBatch ∷ closeGate ∷ []) ≡ true → isSome (b .saved) ≡ true → decided k b q ≡ some BatchOpen

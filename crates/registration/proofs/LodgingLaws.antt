@@ -25,15 +25,14 @@ use Rattle.rules.specs.Registration.{exposure, available, covered}
 use Rattle.rules.specs.Calls.{next, given, stateChecks}
 use Rattle.rules.proofs.Tests.{within-true}
 use Rattle.rules.proofs.Passed.{field-in-range}
-use Rattle.book.specs.Layout.{presentAt}
-use Rattle.book.specs.Valid.{isBook, bookIn}
-use Rattle.book.proofs.BookWrites.{write-guarantee}
-use Rattle.book.proofs.KeepsKinds.{guarantee-keeps}
+use Rattle.image.specs.Layout.{presentAt}
+use Rattle.image.specs.Valid.{isBook, bookIn}
+use Rattle.image.proofs.BookWrites.{write-guarantee}
+use Rattle.image.proofs.KeepsKinds.{guarantee-keeps}
+use Rattle.book.specs.Kinds.{decided, Ready}
 use Rattle.book.proofs.StateLaws.{book-image, book-fits, book-is-sound}
-use Rattle.registration.specs.Kinds.{decided, Ready}
-use Rattle.registration.proofs.Decisions.{decided-clear}
-use Rattle.registration.proofs.Readiness.{bare, ready-input}
-use Rattle.registration.proofs.Answers.{Answered, accepted-answered}
+use Rattle.book.proofs.Answers.{decided-clear, Answered, accepted-answered}
+use Rattle.book.proofs.Readiness.{bare, ready-input}
 use Rattle.registration.proofs.CoverLaws.{covered-by}
 
 -- ---- a request that is ready

@@ -11,22 +11,19 @@ use lib.Dec.{leb}
 use borrow.Author.Tests.{le-leb, leb-true, lt-leb}
 use Rattle.rules.specs.declared.Account.{Account}
 use Rattle.rules.specs.declared.AccountHour.{AccountHour}
-use Rattle.rules.specs.declared.Counts.{Counts}
 use Rattle.rules.specs.declared.Row.{Row}
-use Rattle.rules.specs.Basics.{find, nth, counting}
-use Rattle.rules.specs.Limits.{mostHours, mostAccounts, mostEnergy}
-use Rattle.rules.specs.Books.{Setup, noAccount, accountAt, accountCount}
-use Rattle.rules.specs.Opening.{countsIn, accountsIn, setupOf}
+use Rattle.rules.specs.Basics.{find, counting}
+use Rattle.rules.specs.Limits.{mostEnergy}
+use Rattle.rules.specs.Books.{Setup, accountAt, accountCount}
 use Rattle.rules.specs.Registration.{pending, confirmed, covers, bought, sold, netOf, pendingSales, pendingPurchases, accountHour, takes, keepsMargins}
 use Rattle.rules.proofs.Tests.{test-same}
-use Rattle.book.specs.Valid.{isBook, bookIn}
+use Rattle.image.specs.Valid.{isBook, bookIn}
 use Rattle.book.specs.Netted.{netted}
 use Rattle.book.specs.Waits.{waitCell, WaitsOf, nettedHour}
 use Rattle.book.proofs.StateLaws.{book-is-sound, row-count-high}
 use Rattle.book.proofs.ReadingLaws.{net-near}
 use Rattle.book.proofs.NettedLaws.{netted-difference}
 use Rattle.book.proofs.WaitLaws.{side-hour}
-use Rattle.book.proofs.BookRows.{counts-in, setup-in}
 use Rattle.registration.specs.Margins.{brokenBy, broken}
 use Rattle.registration.specs.declared.margins.Broken.the-variants.{Hour, Nowhere}
 use Rattle.registration.proofs.SearchLaws.{find-span}
@@ -34,20 +31,6 @@ use Rattle.registration.proofs.SearchLaws.{find-span}
 -- ---- what is read of a book
 
 module _ (s : List ℕ) (h : isBook s ≡ true) where
-  pub hours-read : (n : Counts) → n ≡ countsIn s → n .hours ≡ bookIn s .setup .hours
-  hours-read n e = ap (λ (m : Counts). m .hours) (e ∙ sym (counts-in s h))
-
-  pub account-read : (x : Account) (a : ℕ) → x ≡ nth (accountsIn s) a noAccount → x ≡ accountAt (bookIn s .setup) a
-  unfolding setupOf
-  account-read x a e = e ∙ ap (λ (u : Setup). accountAt u a) (sym (setup-in s h))
-
-  pub accounts-read : (a : ℕ) → a ≤ accountCount (bookIn s .setup) → (a ≤ countsIn s .accounts) × (a ≤ mostAccounts)
-  accounts-read a l =
-      (omega (arith, ap (λ (m : Counts). m .accounts) (counts-in s h)), omega (arith, book-is-sound s h .setup-sound .accounts-high))
-
-  pub hours-few : bookIn s .setup .hours ≤ mostHours
-  hours-few = book-is-sound s h .setup-sound .hours-high
-
   -- the net position of an hour by itself, and what waits, have room for a trade
   pub hour-room : (waits : List ℕ) (q a k : ℕ) (x : AccountHour) → (1 ≤ a) × (a ≤ accountCount (bookIn s .setup)) → (1 ≤ k) × (k ≤ bookIn s .setup .hours)
       → WaitsOf (bookIn s .part .rows) a waits → q ≤ mostEnergy → x ≡ nettedHour (bookIn s .part .rows) a k

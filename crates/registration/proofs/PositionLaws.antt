@@ -6,8 +6,8 @@ use Rattle.wire.specs.Parts.{sweep}
 use Rattle.rules.specs.declared.Row.{Row}
 use Rattle.rules.specs.Limits.{mostHours}
 use Rattle.rules.specs.Registration.{seller, buyer}
-use Rattle.book.specs.Layout.{presentAt, netAt}
-use Rattle.book.specs.Changes.{raised}
+use Rattle.image.specs.Layout.{presentAt, netAt}
+use Rattle.image.specs.Changes.{raised}
 
 -- the seller's nets from `low` on are lowered, then the buyer's from `high` on are raised
 pub nets-moved : (s m t : List ℕ) (r : Row) (a b low high n less : ℕ) → a ≡ seller r → b ≡ buyer r

@@ -12,6 +12,7 @@ use borrow.Author.Tests.{eq-eqb, le-leb, lt-leb}
 use Rattle.wire.specs.Numbers.{le}
 use Rattle.wire.specs.Regions.{splice}
 use Rattle.wire.specs.Parts.{flat, pieces, pack, Small}
+use Rattle.wire.proofs.NumberLaws.{byte}
 use Rattle.rules.specs.declared.Row.{Row}
 use Rattle.rules.specs.declared.Request.{Request}
 use Rattle.rules.specs.declared.Refusal.the-variants.{AlreadyPending, RowsFull, MarginBroken, Uncovered}
@@ -20,25 +21,23 @@ use Rattle.rules.specs.Limits.{mostHours, mostRows, bookSize}
 use Rattle.rules.specs.Verdicts.{lowest, accepted}
 use Rattle.rules.specs.Books.{Setup, Book, accountAt, operatorOf}
 use Rattle.rules.specs.Requests.{register}
-use Rattle.rules.specs.Registration.{alike, proposed, accountHour, takes, keepsMargins, brokenHour, available, covered}
+use Rattle.rules.specs.Registration.{alike, proposed, accountHour, takes, keepsMargins, brokenHour, available, covered, exposureWith}
 use Rattle.rules.specs.Calls.{next, given, stateChecks}
 use Rattle.rules.proofs.AccountHours.{hour-takes}
 use Rattle.rules.proofs.Passed.{passed-15}
-use Rattle.book.specs.Layout.{rowWidths, presentAt, rowAt, rowCountAt}
-use Rattle.book.specs.Image.{rowValues, rowBytes}
-use Rattle.book.specs.Valid.{isBook, bookIn}
-use Rattle.book.specs.Worth.{exposureWith}
-use Rattle.book.proofs.Soundness.{SoundRow}
-use Rattle.book.proofs.Sizes.{row-small}
-use Rattle.book.proofs.BookWrites.{write-register}
-use Rattle.book.proofs.KeepsKinds.{proposed-sound, register-keeps}
+use Rattle.image.specs.Layout.{rowWidths, presentAt, rowAt, rowCountAt}
+use Rattle.image.specs.Image.{rowValues, rowBytes}
+use Rattle.image.specs.Valid.{isBook, bookIn}
+use Rattle.image.proofs.Soundness.{SoundRow}
+use Rattle.image.proofs.Sizes.{row-small}
+use Rattle.image.proofs.BookWrites.{write-register}
+use Rattle.image.proofs.KeepsKinds.{proposed-sound, register-keeps}
+use Rattle.book.specs.Kinds.{decided, Ready}
 use Rattle.book.proofs.StateLaws.{book-image, book-fits, book-is-sound}
 use Rattle.book.proofs.WorthLaws.{with-proposed}
-use Rattle.registration.specs.Kinds.{decided, Ready}
+use Rattle.book.proofs.Answers.{decided-clear, Answered, accepted-answered}
+use Rattle.book.proofs.Readiness.{bare, ready-input}
 use Rattle.registration.specs.Margins.{brokenBy}
-use Rattle.registration.proofs.Decisions.{decided-clear}
-use Rattle.registration.proofs.Answers.{Answered, accepted-answered}
-use Rattle.registration.proofs.Readiness.{bare, ready-input}
 use Rattle.registration.proofs.SearchLaws.{find-cong}
 use Rattle.registration.proofs.CoverLaws.{covered-at}
 
@@ -116,10 +115,6 @@ pub few-rows : (b : Book) (q : Request) → decided register b q ≡ none → le
 few-rows b q d = passed-15 b q (decided-clear register b q d)
 
 -- ---- what is written
-
--- a number that fits a byte is its low byte
-pub byte : (v : ℕ) → v < 256 → v % 256 ≡ v
-byte v h = omega arith
 
 -- the 18 bytes of a row whose values fit them
 pub row-literal : (r : Row) → Small rowWidths (rowValues r)

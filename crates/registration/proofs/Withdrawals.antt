@@ -12,8 +12,8 @@ use Rattle.rules.specs.declared.Request.{Request}
 use Rattle.rules.specs.Registration.{withdraws}
 use Rattle.rules.proofs.Tests.{and-both}
 use Rattle.rules.proofs.AccountHours.{pending-inside}
-use Rattle.book.specs.Layout.{presentAt, rowAt, statusIn}
-use Rattle.book.specs.Valid.{isBook, bookIn}
+use Rattle.image.specs.Layout.{presentAt, rowAt, statusIn}
+use Rattle.image.specs.Valid.{isBook, bookIn}
 use Rattle.book.proofs.StateLaws.{numbered-value-stands}
 
 -- no row has that number

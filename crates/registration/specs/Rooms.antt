@@ -5,7 +5,7 @@ use mathlib.Core.List.{List}
 use lib.ListN.{take, drop}
 use Rattle.wire.specs.Parts.{zeros}
 use Rattle.rules.specs.Limits.{mostRows}
-use Rattle.book.specs.Layout.{rowWidth, rowAt}
+use Rattle.image.specs.Layout.{rowWidth, rowAt}
 
 -- the part that begins at `at` has no row past the first n: up to the net positions all is zero
 unfoldable pub NoRowsPast : List ℕ → ℕ → ℕ → Type 0

@@ -3,13 +3,12 @@ ghost use mathlib.Core.Path.{_≡_};
 ghost use mathlib.Core.Bool.{true};
 ghost use Prim.Native.Nat.{_-_, _*_, _≤_};
 ghost use lib.Dec.{leb};
-ghost use Rattle.rules.specs.Limits.{mostOperators, mostGuarantee, thousand};
-ghost use Rattle.rules.specs.Books.{maintenanceAt, guaranteeAt, operatorOf, operatorCount, accountCount};
+ghost use Rattle.rules.specs.Limits.{mostGuarantee, thousand};
+ghost use Rattle.rules.specs.Books.{maintenanceAt, guaranteeAt, operatorCount};
 ghost use Rattle.rules.specs.Registration.{available};
-ghost use Rattle.book.specs.Valid.{isBook, bookIn};
-use book::layout::GUARANTEE_WIDTH;
-use book::layout::PRESENT_AT;
-use setup::entries::account;
+ghost use Rattle.image.specs.Valid.{isBook, bookIn};
+use image::layout::GUARANTEE_WIDTH;
+use image::layout::PRESENT_AT;
 use setup::entries::operator;
 use units::Cents;
 use units::MilliCents;
@@ -32,16 +31,6 @@ pub fn is_covered(book: &[u8], owed: MilliCents, guarantee: Cents, number: u8) -
     let owner = operator(book, number);
     let limit = guarantee.available(owner.maintenance);
     owed.at_most(limit)
-}
-
-// The operator of an account.
-pub fn operator_of(book: &[u8], number: u8) -> u8
-    requires { ⌜ (isBook (now book) ≡ true) × (1 ≤ number) × (number ≤ accountCount (bookIn (now book) .setup)) ⌝ }
-    ensures meaning { λ r. ⌜ r ≡ operatorOf (bookIn (now (book .entry)) .setup) number ⌝ }
-    ensures inside { λ r. ⌜ (1 ≤ r) × (r ≤ operatorCount (bookIn (now (book .entry)) .setup)) × (r ≤ mostOperators) ⌝ }
-{
-    let owner = account(book, number);
-    owner.operator
 }
 
 // Whether the operator's guarantee in force covers what it owes.

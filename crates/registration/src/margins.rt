@@ -4,14 +4,14 @@ ghost use mathlib.Core.Bool.{true};
 ghost use Prim.Native.Nat.{_≤_};
 ghost use Rattle.rules.specs.Limits.{mostEnergy};
 ghost use Rattle.rules.specs.Books.{accountCount};
-ghost use Rattle.book.specs.Valid.{isBook, bookIn};
+ghost use Rattle.image.specs.Valid.{isBook, bookIn};
 ghost use Rattle.book.specs.Waits.{WaitsOf};
 ghost use Rattle.registration.specs.Margins.{brokenBy, broken};
-use book::margins::keeps_margins;
 use book::waits::fill_waits;
 use book::waits::held_hour;
 use book::waits::no_waits;
 use rules::Row;
+use rules::hours::keeps_margins;
 use setup::entries::account;
 
 // What the search finds: the lowest hour that breaks a margin, or none.

@@ -1,14 +1,19 @@
 -- Differences of natural numbers: they are compared, added to and negated by their parts.
-use Prim.Native.Nat.{ℕ, zero, suc, _+_, _-_, _≤_}
+use Prim.Native.Nat.{ℕ, zero, suc, _+_, _-_, _≤_, _<_}
 use mathlib.Core.Path.{_≡_, refl, sym, ap, _∙_}
-use mathlib.Core.Logic.{_↔_}
+use mathlib.Core.Logic.{_↔_, _⊎_, inl, inr, ⊎-elim}
 use mathlib.Core.Bool.{Bool, true, false, cond}
+use native.Mathlib.Nat.{eq-zero-or-pos}
 use native.Mathlib.Omega.{arith}
 use lib.Dec.{T, leb, ltb}
 use lib.IntN.{ℤ, pos, negsuc, negℤ, natAbs, subℕ, _+ℤ_, _-ℤ_, +ℤ-idr}
 use lib.Signed.{leZ, _≤ℤ_, leZ-yes}
 use borrow.Author.Tests.{ltb-true, ltb-false, leb-true, le-leb, lt-leb, lt-ltb, le-ltb}
 use Rattle.rules.proofs.Tests.{test-same}
+
+-- of two numbers, the first is below the second or it is not
+pub lt-or-ge : (a b : ℕ) → (a < b) ⊎ (b ≤ a)
+lt-or-ge a b = ⊎-elim (λ (z : b - a ≡ 0). inr (omega arith)) (λ (z : 0 < b - a). inl (omega arith)) (eq-zero-or-pos (b - a))
 
 same-go : (a b c d : ℕ) (s t : Bool) → ltb a b ≡ s → ltb c d ≡ t → a + d ≡ c + b
     → cond s (negsuc (b - suc a)) (pos (a - b)) ≡ cond t (negsuc (d - suc c)) (pos (c - d))

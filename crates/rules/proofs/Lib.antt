@@ -55,3 +55,5 @@ pub mod Figures
 pub mod SettledApart
 -- LedgerDay: after any list of calls on a day, readings and an accepted settle are the ledger's.
 pub mod LedgerDay
+-- CountingLaws: a loop that counts up, as a test of every number and as a sum.
+pub mod CountingLaws

@@ -180,6 +180,10 @@ exposureOf u holds o = ofOperator u (λ a. total (λ h. estimateAt u h .0 * expo
 abbrev pub exposure : Setup → List Row → ℕ → ℕ
 exposure u rows o = exposureOf u (accountHour rows) o
 
+-- the operator's exposure once the trade is taken
+abbrev pub exposureWith : Setup → List Row → Row → ℕ → ℕ
+exposureWith u rows trade o = exposureOf u (λ a h. takes a h (accountHour rows a h) trade) o
+
 -- guarantee times (1000 - m)
 unfoldable pub available : Setup → Part → ℕ → ℕ
 available u p o = guaranteeAt (p .guarantees) o .0 * (thousand - maintenanceAt u o)

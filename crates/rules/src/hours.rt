@@ -1,10 +1,11 @@
 // What an account holds in an hour, after one trade more.
 ghost use mathlib.Core.Path.{_≡_};
 ghost use mathlib.Core.Bool.{_&&_};
-ghost use Prim.Native.Nat.{_+_, _^_, _≤_, _<_};
+ghost use Prim.Native.Nat.{_+_, _-_, _^_, _≤_, _<_};
 ghost use lib.Dec.{eqb};
 ghost use Rattle.rules.specs.Basics.{if_then_else_};
-ghost use Rattle.rules.specs.Registration.{confirmed, pending, buyer, seller, covers, counted, takes};
+ghost use Rattle.rules.specs.Registration.{confirmed, pending, buyer, seller, covers, counted, takes, keepsMargins};
+use crate::Account;
 use crate::AccountHour;
 use crate::Net;
 use crate::Row;
@@ -77,4 +78,27 @@ impl AccountHour {
             purchases: self.purchases.plus(purchases),
         }
     }
+}
+
+// What of a net position lies below zero.
+pub fn short(net: Net) -> Kwh
+    ensures { λ r. ⌜ r .0 ≡ net .sold .0 - net .bought .0 ⌝ }
+{
+    if net.bought.0 < net.sold.0 {
+        return Kwh(net.sold.0 - net.bought.0);
+    }
+    Kwh(0)
+}
+
+// Whether both margins of the account are kept.
+pub fn keeps_margins(account: Account, x: AccountHour) -> bool
+    ensures { λ r. ⌜ r ≡ keepsMargins account x ⌝ }
+{
+    let bought = x.net.bought.0 as u64;
+    let sold = x.net.sold.0 as u64;
+    let sales = x.sales.0 as u64;
+    let purchases = x.purchases.0 as u64;
+    let lower = account.lower.0 as u64;
+    let upper = account.upper.0 as u64;
+    (sold + sales <= bought + lower) & (bought + purchases <= sold + upper)
 }

@@ -20,10 +20,10 @@ use Rattle.rules.specs.Settlement.{Judged, congruous, used, accountOf}
 use Rattle.rules.proofs.Tests.{test-same, and-both}
 use Rattle.rules.proofs.Totals.{total-same}
 use Rattle.rules.proofs.Searches.{each-map}
-use Rattle.book.specs.Valid.{scheduleOk}
-use Rattle.book.specs.Sums.{Room}
-use Rattle.book.proofs.Soundness.{sound-schedule}
-use Rattle.book.proofs.SumLaws.{lt-or-ge}
+use Rattle.rules.proofs.Differences.{lt-or-ge}
+use Rattle.image.specs.Valid.{scheduleOk}
+use Rattle.image.specs.Tables.{Room}
+use Rattle.image.proofs.Soundness.{sound-schedule}
 use Rattle.settlement.specs.Tables.{cellFor, pointCells, accountCells, usedUp, fallsTo, UsedBy}
 use Rattle.settlement.specs.Congruity.{InCells, nothingUsed}
 

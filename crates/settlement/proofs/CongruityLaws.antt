@@ -21,12 +21,11 @@ use Rattle.rules.specs.Opening.{countsIn, pointsIn, setupOf}
 use Rattle.rules.specs.Settlement.{Judged, used, accountOf, sameHourSide, pointLimit, accountLimit, metPrice, taken, judge, priceCount}
 use Rattle.rules.proofs.Searches.{each-nth, each-map}
 use Rattle.setup.specs.Faults.{Whole}
-use Rattle.book.specs.Valid.{isBook, scheduleOk}
-use Rattle.book.proofs.Soundness.{SoundSchedule, sound-schedule}
-use Rattle.book.proofs.SetupRanges.{SoundPoint}
+use Rattle.image.specs.Valid.{isBook, scheduleOk}
+use Rattle.image.proofs.Soundness.{SoundSchedule, sound-schedule}
+use Rattle.image.proofs.SetupRanges.{SoundPoint}
 use Rattle.book.proofs.StateLaws.{book-is-sound}
-use Rattle.book.proofs.BookRows.{counts-in, setup-in, setup-tabled, values-in}
-use Rattle.registration.proofs.MarginLaws.{hours-read, hours-few}
+use Rattle.book.proofs.BookRows.{counts-in, setup-in, setup-tabled, values-in, hours-read, hours-few}
 use Rattle.settlement.specs.Tables.{Priced, OnPoint, setupIn, netsIn, pricesOf, cellFor, pointCells, UsedBy}
 use Rattle.settlement.specs.Congruity.{InCells, greatest, leftBy, priceNumber, takenAt, resultBy}
 use Rattle.settlement.proofs.CellLaws.{used-in-cell}

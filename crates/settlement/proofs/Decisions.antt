@@ -12,8 +12,8 @@ use Rattle.rules.specs.Books.{Book}
 use Rattle.rules.specs.Requests.{schedule}
 use Rattle.rules.specs.Calls.{stateChecks}
 use Rattle.rules.proofs.Passed.{passed-20}
-use Rattle.registration.specs.Kinds.{decided}
-use Rattle.registration.proofs.Decisions.{decided-clear}
+use Rattle.book.specs.Kinds.{decided}
+use Rattle.book.proofs.Answers.{decided-clear}
 
 module _ (b : Book) (q : Request) (second : b .phase ≡ 2) where
   -- 20

@@ -20,11 +20,11 @@ use Rattle.rules.specs.Settlement.{placed, insert, prioritised}
 use Rattle.rules.proofs.Searches.{each-at, each-map}
 use Rattle.rules.proofs.PriorityLaws.{insert-cases}
 use Rattle.priority.specs.Order.{noPlaced}
-use Rattle.book.specs.Layout.{scheduleWidth, schedulesAt}
-use Rattle.book.specs.Image.{scheduleBytes, scheduleIn}
-use Rattle.book.specs.Valid.{isBook, bookIn}
-use Rattle.book.proofs.ImageReads.{schedule-read}
-use Rattle.book.proofs.Round.{schedule-back}
+use Rattle.image.specs.Layout.{scheduleWidth, schedulesAt}
+use Rattle.image.specs.Image.{scheduleBytes, scheduleIn}
+use Rattle.image.specs.Valid.{isBook, bookIn}
+use Rattle.image.proofs.ImageReads.{schedule-read}
+use Rattle.image.proofs.Round.{schedule-back}
 use Rattle.book.proofs.StateLaws.{book-image, book-fits, book-is-sound}
 use Rattle.settlement.specs.Judging.{nonePlaced}
 

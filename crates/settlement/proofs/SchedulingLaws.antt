@@ -9,24 +9,23 @@ use lib.ListN.{length}
 use Rattle.wire.specs.Numbers.{le}
 use Rattle.wire.specs.Regions.{splice}
 use Rattle.wire.specs.Parts.{flat, pieces, pack, Small}
+use Rattle.wire.proofs.NumberLaws.{byte}
 use Rattle.rules.specs.declared.Schedule.{Schedule}
 use Rattle.rules.specs.declared.Request.{Request}
 use Rattle.rules.specs.Limits.{mostHours, bookSize}
 use Rattle.rules.specs.Verdicts.{accepted}
 use Rattle.rules.specs.Requests.{schedule}
 use Rattle.rules.specs.Calls.{scheduled, given}
-use Rattle.book.specs.Layout.{scheduleWidths, scheduleWidth, schedulesAt, scheduleCountAt}
-use Rattle.book.specs.Image.{scheduleValues, scheduleBytes}
-use Rattle.book.specs.Valid.{isBook, bookIn}
-use Rattle.book.proofs.Sizes.{schedule-small}
-use Rattle.book.proofs.BookWrites.{write-schedule}
-use Rattle.book.proofs.KeepsKinds.{scheduled-sound, schedule-keeps}
+use Rattle.image.specs.Layout.{scheduleWidths, scheduleWidth, schedulesAt, scheduleCountAt}
+use Rattle.image.specs.Image.{scheduleValues, scheduleBytes}
+use Rattle.image.specs.Valid.{isBook, bookIn}
+use Rattle.image.proofs.Sizes.{schedule-small}
+use Rattle.image.proofs.BookWrites.{write-schedule}
+use Rattle.image.proofs.KeepsKinds.{scheduled-sound, schedule-keeps}
+use Rattle.book.specs.Kinds.{decided, Ready}
 use Rattle.book.proofs.StateLaws.{book-image, book-fits, book-is-sound}
-use Rattle.registration.specs.Kinds.{decided, Ready}
-use Rattle.registration.proofs.Decisions.{decided-clear}
-use Rattle.registration.proofs.Answers.{Answered, accepted-answered}
-use Rattle.registration.proofs.Readiness.{bare, ready-input}
-use Rattle.registration.proofs.ProposalLaws.{byte}
+use Rattle.book.proofs.Answers.{decided-clear, Answered, accepted-answered}
+use Rattle.book.proofs.Readiness.{bare, ready-input}
 use Rattle.settlement.proofs.Decisions.{few-schedules}
 
 -- the values of a schedule that is ready fit their bytes

@@ -24,14 +24,14 @@ use Rattle.rules.proofs.Searches.{each-map, counting-length}
 use Rattle.rules.proofs.Passed.{Passed, passed-2, passed-kind, readable}
 use Rattle.rules.proofs.CallLists.{accepts-passed}
 use Rattle.records.proofs.ReadingLaws.{kind-third}
-use Rattle.book.specs.Valid.{valid}
-use Rattle.day.proofs.SettleLaws.{worked, balances-many, settle-writes, balances-small}
 use Rattle.items.specs.Stream.{recordLength}
 use Rattle.items.specs.Written.{Written}
 use Rattle.items.specs.Figures.{SmallFigure, settledText}
 use Rattle.items.proofs.StreamLaws.{record-bytes, record-within}
 use Rattle.items.proofs.WrittenLaws.{written-then}
 use Rattle.items.proofs.SettledLaws.{SmallBalances, settled-text, settled-small}
+use Rattle.image.specs.Valid.{valid}
+use Rattle.day.proofs.SettleLaws.{worked, balances-many, settle-writes, balances-small}
 use Rattle.walk.specs.Lent.{answerText}
 
 -- ---- which items settle

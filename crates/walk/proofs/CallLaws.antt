@@ -10,12 +10,12 @@ use Rattle.rules.specs.declared.Outcome.{Outcome}
 use Rattle.rules.specs.Limits.{mostSchedules, mostOperators}
 use Rattle.rules.specs.Calls.{Call, step}
 use Rattle.rules.specs.Replay.{callOf}
-use Rattle.book.specs.Valid.{isBook, bookIn}
+use Rattle.items.specs.Stream.{recordLength}
+use Rattle.items.proofs.StreamLaws.{call-parts}
+use Rattle.image.specs.Valid.{isBook, bookIn}
 use Rattle.day.specs.Doors.{inBytes, callAnswer, callWith}
 use Rattle.day.proofs.DoorLaws.{call-on-book}
 use Rattle.day.proofs.CallLaws.{BookInParts}
-use Rattle.items.specs.Stream.{recordLength}
-use Rattle.items.proofs.StreamLaws.{call-parts}
 
 module _ (s item : List ℕ) (h : isBook s ≡ true) where
   -- the prices, as the code cuts them out

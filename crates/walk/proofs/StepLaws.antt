@@ -19,15 +19,15 @@ use Rattle.rules.specs.Opening.{setupRefusal, openOutcome, opened}
 use Rattle.rules.specs.Requests.{unlessRefused}
 use Rattle.rules.specs.Calls.{step}
 use Rattle.rules.specs.Replay.{Line, answered, callOf, answerLines, cut, long, lineText, text}
-use Rattle.book.specs.Valid.{isBook, bookBytes}
-use Rattle.book.specs.Doors.{openBytes}
-use Rattle.book.proofs.Opened.{opened-is-book}
-use Rattle.book.proofs.OpeningLaws.{setup-decides}
 use Rattle.items.specs.declared.Found.the-variants.{Whole, Cut, End}
 use Rattle.items.specs.Stream.{foundAt}
 use Rattle.items.specs.Written.{Written}
 use Rattle.items.proofs.WrittenLaws.{written-as}
 use Rattle.items.proofs.SettledLaws.{text-one}
+use Rattle.image.specs.Valid.{isBook, bookBytes}
+use Rattle.image.proofs.Opened.{opened-is-book}
+use Rattle.book.specs.Doors.{openBytes}
+use Rattle.book.proofs.OpeningLaws.{setup-decides}
 use Rattle.walk.specs.declared.Walked.{Walked}
 use Rattle.walk.specs.Walk.{Step, endsAfter, goesOnAfter, itemIn, openStep, firstStep, beginning, itemStep, stepAt}
 use Rattle.walk.specs.Lent.{stepRoom, nextOf, walked, bookOn, printed}

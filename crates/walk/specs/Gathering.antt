@@ -6,7 +6,7 @@ use mathlib.Core.Bool.{true}
 use lib.ListN.{length, take}
 use Rattle.rules.specs.Basics.{if_then_else_}
 use Rattle.rules.specs.Replay.{text}
-use Rattle.book.specs.Valid.{isBook, bookIn}
+use Rattle.image.specs.Valid.{isBook, bookIn}
 use Rattle.walk.specs.declared.Gathered.{Gathered}
 use Rattle.walk.specs.Walk.{linesFrom}
 

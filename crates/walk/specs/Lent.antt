@@ -9,9 +9,9 @@ use Rattle.rules.specs.Basics.{isSome}
 use Rattle.rules.specs.Limits.{mostSchedules, mostOperators}
 use Rattle.rules.specs.Verdicts.{numbers}
 use Rattle.rules.specs.Replay.{answered, lineText, text}
-use Rattle.book.specs.Valid.{bookBytes}
 use Rattle.items.specs.Written.{lineRoom}
 use Rattle.items.specs.Figures.{settledText}
+use Rattle.image.specs.Valid.{bookBytes}
 use Rattle.walk.specs.declared.Walked.{Walked}
 use Rattle.walk.specs.Walk.{Onward, Step}
 

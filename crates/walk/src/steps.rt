@@ -6,7 +6,7 @@ ghost use lib.ListN.{length};
 ghost use Rattle.wire.specs.Regions.{splice};
 ghost use Rattle.rules.specs.Limits.{bookSize};
 ghost use Rattle.rules.specs.Opening.{setupRefusal};
-ghost use Rattle.book.specs.Valid.{isBook, bookIn};
+ghost use Rattle.image.specs.Valid.{isBook, bookIn};
 ghost use Rattle.walk.specs.Walk.{beginning, stepAt, openStep};
 ghost use Rattle.walk.specs.Lent.{stepRoom, walked, bookOn, printed};
 use crate::Walked;

@@ -9,7 +9,7 @@ use borrow.Author.Needs.{needs}
 use Rattle.rules.specs.Basics.{any}
 use Rattle.rules.specs.Limits.{mostEnergy, mostRows}
 use Rattle.rules.specs.Registration.{alike}
-use Rattle.book.specs.Valid.{bookIn}
+use Rattle.image.specs.Valid.{bookIn}
 use Rattle.book.proofs.WaitLaws.{Waiting, length-no-waits, waiting-first, waiting-next, waiting-last, told-next, told-last}
 use Rattle.book.proofs.waits.fill_waits.Statement.{statement}
 use Rattle.book.proofs.waits.fill_waits.Tie as tie

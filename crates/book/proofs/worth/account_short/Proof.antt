@@ -6,10 +6,10 @@ use borrow.Author.Needs.{needs}
 use Rattle.rules.specs.declared.Counts.{Counts}
 use Rattle.rules.specs.Basics.{total, counting}
 use Rattle.rules.specs.Limits.{mostEnergy, mostPrice, mostHours}
-use Rattle.book.specs.Valid.{bookIn}
-use Rattle.book.proofs.StateLaws.{book-length, book-is-sound}
-use Rattle.book.proofs.CountingLaws.{sum-begins, sum-next, sum-done}
+use Rattle.rules.proofs.CountingLaws.{sum-begins, sum-next, sum-done}
+use Rattle.image.specs.Valid.{bookIn}
 use Rattle.book.specs.Worth.{netWith}
+use Rattle.book.proofs.StateLaws.{book-length, book-is-sound}
 use Rattle.book.proofs.WorthParts.{hours-in}
 use Rattle.book.proofs.ShortLaws.{hourShort, hour-short-read, short-most, short-by-hour}
 use Rattle.book.proofs.worth.account_short.Statement.{statement}

@@ -7,7 +7,7 @@ use borrow.Author.Needs.{needs}
 use Rattle.units.specs.declared.CentsPerMwh.{CentsPerMwh}
 use Rattle.rules.specs.declared.Counts.{Counts}
 use Rattle.rules.specs.Limits.{mostHours}
-use Rattle.book.specs.Valid.{bookIn}
+use Rattle.image.specs.Valid.{bookIn}
 use Rattle.book.proofs.StateLaws.{book-length, book-is-sound}
 use Rattle.book.proofs.WorthParts.{SummedTo, summed-first, summed-next, summed-done, hours-in, prices-most, cheap-in}
 use Rattle.book.proofs.worth.fill_prices.Statement.{statement}

@@ -8,7 +8,7 @@ use borrow.Author.Needs.{needs}
 use Rattle.rules.specs.Basics.{total}
 use Rattle.rules.specs.Limits.{mostEnergy, mostPrice, mostHours, mostRows}
 use Rattle.rules.specs.Opening.{countsIn, accountsFrom}
-use Rattle.book.specs.Valid.{bookIn}
+use Rattle.image.specs.Valid.{bookIn}
 use Rattle.book.specs.Worth.{saleWorth}
 use Rattle.book.proofs.StateLaws.{book-length}
 use Rattle.book.proofs.WorthParts.{rows-next, rows-done}

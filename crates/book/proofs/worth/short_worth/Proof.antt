@@ -8,10 +8,10 @@ use Rattle.rules.specs.Basics.{total, counting}
 use Rattle.rules.specs.Limits.{mostEnergy, mostPrice, mostHours, mostAccounts}
 use Rattle.rules.specs.Books.{accountCount}
 use Rattle.rules.specs.Opening.{countsIn, accountsFrom}
-use Rattle.book.specs.Valid.{bookIn}
-use Rattle.book.proofs.StateLaws.{book-length, book-is-sound}
-use Rattle.book.proofs.CountingLaws.{sum-begins, sum-next, sum-done}
+use Rattle.rules.proofs.CountingLaws.{sum-begins, sum-next, sum-done}
+use Rattle.image.specs.Valid.{bookIn}
 use Rattle.book.specs.Worth.{shortShare, netWith}
+use Rattle.book.proofs.StateLaws.{book-length, book-is-sound}
 use Rattle.book.proofs.WorthParts.{accounts-in}
 use Rattle.book.proofs.ShortLaws.{short-by-account}
 use Rattle.book.proofs.worth.short_worth.Statement.{statement}

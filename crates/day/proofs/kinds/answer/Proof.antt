@@ -6,7 +6,7 @@ use denote.Ref.{now}
 use Rattle.rules.specs.Verdicts.{lowest}
 use Rattle.rules.specs.Books.{countsOf}
 use Rattle.rules.specs.Requests.{rangeChecks}
-use Rattle.book.specs.Valid.{bookIn}
+use Rattle.image.specs.Valid.{bookIn}
 use Rattle.book.proofs.StateLaws.{book-length}
 use Rattle.day.proofs.RequestLaws.{ranges-found, in-range-ready, refused-saying, kind-saying}
 use borrow.Author.Needs.{needs}

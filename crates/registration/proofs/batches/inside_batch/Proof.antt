@@ -1,7 +1,8 @@
 -- The tests of the two kinds, in the order of their numbers.
 use mathlib.Core.Path.{sym, ap, _∙_}
 use Rattle.rules.specs.Verdicts.{checked}
-use Rattle.registration.proofs.Decisions.{in-wrong-phase, without-batch, inside-batch, phase-inside}
+use Rattle.book.proofs.Answers.{in-wrong-phase}
+use Rattle.registration.proofs.Decisions.{without-batch, inside-batch, phase-inside}
 use borrow.Author.Needs.{needs}
 use Rattle.registration.proofs.batches.inside_batch.Statement.{statement}
 use Rattle.registration.proofs.batches.inside_batch.Tie as tie

@@ -8,11 +8,11 @@ use Rattle.rules.specs.declared.Request.{Request}
 use Rattle.rules.specs.Basics.{isSome}
 use Rattle.rules.specs.Requests.{keep, requestOf}
 use Rattle.rules.proofs.Clearing.{checked-same}
-use Rattle.book.specs.Valid.{bookIn}
+use Rattle.image.specs.Valid.{bookIn}
+use Rattle.book.specs.Kinds.{decided}
 use Rattle.book.proofs.StateLaws.{book-length}
-use Rattle.registration.specs.Kinds.{decided}
+use Rattle.book.proofs.Answers.{refused-all}
 use Rattle.registration.proofs.Decisions.{ending-finds-batch}
-use Rattle.registration.proofs.Answers.{refused-all}
 use Rattle.registration.proofs.Acceptances.{kept-answered}
 use Rattle.registration.proofs.BatchLaws.{saved-rows-end}
 use borrow.Author.Needs.{needs}

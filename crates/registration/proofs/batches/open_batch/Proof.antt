@@ -11,12 +11,12 @@ use Rattle.wire.specs.Regions.{splice}
 use Rattle.rules.specs.declared.Request.{Request}
 use Rattle.rules.specs.Requests.{openBatch, requestOf}
 use Rattle.rules.proofs.Clearing.{checked-same}
-use Rattle.book.specs.Layout.{flagAt}
-use Rattle.book.specs.Valid.{bookIn}
+use Rattle.image.specs.Layout.{flagAt}
+use Rattle.image.specs.Valid.{bookIn}
+use Rattle.book.specs.Kinds.{decided}
 use Rattle.book.proofs.StateLaws.{book-length}
-use Rattle.registration.specs.Kinds.{decided}
+use Rattle.book.proofs.Answers.{refused-all}
 use Rattle.registration.proofs.Decisions.{opening-finds-none}
-use Rattle.registration.proofs.Answers.{refused-all}
 use Rattle.registration.proofs.Acceptances.{opened-answered}
 use Rattle.registration.proofs.BatchLaws.{present-rows-end, none-saved-rows}
 use borrow.Author.Needs.{needs}

@@ -15,12 +15,12 @@ use Rattle.rules.specs.Basics.{isSome}
 use Rattle.rules.specs.Limits.{mostHours}
 use Rattle.rules.specs.Requests.{undo, requestOf}
 use Rattle.rules.proofs.Clearing.{checked-same}
-use Rattle.book.specs.Layout.{flagAt, savedAt, partSize}
-use Rattle.book.specs.Valid.{bookIn}
+use Rattle.image.specs.Layout.{flagAt, savedAt, partSize}
+use Rattle.image.specs.Valid.{bookIn}
+use Rattle.book.specs.Kinds.{decided}
 use Rattle.book.proofs.StateLaws.{book-length}
-use Rattle.registration.specs.Kinds.{decided}
+use Rattle.book.proofs.Answers.{refused-all}
 use Rattle.registration.proofs.Decisions.{ending-finds-batch}
-use Rattle.registration.proofs.Answers.{refused-all}
 use Rattle.registration.proofs.Acceptances.{undone-answered}
 use Rattle.registration.proofs.BatchLaws.{present-rows-end, saved-rows-end, saved-past-present, saved-room-left}
 use borrow.Author.Needs.{needs}

@@ -5,7 +5,7 @@ use native.Mathlib.Omega.{arith}
 use Rattle.rules.specs.Requests.{confirm}
 use Rattle.rules.proofs.Clearing.{checked-same}
 use Rattle.book.proofs.StateLaws.{book-length, row-count-high}
-use Rattle.registration.proofs.Answers.{refused-answered}
+use Rattle.book.proofs.Answers.{refused-answered}
 use Rattle.registration.proofs.ConfirmationLaws.{accepted-number, accepted-tabled, accepted-energy, trade-answered}
 use borrow.Author.Needs.{needs}
 use Rattle.registration.proofs.confirmation.confirm.Statement.{statement}

@@ -3,8 +3,8 @@ use mathlib.Core.Path.{sym, ap, _∙_}
 use native.Mathlib.Omega.{arith}
 use Rattle.rules.specs.Requests.{confirm}
 use Rattle.rules.specs.Verdicts.{checked}
-use Rattle.book.specs.Valid.{bookIn}
-use Rattle.registration.proofs.Decisions.{in-wrong-phase}
+use Rattle.image.specs.Valid.{bookIn}
+use Rattle.book.proofs.Answers.{in-wrong-phase}
 use Rattle.registration.proofs.ConfirmationLaws.{confirmed-high, names-no-row, names-other-terms, names-its-terms}
 use borrow.Author.Needs.{needs}
 use Rattle.registration.proofs.confirmation.confirm_fault.Statement.{statement}

@@ -1,6 +1,6 @@
 -- The row that confirm names has the caller as its counterparty.
 use mathlib.Core.Path.{_∙_}
-use Rattle.book.specs.Valid.{bookIn}
+use Rattle.image.specs.Valid.{bookIn}
 use Rattle.registration.proofs.ConfirmationLaws.{confirmed-found}
 use borrow.Author.Needs.{needs}
 use Rattle.registration.proofs.confirmation.confirmed_number.Statement.{statement}

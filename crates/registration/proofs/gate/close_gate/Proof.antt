@@ -10,11 +10,11 @@ use Rattle.wire.specs.Regions.{splice}
 use Rattle.rules.specs.declared.Request.{Request}
 use Rattle.rules.specs.Requests.{closeGate}
 use Rattle.rules.proofs.Clearing.{checked-same}
-use Rattle.book.specs.Layout.{phaseAt}
-use Rattle.book.specs.Valid.{bookIn}
+use Rattle.image.specs.Layout.{phaseAt}
+use Rattle.image.specs.Valid.{bookIn}
+use Rattle.book.specs.Kinds.{decided}
 use Rattle.book.proofs.StateLaws.{book-length}
-use Rattle.registration.specs.Kinds.{decided}
-use Rattle.registration.proofs.Answers.{refused-all}
+use Rattle.book.proofs.Answers.{refused-all}
 use Rattle.registration.proofs.Acceptances.{closed-answered}
 use borrow.Author.Needs.{needs}
 use Rattle.registration.proofs.gate.close_gate.Statement.{statement}

@@ -5,9 +5,9 @@ use native.Mathlib.Omega.{arith}
 use lib.ListN.{length}
 use borrow.Author.Needs.{needs}
 use Rattle.wire.specs.Parts.{sweep}
-use Rattle.book.specs.Layout.{rowWidth}
-use Rattle.book.specs.Changes.{ended}
-use Rattle.book.proofs.Loops.{sweep-on, sweep-done}
+use Rattle.image.specs.Layout.{rowWidth}
+use Rattle.image.specs.Changes.{ended}
+use Rattle.image.proofs.Loops.{sweep-on, sweep-done}
 use Rattle.registration.proofs.gate.end_rows.Statement.{statement}
 use Rattle.registration.proofs.gate.end_rows.Tie as tie
 

@@ -2,7 +2,7 @@
 use mathlib.Core.Path.{refl, _∙_}
 use native.Mathlib.Omega.{arith}
 use Rattle.rules.specs.Books.{Book, noRow}
-use Rattle.book.specs.Valid.{bookIn}
+use Rattle.image.specs.Valid.{bookIn}
 use Rattle.book.proofs.WorthLaws.{with-none}
 use Rattle.registration.proofs.CoverLaws.{settled-takeable}
 use Rattle.registration.proofs.LodgingLaws.{no-lower-covers}

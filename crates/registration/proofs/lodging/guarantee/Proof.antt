@@ -3,9 +3,9 @@ use mathlib.Core.Path.{refl, sym, _∙_}
 use mathlib.Core.Option.{none, some}
 use native.Mathlib.Omega.{arith}
 use Rattle.rules.specs.Requests.{guarantee}
-use Rattle.book.proofs.StateLaws.{book-length}
 use Rattle.rules.proofs.Clearing.{checked-same}
-use Rattle.registration.proofs.Answers.{refused-answered}
+use Rattle.book.proofs.StateLaws.{book-length}
+use Rattle.book.proofs.Answers.{refused-answered}
 use Rattle.registration.proofs.LodgingLaws.{ready-guarantee, lodged-answered}
 use borrow.Author.Needs.{needs}
 use Rattle.registration.proofs.lodging.guarantee.Statement.{statement}

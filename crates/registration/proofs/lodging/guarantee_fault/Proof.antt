@@ -4,7 +4,7 @@ use native.Mathlib.Omega.{arith}
 use Rattle.rules.specs.Requests.{guarantee}
 use Rattle.rules.specs.Verdicts.{checked}
 use Rattle.book.proofs.StateLaws.{book-is-sound}
-use Rattle.registration.proofs.Decisions.{in-wrong-phase}
+use Rattle.book.proofs.Answers.{in-wrong-phase}
 use Rattle.registration.proofs.LodgingLaws.{ready-guarantee, too-little-lodged, enough-lodged}
 use borrow.Author.Needs.{needs}
 use Rattle.registration.proofs.lodging.guarantee_fault.Statement.{statement}

@@ -7,11 +7,11 @@ use borrow.Author.Needs.{needs}
 use Rattle.rules.specs.Basics.{find, counting}
 use Rattle.rules.specs.Limits.{mostHours}
 use Rattle.rules.specs.Books.{accountAt}
-use Rattle.book.specs.Valid.{bookIn}
-use Rattle.book.proofs.BookRows.{setup-tabled}
+use Rattle.image.specs.Valid.{bookIn}
+use Rattle.book.proofs.BookRows.{setup-tabled, account-read, accounts-read, hours-few}
 use Rattle.registration.specs.Margins.{brokenBy, broken}
 use Rattle.registration.proofs.SearchLaws.{find-done, find-here, find-next}
-use Rattle.registration.proofs.MarginLaws.{account-read, accounts-read, hours-few, hour-room, breaks, broken-by-span, breaks-tested}
+use Rattle.registration.proofs.MarginLaws.{hour-room, breaks, broken-by-span, breaks-tested}
 use Rattle.registration.proofs.margins.first_broken.Statement.{statement}
 use Rattle.registration.proofs.margins.first_broken.Tie as tie
 

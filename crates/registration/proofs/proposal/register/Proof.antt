@@ -3,9 +3,9 @@ use mathlib.Core.Path.{sym, _∙_}
 use mathlib.Core.Option.{none, some}
 use native.Mathlib.Omega.{arith}
 use Rattle.rules.specs.Requests.{register}
-use Rattle.book.proofs.StateLaws.{book-length}
 use Rattle.rules.proofs.Clearing.{checked-same}
-use Rattle.registration.proofs.Answers.{refused-answered}
+use Rattle.book.proofs.StateLaws.{book-length}
+use Rattle.book.proofs.Answers.{refused-answered}
 use Rattle.registration.proofs.ProposalLaws.{ready-fits, few-rows, registered-answered}
 use borrow.Author.Needs.{needs}
 use Rattle.registration.proofs.proposal.register.Statement.{statement}

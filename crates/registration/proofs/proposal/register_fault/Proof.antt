@@ -3,7 +3,7 @@ use mathlib.Core.Path.{sym, ap, _∙_}
 use native.Mathlib.Omega.{arith}
 use Rattle.rules.specs.Requests.{register}
 use Rattle.rules.specs.Verdicts.{checked}
-use Rattle.registration.proofs.Decisions.{in-wrong-phase}
+use Rattle.book.proofs.Answers.{in-wrong-phase}
 use Rattle.registration.proofs.ProposalLaws.{twin-pending, no-number-left}
 use borrow.Author.Needs.{needs}
 use Rattle.registration.proofs.proposal.register_fault.Statement.{statement}

@@ -7,7 +7,7 @@ use borrow.Author.Needs.{needs}
 use Rattle.rules.specs.Basics.{indexOf}
 use Rattle.rules.specs.Registration.{alike}
 use Rattle.rules.specs.Calls.{numberFrom}
-use Rattle.book.specs.Sums.{rowsFrom}
+use Rattle.image.specs.Cells.{rowsFrom}
 use Rattle.registration.proofs.PendingLaws.{numbered, none-passed, number-none, number-here, number-next}
 use Rattle.registration.proofs.search.number_among.Statement.{statement}
 use Rattle.registration.proofs.search.number_among.Tie as tie

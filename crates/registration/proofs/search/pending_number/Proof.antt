@@ -9,7 +9,7 @@ use Rattle.rules.specs.declared.Row.{Row}
 use Rattle.rules.specs.Basics.{indexOf}
 use Rattle.rules.specs.Registration.{alike}
 use Rattle.rules.specs.Calls.{numberFrom}
-use Rattle.book.specs.Valid.{bookIn}
+use Rattle.image.specs.Valid.{bookIn}
 use Rattle.book.proofs.BookRows.{rows-in, rows-summable}
 use Rattle.book.proofs.StateLaws.{row-count-high}
 use Rattle.registration.proofs.PendingLaws.{number-high}

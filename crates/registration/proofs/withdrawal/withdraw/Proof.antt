@@ -5,9 +5,9 @@ use native.Mathlib.Omega.{arith}
 use Rattle.rules.specs.Requests.{withdraw}
 use Rattle.rules.proofs.Clearing.{checked-same}
 use Rattle.book.proofs.StateLaws.{book-length}
-use Rattle.registration.proofs.Answers.{refused-answered}
+use Rattle.book.proofs.Answers.{refused-answered}
+use Rattle.book.proofs.Readiness.{ready-number}
 use Rattle.registration.proofs.Acceptances.{withdrawn-answered}
-use Rattle.registration.proofs.Readiness.{ready-number}
 use borrow.Author.Needs.{needs}
 use Rattle.registration.proofs.withdrawal.withdraw.Statement.{statement}
 use Rattle.registration.proofs.withdrawal.withdraw.Tie as tie

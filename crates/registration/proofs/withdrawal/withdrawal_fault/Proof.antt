@@ -2,7 +2,8 @@
 use mathlib.Core.Path.{sym, ap, _∙_}
 use Rattle.rules.specs.Requests.{withdraw}
 use Rattle.rules.specs.Verdicts.{checked}
-use Rattle.registration.proofs.Decisions.{in-wrong-phase, no-row-to-withdraw, row-to-withdraw}
+use Rattle.book.proofs.Answers.{in-wrong-phase}
+use Rattle.registration.proofs.Decisions.{no-row-to-withdraw, row-to-withdraw}
 use borrow.Author.Needs.{needs}
 use Rattle.registration.proofs.withdrawal.withdrawal_fault.Statement.{statement}
 use Rattle.registration.proofs.withdrawal.withdrawal_fault.Tie as tie

@@ -4,7 +4,7 @@ use mathlib.Core.Path.{_≡_, sym, _∙_}
 use native.Mathlib.Omega.{arith}
 use lib.ListN.{length}
 use borrow.Author.Needs.{needs}
-use Rattle.book.specs.Valid.{bookIn}
+use Rattle.image.specs.Valid.{bookIn}
 use Rattle.book.proofs.StateLaws.{schedule-count-high}
 use Rattle.settlement.specs.Judging.{TablesIn}
 use Rattle.settlement.proofs.BalanceLaws.{credited-made}

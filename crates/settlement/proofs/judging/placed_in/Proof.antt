@@ -6,7 +6,7 @@ use lib.ListN.{length, length-set, take}
 use lib.Seq.{take-all}
 use borrow.Author.Needs.{needs}
 use Rattle.rules.specs.Settlement.{placed}
-use Rattle.book.specs.Valid.{bookIn}
+use Rattle.image.specs.Valid.{bookIn}
 use Rattle.book.proofs.StateLaws.{book-length, schedule-count-high}
 use Rattle.settlement.proofs.PlacingLaws.{schedule-stands, length-placed, none-placed, placed-next}
 use Rattle.settlement.proofs.judging.placed_in.Statement.{statement}

@@ -5,7 +5,7 @@ use native.Mathlib.Omega.{arith}
 use Rattle.rules.specs.Requests.{schedule}
 use Rattle.rules.proofs.Clearing.{checked-same}
 use Rattle.book.proofs.StateLaws.{book-length}
-use Rattle.registration.proofs.Answers.{refused-answered}
+use Rattle.book.proofs.Answers.{refused-answered}
 use Rattle.settlement.proofs.Decisions.{few-schedules}
 use Rattle.settlement.proofs.SchedulingLaws.{ready-fits, scheduled-answered}
 use borrow.Author.Needs.{needs}

@@ -3,7 +3,7 @@ use mathlib.Core.Path.{sym, ap, _∙_}
 use native.Mathlib.Omega.{arith}
 use Rattle.rules.specs.Requests.{schedule}
 use Rattle.rules.specs.Verdicts.{checked}
-use Rattle.registration.proofs.Decisions.{in-wrong-phase}
+use Rattle.book.proofs.Answers.{in-wrong-phase}
 use Rattle.settlement.proofs.Decisions.{no-place-left, place-left}
 use borrow.Author.Needs.{needs}
 use Rattle.settlement.proofs.scheduling.schedule_fault.Statement.{statement}

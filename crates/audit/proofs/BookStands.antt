@@ -1,0 +1,251 @@
+-- Bytes are a book exactly where each section stands: the tests of a valid book and those of its image, gathered by section.
+use Prim.Native.Nat.{ℕ, zero, suc, _+_, _-_, _*_, _≤_, _<_}
+use mathlib.Core.Path.{_≡_, refl, sym, ap, _∙_}
+use mathlib.Core.List.{List, map}
+use mathlib.Core.Bool.{Bool, true, false, not, _&&_, _||_}
+use native.Mathlib.Omega.{arith}
+use lib.ListN.{length, getD, take, drop, length-map}
+use lib.Dec.{eqb, leb, eqb·suc-zero}
+use borrow.Author.Tests.{eq-eqb, ne-eqb, lt-leb, le-leb, leb-true}
+use Rattle.wire.specs.Numbers.{numberAt, Bytes}
+use Rattle.wire.specs.Regions.{zerosFrom}
+use Rattle.wire.specs.Parts.{chunks}
+use Rattle.wire.proofs.SlotLaws.{length-chunks, chunks-front}
+use Rattle.rules.specs.declared.Row.{Row}
+use Rattle.rules.specs.Basics.{if_then_else_, any, every, isSome, within}
+use Rattle.rules.specs.Limits.{mostHours, mostOperators, mostSchedules, bookSize}
+use Rattle.rules.specs.Books.{Setup, Part, Book}
+use Rattle.rules.specs.Opening.{countsIn, operatorsFrom, setupLength, setupOf}
+use Rattle.rules.specs.Registration.{pending}
+use Rattle.rules.proofs.Tests.{test-same, and-both}
+use Rattle.image.specs.Layout.{setupRoom, scheduleWidth, partSize, usedSize, phaseAt, flagAt, scheduleCountAt, schedulesAt, presentAt, savedAt}
+use Rattle.image.specs.Image.{scheduleIn, savedIn, decode}
+use Rattle.image.specs.Valid.{setupOk, scheduleOk, partOk, follows, savedOk, bookTests, valid, isBook}
+use Rattle.image.specs.Cells.{schedulesFrom, partAt}
+use Rattle.image.proofs.Soundness.{all-holds, holds-all, sound-setup}
+use Rattle.image.proofs.Round.{length-book}
+use Rattle.image.proofs.Places.{bookAt, decode-places}
+use Rattle.image.proofs.SetupAgain.{setup-in-front}
+use Rattle.audit.specs.Plain.{noneLodged, partPlain, savedPlain, bookPlainTests, bookPlain}
+use Rattle.audit.specs.Stands.{setupStands, rowsOf, partStands, savedStands, schedulesStand, phaseStands}
+use Rattle.audit.proofs.Local.{is-book-local}
+use Rattle.audit.proofs.PartStands.{part-places, few-rows}
+use Rattle.audit.proofs.StandLaws.{fails-with, setup-known}
+
+-- ---- schedules
+
+schedule-count : (s : List ℕ) → length (bookAt mostHours s .schedules) ≡ numberAt s scheduleCountAt 2
+schedule-count s =
+    let room : List ℕ = take 2816 (drop schedulesAt s) in
+    length-map (chunks scheduleWidth (numberAt s scheduleCountAt 2) room) scheduleIn ∙ length-chunks scheduleWidth (numberAt s scheduleCountAt 2) room
+
+schedules-there : (s : List ℕ) → numberAt s scheduleCountAt 2 ≤ mostSchedules
+    → bookAt mostHours s .schedules ≡ schedulesFrom s schedulesAt (numberAt s scheduleCountAt 2)
+unfolding schedulesFrom
+schedules-there s h = ap (map scheduleIn) (chunks-front scheduleWidth (numberAt s scheduleCountAt 2) 2816 (drop schedulesAt s) (omega arith))
+
+pub too-many-schedules : (s : List ℕ) → mostSchedules < numberAt s scheduleCountAt 2 → false ≡ schedulesStand s
+unfolding schedulesStand
+too-many-schedules s h = rw (lt-leb (numberAt s scheduleCountAt 2) mostSchedules h)
+
+pub schedules-by-tests : (s : List ℕ) (n : ℕ) {each zeros : Bool} → n ≡ numberAt s scheduleCountAt 2 → n ≤ mostSchedules
+    → each ≡ every (scheduleOk (setupOf s)) (schedulesFrom s schedulesAt n)
+    → zeros ≡ zerosFrom s (schedulesAt + scheduleWidth * n) (scheduleWidth * mostSchedules - scheduleWidth * n)
+    → (each && zeros) ≡ schedulesStand s
+unfolding schedulesStand
+schedules-by-tests s n e h t z = rw (t, z, ← e, le-leb n mostSchedules h)
+
+-- ---- the saved part
+
+pub saved-without : (s : List ℕ) → getD s flagAt 0 ≡ 0 → savedStands s ≡ zerosFrom s (savedAt mostHours) (partSize mostHours)
+unfolding savedStands
+saved-without s e = rw (eq-eqb (getD s flagAt 0) 0 e)
+
+pub saved-with : (s : List ℕ) → (getD s flagAt 0 ≡ 0 → ⊥)
+    → savedStands s ≡ (partStands s (savedAt mostHours) && follows (rowsOf s (savedAt mostHours)) (rowsOf s presentAt))
+unfolding savedStands
+saved-with s e = rw (ne-eqb (getD s flagAt 0) 0 e)
+
+otherwise : (n : ℕ) (a b : Bool) → (if eqb (suc n) 0 then a else b) ≡ b
+otherwise n a b = rw (eqb·suc-zero n)
+
+module _ (s : List ℕ) (few : countsIn s .operators ≤ mostOperators) (rows : List Row) where
+  abbrev operators : ℕ
+  operators = countsIn s .operators
+
+  abbrev kept : List ℕ
+  kept = take (partSize mostHours) (drop (savedAt mostHours) s)
+
+  abbrev none-saved : Bool
+  none-saved = zerosFrom s (savedAt mostHours) (partSize mostHours)
+
+  abbrev some-saved : Bool
+  some-saved = partStands s (savedAt mostHours) && follows (rowsOf s (savedAt mostHours)) rows
+
+  rows-there : partStands s (savedAt mostHours) ≡ true → partAt mostHours operators s (savedAt mostHours) .rows ≡ rowsOf s (savedAt mostHours)
+  rows-there t = ap (λ (p : Part). p .rows) (part-places s (savedAt mostHours) operators few (few-rows s (savedAt mostHours) t))
+
+  saved-there : (n : ℕ) → savedOk (setupOf s) rows (savedIn n mostHours operators kept) ≡ true → savedPlain n mostHours operators s ≡ true → (if eqb n 0 then none-saved else some-saved) ≡ true
+  unfolding savedIn savedOk savedPlain partStands
+  saved-there zero h p = p
+  saved-there (suc n) h p =
+      let q : Part = partAt mostHours operators s (savedAt mostHours) in
+      let w = and-both (partOk (setupOf s) q) (follows (q .rows) rows) .0 h in
+      let t : partStands s (savedAt mostHours) ≡ true = and-both (partOk (setupOf s) q) (partPlain mostHours operators s (savedAt mostHours)) .1 (w .0, p) in
+      otherwise n none-saved some-saved
+      ∙ and-both (partStands s (savedAt mostHours)) (follows (rowsOf s (savedAt mostHours)) rows) .1 (t, ap (λ (r : List Row). follows r rows) (sym (rows-there t)) ∙ w .1)
+
+  saved-here : (n : ℕ) → (if eqb n 0 then none-saved else some-saved) ≡ true
+      → (savedOk (setupOf s) rows (savedIn n mostHours operators kept) ≡ true) × (savedPlain n mostHours operators s ≡ true)
+  unfolding savedIn savedOk savedPlain partStands
+  saved-here zero t = (refl, t)
+  saved-here (suc n) t =
+      let q : Part = partAt mostHours operators s (savedAt mostHours) in
+      let v = and-both (partStands s (savedAt mostHours)) (follows (rowsOf s (savedAt mostHours)) rows) .0 (sym (otherwise n none-saved some-saved) ∙ t) in
+      let w = and-both (partOk (setupOf s) q) (partPlain mostHours operators s (savedAt mostHours)) .0 (v .0) in
+      (and-both (partOk (setupOf s) q) (follows (q .rows) rows) .1 (w .0, ap (λ (r : List Row). follows r rows) (rows-there (v .0)) ∙ v .1), w .1)
+
+-- no part is saved where the flag is 0
+no-part : (n top count : ℕ) (x : List ℕ) → not (isSome (savedIn n top count x)) ≡ eqb n 0
+unfolding savedIn
+no-part zero top count x = refl
+no-part (suc n) top count x = sym (eqb·suc-zero n)
+
+-- ---- a book
+
+-- each section stands
+pub record Stand (s : List ℕ) : Type 0 where
+  pub setup-stands : setupStands s ≡ true
+  pub part-stands : partStands s presentAt ≡ true
+  pub saved-stands : savedStands s ≡ true
+  pub schedules-stand : schedulesStand s ≡ true
+  pub phase-stands : phaseStands s ≡ true
+  pub spare-zero : zerosFrom s (usedSize mostHours) (bookSize - usedSize mostHours) ≡ true
+
+module _ (s : List ℕ) where
+  abbrev here : Book
+  here = bookAt mostHours s
+
+  abbrev phase : ℕ
+  phase = getD s phaseAt 0
+
+  abbrev lodged : Bool
+  lodged = noneLodged s (operatorsFrom (countsIn s)) (countsIn s .operators)
+
+  abbrev behind : Bool
+  behind = zerosFrom s (setupLength (countsIn s)) (setupRoom - setupLength (countsIn s))
+
+  present-rows : countsIn s .operators ≤ mostOperators → partStands s presentAt ≡ true → here .part .rows ≡ rowsOf s presentAt
+  present-rows o t = ap (λ (p : Part). p .rows) (part-places s presentAt (countsIn s .operators) o (few-rows s presentAt t))
+
+  none-left : here .part .rows ≡ rowsOf s presentAt
+      → (eqb phase 1 || not (any pending (here .part .rows))) ≡ (eqb phase 1 || not (any pending (rowsOf s presentAt)))
+  none-left e = ap (λ (r : List Row). eqb phase 1 || not (any pending r)) e
+
+  none-yet : (not (eqb phase 1) || eqb (length (here .schedules)) 0) ≡ (not (eqb phase 1) || eqb (numberAt s scheduleCountAt 2) 0)
+  none-yet = ap (λ (n : ℕ). not (eqb phase 1) || eqb n 0) (schedule-count s)
+
+  none-open : (eqb phase 1 || not (isSome (here .saved))) ≡ (eqb phase 1 || eqb (getD s flagAt 0) 0)
+  none-open = ap (λ (t : Bool). eqb phase 1 || t) (no-part (getD s flagAt 0) mostHours (countsIn s .operators) (take (partSize mostHours) (drop (savedAt mostHours) s)))
+
+  valid-stands : length s ≡ bookSize → valid here ≡ true → bookPlain mostHours bookSize s ≡ true → Stand s
+  unfolding valid bookPlain setupStands partStands savedStands schedulesStand phaseStands
+  valid-stands l v p =
+      let t = all-holds (bookTests here) v in
+      let q = all-holds (bookPlainTests mostHours bookSize s) p in
+      let f = setup-in-front s (sound-setup (here .setup) (t .0)) in
+      let a : setupStands s ≡ true = and-both (setupOk (here .setup)) (lodged && behind) .1 (t .0, and-both lodged behind .1 (q .1 .0, q .0)) in
+      let k = setup-known s l a in
+      let b : partStands s presentAt ≡ true =
+      and-both (partOk (setupOf s) (here .part)) (partPlain mostHours (countsIn s .operators) s presentAt) .1 (ap (λ (u : Setup). partOk u (here .part)) (sym f) ∙ t .1 .1 .0, q .1 .1 .1 .1 .0) in
+      let e = present-rows (k .operators-high) b in
+      let few : numberAt s scheduleCountAt 2 ≤ mostSchedules = omega (arith, schedule-count s, leb-true (length (here .schedules)) mostSchedules (t .1 .1 .1 .1 .0)) in
+      let each : every (scheduleOk (setupOf s)) (schedulesFrom s schedulesAt (numberAt s scheduleCountAt 2)) ≡ true =
+      ap (every (scheduleOk (setupOf s))) (sym (schedules-there s few)) ∙ ap (λ (u : Setup). every (scheduleOk u) (here .schedules)) (sym f) ∙ t .1 .1 .1 .1 .1 .0 in
+      record {
+        setup-stands = a;
+        part-stands = b;
+        saved-stands =
+            saved-there s (k .operators-high) (rowsOf s presentAt) (getD s flagAt 0)
+            (ap (λ (r : List Row). savedOk (setupOf s) r (here .saved)) (sym e) ∙ ap (λ (u : Setup). savedOk u (here .part .rows) (here .saved)) (sym f) ∙ t .1 .1 .1 .0)
+            (q .1 .1 .1 .1 .1 .0);
+        schedules-stand = and-both (leb (numberAt s scheduleCountAt 2) mostSchedules) _ .1 (le-leb _ _ few, and-both _ _ .1 (each, q .1 .1 .1 .0));
+        phase-stands =
+            and-both _ _ .1 (
+              and-both _ _ .1 (
+                and-both _ _ .1 (and-both _ _ .1 (t .1 .0, q .1 .1 .0), sym (none-left e) ∙ t .1 .1 .1 .1 .1 .1 .0),
+                sym none-yet ∙ t .1 .1 .1 .1 .1 .1 .1 .0,
+              ),
+              sym none-open ∙ t .1 .1 .1 .1 .1 .1 .1 .1 .0,
+            );
+        spare-zero = q .1 .1 .1 .1 .1 .1 .0;
+      }
+
+  stands-valid : length s ≡ bookSize → Stand s → (valid here ≡ true) × (bookPlain mostHours bookSize s ≡ true)
+  unfolding valid bookPlain setupStands partStands savedStands schedulesStand phaseStands
+  stands-valid l d =
+      let n : ℕ = numberAt s scheduleCountAt 2 in
+      let a = and-both (setupOk (here .setup)) (lodged && behind) .0 (d .setup-stands) in
+      let a1 = and-both lodged behind .0 (a .1) in
+      let f = setup-in-front s (sound-setup (here .setup) (a .0)) in
+      let k = setup-known s l (d .setup-stands) in
+      let b = and-both (partOk (setupOf s) (here .part)) (partPlain mostHours (countsIn s .operators) s presentAt) .0 (d .part-stands) in
+      let e = present-rows (k .operators-high) (d .part-stands) in
+      let c = saved-here s (k .operators-high) (rowsOf s presentAt) (getD s flagAt 0) (d .saved-stands) in
+      let g = and-both (leb n mostSchedules) _ .0 (d .schedules-stand) in
+      let g1 = and-both (every (scheduleOk (setupOf s)) (schedulesFrom s schedulesAt n)) _ .0 (g .1) in
+      let few : n ≤ mostSchedules = leb-true _ _ (g .0) in
+      let h4 = and-both _ (eqb phase 1 || eqb (getD s flagAt 0) 0) .0 (d .phase-stands) in
+      let h3 = and-both _ (not (eqb phase 1) || eqb n 0) .0 (h4 .0) in
+      let h2 = and-both _ (eqb phase 1 || not (any pending (rowsOf s presentAt))) .0 (h3 .0) in
+      let h1 = and-both (within 1 phase 3) (leb (getD s flagAt 0) 1) .0 (h2 .0) in
+      let part = ap (λ (u : Setup). partOk u (here .part)) f ∙ b .0 in
+      let saved =
+      ap (λ (u : Setup). savedOk u (here .part .rows) (here .saved)) f ∙ ap (λ (r : List Row). savedOk (setupOf s) r (here .saved)) e ∙ c .0 in
+      let count = ap (λ (m : ℕ). leb m mostSchedules) (schedule-count s) ∙ g .0 in
+      let each = ap (λ (u : Setup). every (scheduleOk u) (here .schedules)) f ∙ ap (every (scheduleOk (setupOf s))) (schedules-there s few) ∙ g1 .0 in (
+        holds-all (bookTests here) (a .0, (h1 .0, (part, (saved, (count, (each, (none-left e ∙ h2 .1, (none-yet ∙ h3 .1, (none-open ∙ h4 .1, tt))))))))),
+        holds-all (bookPlainTests mostHours bookSize s) (a1 .1, (a1 .0, (h1 .1, (g1 .1, (b .1, (c .1, (d .spare-zero, tt))))))),
+      )
+
+module _ (s : List ℕ) (b : Bytes s) where
+  tests : isBook s ≡ (eqb (length s) bookSize && valid (decode mostHours bookSize s) && bookPlain mostHours bookSize s)
+  tests = is-book-local mostHours bookSize s b (omega arith)
+
+  pub book-stands : isBook s ≡ true → Stand s
+  book-stands t =
+      let w = and-both (eqb (length s) bookSize && valid (decode mostHours bookSize s)) (bookPlain mostHours bookSize s) .0 (sym tests ∙ t) in
+      let v = and-both (eqb (length s) bookSize) (valid (decode mostHours bookSize s)) .0 (w .0) in
+      valid-stands s (length-book mostHours bookSize s t) (ap valid (sym (decode-places mostHours bookSize s)) ∙ v .1) (w .1)
+
+  pub stands-book : length s ≡ bookSize → Stand s → isBook s ≡ true
+  stands-book l d =
+      let w = stands-valid s l d in
+      tests ∙ rw (eq-eqb (length s) bookSize l, ap valid (decode-places mostHours bookSize s) ∙ w .0, w .1)
+
+  -- bytes of another length are no book
+  pub not-sized : (length s ≡ bookSize → ⊥) → false ≡ isBook s
+  not-sized n = sym (tests ∙ rw (ne-eqb (length s) bookSize n))
+
+  -- bytes of which a section does not stand are no book
+  pub one-falls : {t : Bool} → (Stand s → t ≡ true) → t ≡ false → false ≡ isBook s
+  one-falls f e = sym (fails-with (isBook s) (λ h. f (book-stands h)) e)
+
+  -- where the set-up and the parts stand, the rest decides
+  pub rest-decides : {schedules phase spare : Bool} → length s ≡ bookSize → setupStands s ≡ true → partStands s presentAt ≡ true → savedStands s ≡ true
+      → schedules ≡ schedulesStand s → phase ≡ phaseStands s → spare ≡ zerosFrom s (usedSize mostHours) (bookSize - usedSize mostHours)
+      → ((schedules && phase) && spare) ≡ isBook s
+  rest-decides {schedules} {phase} {spare} l a p v e f z =
+      test-same _ _ (λ t.
+      let w = and-both (schedules && phase) spare .0 t in
+      let u = and-both schedules phase .0 (w .0) in
+      stands-book l (record {
+        setup-stands = a;
+        part-stands = p;
+        saved-stands = v;
+        schedules-stand = sym e ∙ u .0;
+        phase-stands = sym f ∙ u .1;
+        spare-zero = sym z ∙ w .1;
+      })) (λ t.
+      let d = book-stands t in
+      and-both (schedules && phase) spare .1 (and-both schedules phase .1 (e ∙ d .schedules-stand, f ∙ d .phase-stands), z ∙ d .spare-zero))

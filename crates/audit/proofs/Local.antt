@@ -1,0 +1,174 @@
+-- Bytes are a book by tests that each look at one place: for bytes that say a valid book, each section is that of its image exactly where
+-- its tests hold. No image is built.
+use Prim.Native.Nat.{ℕ, zero, suc, _-_, _*_, _≤_, _<_}
+use mathlib.Core.Path.{_≡_, refl, sym, ap, _∙_}
+use mathlib.Core.Logic.{_↔_}
+use mathlib.Core.List.{List, [], _∷_}
+use mathlib.Core.Bool.{true, _&&_}
+use native.Mathlib.Omega.{arith}
+use lib.ListN.{length, getD, take, drop, length-map, length-drop}
+use lib.Seq.{length-take-le}
+use lib.Dec.{eqb, leb}
+use borrow.Author.Tests.{eqb-true, eq-eqb, leb-true}
+use Rattle.wire.specs.Numbers.{number, numberAt, le, Bytes}
+use Rattle.wire.specs.Regions.{zerosFrom}
+use Rattle.wire.specs.Parts.{zeros, flat, cut, startOf, chunks}
+use Rattle.wire.proofs.NumberLaws.{bytes-at, number-le, number-at-one, le-number-wide, bytes-take, bytes-drop}
+use Rattle.wire.proofs.ZeroLaws.{zeros-read, zeros-tested}
+use Rattle.wire.proofs.PartLaws.{cut-flat, flat-cut, cut-at, rest-zeros-read, rest-zeros-tested}
+use Rattle.wire.proofs.SlotLaws.{length-chunks, slots-again}
+use Rattle.rules.specs.declared.Row.{Row}
+use Rattle.rules.specs.Limits.{mostOperators, mostSchedules}
+use Rattle.rules.specs.Books.{Setup}
+use Rattle.rules.specs.Opening.{countsIn}
+use Rattle.rules.proofs.Tests.{test-same, and-both}
+use Rattle.image.specs.Layout.{setupRoom, scheduleWidth, partSize, usedSize, bookWidths, phaseAt, flagAt, scheduleCountAt, schedulesAt, presentAt, savedAt}
+use Rattle.image.specs.Image.{scheduleBytes, partBytes, flag, savedBytes, sectionsWith, sections, image, scheduleIn, partIn, savedIn, decode}
+use Rattle.image.specs.Valid.{valid, isBookOf}
+use Rattle.image.proofs.Soundness.{all-holds, holds-all}
+use Rattle.image.proofs.SoundBooks.{SoundBook, SavedSound, sound}
+use Rattle.image.proofs.Sizes.{fits, length-schedule, wide-book}
+use Rattle.image.proofs.Round.{schedule-again, same-refl, book-is-image, length-book}
+use Rattle.image.proofs.Places.{bookAt, counts-at, decode-places}
+use Rattle.audit.specs.Plain.{partPlain, savedPlain, bookPlainTests, bookPlain}
+use Rattle.audit.proofs.SetupTests.{setup-plain, plain-setup}
+use Rattle.audit.proofs.PartTests.{slots-zero, part-plain, plain-part}
+
+-- ---- the flag
+
+flag-plain : (n top ops : ℕ) (y : List ℕ) → n < 256 → (le 1 (flag (savedIn n top ops y)) ≡ le 1 n) ↔ (leb n 1 ≡ true)
+unfolding savedIn
+flag-plain zero top ops y h = ((λ e. refl), (λ t. refl))
+flag-plain (suc zero) top ops y h = ((λ e. refl), (λ t. refl))
+flag-plain (suc (suc n)) top ops y h = (
+  (λ (e : le 1 1 ≡ le 1 (suc (suc n))). absurd (omega (arith, sym (number-le 1 1 (omega arith)) ∙ ap number e ∙ number-le 1 (suc (suc n)) h))),
+  (λ (t : leb (suc (suc n)) 1 ≡ true). absurd (omega (arith, leb-true (suc (suc n)) 1 t))),
+)
+
+-- ---- the saved part
+
+module _ (top ops : ℕ) (s : List ℕ) (b : Bytes s) (l : usedSize top ≤ length s) (o : ops ≤ mostOperators) (u : Setup) (rows : List Row) where
+  abbrev kept : List ℕ
+  kept = take (partSize top) (drop (savedAt top) s)
+
+  saved-plain : (n : ℕ) → SavedSound u rows (savedIn n top ops kept) → (savedBytes top (savedIn n top ops kept) ≡ kept) ↔ (savedPlain n top ops s ≡ true)
+  unfolding savedIn savedBytes savedPlain
+  saved-plain zero k = (
+    (λ (e : zeros (partSize top) ≡ kept). zeros-tested (partSize top) s (savedAt top) (omega arith) (sym e)),
+    (λ (t : zerosFrom s (savedAt top) (partSize top) ≡ true). sym (zeros-read (partSize top) s (savedAt top) (omega arith) t)),
+  )
+  saved-plain (suc n) k = (
+    (λ (e : partBytes top (partIn top ops kept) ≡ kept). part-plain top ops s (savedAt top) b (omega arith) o (k .0 .rows-high) e),
+    (λ (t : partPlain top ops s (savedAt top) ≡ true). plain-part top ops s (savedAt top) b (omega arith) o (k .0 .rows-high) t),
+  )
+
+-- ---- a book
+
+eight : {a b c d e f g h a′ b′ c′ d′ e′ f′ g′ h′ : List ℕ} → a ≡ a′ → b ≡ b′ → c ≡ c′ → d ≡ d′ → e ≡ e′ → f ≡ f′ → g ≡ g′ → h ≡ h′
+    → flat (a ∷ b ∷ c ∷ d ∷ e ∷ f ∷ g ∷ h ∷ []) ≡ flat (a′ ∷ b′ ∷ c′ ∷ d′ ∷ e′ ∷ f′ ∷ g′ ∷ h′ ∷ [])
+eight pa pb pc pd pe pf pg ph = rw (pa, pb, pc, pd, pe, pf, pg, ph)
+
+module _ (top size : ℕ) (s : List ℕ) (b : Bytes s) (l : length s ≡ size) (g : usedSize top ≤ size) (v : valid (bookAt top s) ≡ true) where
+  abbrev ws : List ℕ
+  ws = bookWidths top size
+
+  known : SoundBook (bookAt top s)
+  known = sound (bookAt top s) v
+
+  few : countsIn s .operators ≤ mostOperators
+  few = omega (arith, counts-at s, known .setup-sound .operators-high)
+
+  schedules-few : numberAt s scheduleCountAt 2 ≤ mostSchedules
+  schedules-few =
+      let room : List ℕ = take (scheduleWidth * mostSchedules) (drop schedulesAt s) in
+      omega (arith, known .schedules-high, length-map (chunks scheduleWidth (numberAt s scheduleCountAt 2) room) scheduleIn, length-chunks scheduleWidth (numberAt s scheduleCountAt 2) room)
+
+  byte-at : (i : ℕ) → i < length s → take 1 (drop i s) ≡ le 1 (getD s i 0)
+  unfolding numberAt
+  byte-at i h =
+      let e = le-number-wide (bytes-take 1 (bytes-drop i b)) 1 (length-take-le 1 (drop i s) (omega (arith, length-drop i s))) in
+      sym e ∙ ap (le 1) (number-at-one s i)
+
+  saved-place : startOf ws 6 ≡ savedAt top
+  saved-place = omega arith
+
+  spare-place : startOf ws 7 ≡ usedSize top
+  spare-place = omega arith
+
+  abbrev scheduleCount : ℕ
+  scheduleCount = numberAt s scheduleCountAt 2
+
+  saved-test : (savedBytes top (bookAt top s .saved) ≡ take (partSize top) (drop (savedAt top) s)) ↔ (savedPlain (getD s flagAt 0) top (countsIn s .operators) s ≡ true)
+  saved-test =
+      saved-plain top (countsIn s .operators) s b (omega arith) few (bookAt top s .setup) (bookAt top s .part .rows) (getD s flagAt 0) (known .saved-sound)
+
+  flag-test : (le 1 (flag (bookAt top s .saved)) ≡ le 1 (getD s flagAt 0)) ↔ (leb (getD s flagAt 0) 1 ≡ true)
+  flag-test = flag-plain (getD s flagAt 0) top (countsIn s .operators) (take (partSize top) (drop (savedAt top) s)) (bytes-at b flagAt)
+
+  schedule-count : le 2 (length (bookAt top s .schedules)) ≡ take 2 (drop scheduleCountAt s)
+  unfolding numberAt
+  schedule-count =
+      let room : List ℕ = take (scheduleWidth * mostSchedules) (drop schedulesAt s) in
+      ap (le 2) (length-map (chunks scheduleWidth scheduleCount room) scheduleIn ∙ length-chunks scheduleWidth scheduleCount room)
+      ∙ le-number-wide (bytes-take 2 (bytes-drop scheduleCountAt b)) 2 (length-take-le 2 (drop scheduleCountAt s) (omega (arith, length-drop scheduleCountAt s)))
+
+  in-places : flat (take setupRoom s ∷ take 1 (drop phaseAt s) ∷ take 1 (drop flagAt s) ∷ take 2 (drop scheduleCountAt s)
+      ∷ take (scheduleWidth * mostSchedules) (drop schedulesAt s) ∷ take (partSize top) (drop presentAt s)
+      ∷ take (partSize top) (drop (savedAt top) s) ∷ take (size - usedSize top) (drop (usedSize top) s) ∷ []) ≡ s
+  unfolding cut
+  in-places =
+      eight (sym (cut-at ws s 0)) (sym (cut-at ws s 1)) (sym (cut-at ws s 2)) (sym (cut-at ws s 3)) (sym (cut-at ws s 4)) (sym (cut-at ws s 5))
+      (sym (cut-at ws s 6 ∙ rw saved-place)) (sym (cut-at ws s 7 ∙ rw spare-place))
+      ∙ flat-cut ws s (l ∙ omega arith)
+
+  book-plain : image top size (bookAt top s) ≡ s → bookPlain top size s ≡ true
+  unfolding bookPlain image sections sectionsWith
+  book-plain e =
+      let few-schedules = schedules-few in
+      let sec : sections top size (bookAt top s) ≡ cut ws s =
+      sym (cut-flat ws (sections top size (bookAt top s)) (wide-book top size (bookAt top s) (fits (bookAt top s) known))) ∙ ap (cut ws) e in
+      let at : (k : ℕ) → getD (sections top size (bookAt top s)) k [] ≡ take (getD ws k 0) (drop (startOf ws k) s) =
+      λ k. ap (λ (y : List (List ℕ)). getD y k []) sec ∙ cut-at ws s k in
+      let t0 = setup-plain s b (omega arith) (known .setup-sound) (at 0) in
+      let t2 = flag-test .0 (at 2 ∙ byte-at flagAt (omega arith)) in
+      let z4 = slots-zero scheduleWidth mostSchedules scheduleBytes length-schedule scheduleIn scheduleCount (take (scheduleWidth * mostSchedules) (drop schedulesAt s)) (at 4) in
+      let t4 = rest-zeros-tested ws s 4 (scheduleWidth * scheduleCount) (omega arith) (omega arith) (ap (drop (scheduleWidth * scheduleCount)) (cut-at ws s 4) ∙ z4) in
+      let t5 = part-plain top (countsIn s .operators) s presentAt b (omega arith) few (known .part-sound .rows-high) (at 5) in
+      let t6 = saved-test .0 (at 6 ∙ rw saved-place) in
+      let t7 = zeros-tested (size - usedSize top) s (usedSize top) (omega arith) (sym (at 7 ∙ rw spare-place)) in
+      holds-all (bookPlainTests top size s) (t0 .0, (t0 .1, (t2, (t4, (t5, (t6, (t7, tt)))))))
+
+  plain-book : bookPlain top size s ≡ true → image top size (bookAt top s) ≡ s
+  unfolding bookPlain image sections sectionsWith
+  plain-book h =
+      let few-schedules = schedules-few in
+      let t = all-holds (bookPlainTests top size s) h in
+      let room : List ℕ = take (scheduleWidth * mostSchedules) (drop schedulesAt s) in
+      let a0 = plain-setup s b (omega arith) (known .setup-sound) (t .0) (t .1 .0) in
+      let a1 = sym (byte-at phaseAt (omega arith)) in
+      let a2 = flag-test .1 (t .1 .1 .0) ∙ sym (byte-at flagAt (omega arith)) in
+      let a3 = schedule-count in
+      let z4 = rest-zeros-read ws s 4 (scheduleWidth * scheduleCount) (omega arith) (omega arith) (t .1 .1 .1 .0) in
+      let a4 = slots-again scheduleWidth scheduleBytes scheduleIn schedule-again mostSchedules scheduleCount (bytes-take (scheduleWidth * mostSchedules) (bytes-drop schedulesAt b))
+      (length-take-le (scheduleWidth * mostSchedules) (drop schedulesAt s) (omega (arith, length-drop schedulesAt s))) few-schedules (sym (ap (drop (scheduleWidth * scheduleCount)) (cut-at ws s 4)) ∙ z4) in
+      let a5 = plain-part top (countsIn s .operators) s presentAt b (omega arith) few (known .part-sound .rows-high) (t .1 .1 .1 .1 .0) in
+      let a6 = saved-test .1 (t .1 .1 .1 .1 .1 .0) in
+      let a7 = sym (zeros-read (size - usedSize top) s (usedSize top) (omega arith) (t .1 .1 .1 .1 .1 .1 .0)) in
+      eight a0 a1 a2 a3 a4 a5 a6 a7 ∙ in-places
+
+-- bytes are a book where they have its size, say a valid book, and pass the tests of their places
+pub is-book-local : (top size : ℕ) (s : List ℕ) → Bytes s → usedSize top ≤ size
+    → isBookOf top size s ≡ (eqb (length s) size && valid (decode top size s) && bookPlain top size s)
+unfolding isBookOf
+is-book-local top size s b g =
+    test-same _ _ (λ (t : isBookOf top size s ≡ true).
+    let i = book-is-image top size s t in
+    let l = length-book top size s t in
+    let e = decode-places top size s in
+    let p = book-plain top size s b l g (ap valid (sym e) ∙ i .1) (ap (image top size) (sym e) ∙ sym (i .0)) in
+    rw (eq-eqb _ _ l, i .1, p)) (λ t.
+    let h = and-both (eqb (length s) size && valid (decode top size s)) (bookPlain top size s) .0 t in
+    let k = and-both (eqb (length s) size) (valid (decode top size s)) .0 (h .0) in
+    let e = decode-places top size s in
+    let p = plain-book top size s b (eqb-true _ _ (k .0)) g (ap valid (sym e) ∙ k .1) (h .1) in
+    rw (k .0, k .1, ap (image top size) e ∙ p, same-refl s))

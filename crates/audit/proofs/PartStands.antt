@@ -1,0 +1,194 @@
+-- A part stands exactly where the tests that code makes hold: its guarantees and rows are read at their places in the whole bytes, and
+-- what follows of the rows is read off the table of their sums.
+use Prim.Native.Nat.{ℕ, _+_, _-_, _*_, _≤_, _<_}
+use mathlib.Core.Path.{_≡_, sym, ap, _∙_}
+use mathlib.Core.List.{List, [], _∷_, map}
+use mathlib.Core.Bool.{Bool, true, false, _&&_}
+use native.Mathlib.Omega.{arith}
+use lib.ListN.{length, getD, take, drop, length-map}
+use lib.Dec.{leb}
+use borrow.Author.Tests.{eq-eqb, le-leb, leb-true, lt-leb}
+use Rattle.wire.specs.Numbers.{number, numberAt}
+use Rattle.wire.specs.Parts.{cut, chunks}
+use Rattle.wire.proofs.PartLaws.{cut-at, inner}
+use Rattle.wire.proofs.SlotLaws.{length-chunks, chunks-front}
+use Rattle.units.specs.declared.Cents.{Cents}
+use Rattle.units.specs.Units.{cents}
+use Rattle.rules.specs.declared.Counts.{Counts}
+use Rattle.rules.specs.declared.Row.{Row}
+use Rattle.rules.specs.Basics.{every, allOf, upTo, Each}
+use Rattle.rules.specs.Limits.{mostHours, mostAccounts, mostGuarantee, mostOperators, mostRows}
+use Rattle.rules.specs.Books.{Setup, Part, operatorCount}
+use Rattle.rules.specs.Opening.{countsIn, setupOf}
+use Rattle.rules.proofs.Tests.{test-same, and-both}
+use Rattle.rules.proofs.Searches.{every-each, each-map}
+use Rattle.rules.proofs.SetupEntries.{counts-of-setup}
+use Rattle.image.specs.Layout.{rowWidth, partWidths, partSize, rowsAt, netsAt, netAt}
+use Rattle.image.specs.Image.{rowIn, partOf, partIn}
+use Rattle.image.specs.Valid.{rowOk, noTwins, marginsKept, guaranteesKept, partTests, partOk}
+use Rattle.image.specs.Tables.{placeOf, InTable, Tabled}
+use Rattle.image.specs.Cells.{rowsFrom, guaranteesFrom, partAt}
+use Rattle.image.proofs.Soundness.{SoundRow, sound-row, all-holds, holds-all, every-upTo, upTo-every}
+use Rattle.image.proofs.SoundBooks.{sound-part}
+use Rattle.tables.specs.Sums.{SumsOf, netStored, netsStored}
+use Rattle.audit.specs.Plain.{netsHeld, partPlain}
+use Rattle.audit.specs.Stands.{SetupKnown, rowCount, rowsOf, partWith, guaranteesStand, rowsStand, sumsStand, partStands}
+use Rattle.audit.proofs.CoverLaws.{length-guarantees-from}
+use Rattle.audit.proofs.StandLaws.{fails-with}
+
+-- ---- the nets by the table of sums
+
+every-alike : (p q : ℕ → Bool) (n : ℕ) → ((k : ℕ) → 1 ≤ k → k ≤ n → p k ≡ q k) → every p (upTo n) ≡ every q (upTo n)
+every-alike p q n f =
+    test-same _ _
+    (λ t. upTo-every q n (λ k l h. sym (f k l h) ∙ every-upTo p n t k l h))
+    (λ t. upTo-every p n (λ k l h. f k l h ∙ every-upTo q n t k l h))
+
+pub nets-by-sums : (s : List ℕ) (at : ℕ) (rows : List Row) (table : List ℕ) → SumsOf mostHours rows table → netsStored mostHours s (at + netsAt) table ≡ netsHeld mostHours rows s at
+unfolding netsStored netsHeld netStored
+nets-by-sums s at rows table sums =
+    every-alike _ _ mostAccounts (λ a al ah. every-alike _ _ mostHours (λ h hl hh.
+    let i : InTable mostHours a h = record { account-low = al; account-high = ah; hour-low = hl; hour-high = hh } in
+    let place : at + netsAt + 4 * placeOf mostHours a h ≡ at + netAt mostHours a h = omega arith in
+    rw (place, sums .bought-at a h i, sums .sold-at a h i)))
+
+-- what follows of the rows, each test by the table
+pub sums-stand : (s : List ℕ) (at : ℕ) (rows : List Row) (table : List ℕ) {nets margins covers : Bool} → SumsOf mostHours rows table
+    → nets ≡ netsStored mostHours s (at + netsAt) table → margins ≡ marginsKept (setupOf s) rows → covers ≡ guaranteesKept (setupOf s) (partWith s at rows)
+    → ((nets && margins) && covers) ≡ sumsStand s at rows
+unfolding sumsStand
+sums-stand s at rows table sums n m g = rw (n, m, g, nets-by-sums s at rows table sums)
+
+-- ---- a part at its places
+
+same-part : {g g′ : List Cents} {r r′ : List Row} → g ≡ g′ → r ≡ r′ → _≡_ {A = Part} (record { guarantees = g; rows = r }) (record { guarantees = g′; rows = r′ })
+same-part g r = rw (g, r)
+
+module _ (s : List ℕ) (at operators : ℕ) where
+  abbrev ws : List ℕ
+  ws = partWidths mostHours
+
+  abbrev x : List ℕ
+  x = take (partSize mostHours) (drop at s)
+
+  count : number (getD (cut ws x) 1 []) ≡ rowCount s at
+  unfolding numberAt
+  count = ap number (cut-at ws x 1 ∙ inner 2 128 (partSize mostHours) at s (omega arith))
+
+  pub length-part-rows : length (partAt mostHours operators s at .rows) ≡ rowCount s at
+  unfolding partIn partOf
+  length-part-rows =
+      length-map (chunks rowWidth (number (getD (cut ws x) 1 [])) (getD (cut ws x) 2 [])) rowIn
+      ∙ length-chunks rowWidth (number (getD (cut ws x) 1 [])) (getD (cut ws x) 2 [])
+      ∙ count
+
+  pub part-places : operators ≤ mostOperators → rowCount s at ≤ mostRows
+      → partAt mostHours operators s at ≡ record { guarantees = guaranteesFrom s at operators; rows = rowsOf s at }
+  unfolding partIn partOf guaranteesFrom rowsFrom
+  part-places o n =
+      let z : at + 0 ≡ at = omega arith in
+      let c0 : getD (cut ws x) 0 [] ≡ take 128 (drop at s) =
+      cut-at ws x 0 ∙ inner 128 0 (partSize mostHours) at s (omega arith) ∙ ap (λ (k : ℕ). take 128 (drop k s)) z in
+      let c2 : getD (cut ws x) 2 [] ≡ take 4608 (drop (at + rowsAt) s) = cut-at ws x 2 ∙ inner 4608 130 (partSize mostHours) at s (omega arith) in
+      same-part
+      (ap (λ (y : List ℕ). map (λ g. cents (number g)) (chunks 8 operators y)) c0
+      ∙ ap (map (λ g. cents (number g))) (chunks-front 8 operators 128 (drop at s) (omega arith)))
+      (ap (λ (k : ℕ). map rowIn (chunks rowWidth k (getD (cut ws x) 2 []))) count
+      ∙ ap (λ (y : List ℕ). map rowIn (chunks rowWidth (rowCount s at) y)) c2
+      ∙ ap (map rowIn) (chunks-front rowWidth (rowCount s at) 4608 (drop (at + rowsAt) s) (omega arith)))
+
+-- ---- the tests in the order in which code makes them
+
+in-order : (u : Setup) (p : Part) (z1 z2 nets : Bool) → length (p .guarantees) ≡ operatorCount u → length (p .rows) ≤ mostRows
+    → (partOk u p && allOf (z1 ∷ z2 ∷ nets ∷ []))
+    ≡ ((every (λ g. leb (g .0) mostGuarantee) (p .guarantees) && z1)
+    && (((every (rowOk u) (p .rows) && z2) && noTwins (p .rows)) && ((nets && marginsKept u (p .rows)) && guaranteesKept u p)))
+unfolding partOk
+in-order u p z1 z2 nets lg lr =
+    test-same _ _ (λ t.
+    let w = and-both (partOk u p) (allOf (z1 ∷ z2 ∷ nets ∷ [])) .0 t in
+    let h = all-holds (partTests u p) (w .0) in
+    let q = all-holds (z1 ∷ z2 ∷ nets ∷ []) (w .1) in
+    and-both _ _ .1 (
+      and-both _ _ .1 (h .1 .0, q .0),
+      and-both _ _ .1 (
+        and-both _ _ .1 (and-both _ _ .1 (h .1 .1 .1 .0, q .1 .0), h .1 .1 .1 .1 .0),
+        and-both _ _ .1 (and-both _ _ .1 (q .1 .1 .0, h .1 .1 .1 .1 .1 .0), h .1 .1 .1 .1 .1 .1 .0),
+      ),
+    )) (λ t.
+    let w = and-both (every (λ g. leb (g .0) mostGuarantee) (p .guarantees) && z1) _ .0 t in
+    let g = and-both (every (λ g. leb (g .0) mostGuarantee) (p .guarantees)) z1 .0 (w .0) in
+    let v = and-both ((every (rowOk u) (p .rows) && z2) && noTwins (p .rows)) ((nets && marginsKept u (p .rows)) && guaranteesKept u p) .0 (w .1) in
+    let r = and-both (every (rowOk u) (p .rows) && z2) (noTwins (p .rows)) .0 (v .0) in
+    let r1 = and-both (every (rowOk u) (p .rows)) z2 .0 (r .0) in
+    let m = and-both (nets && marginsKept u (p .rows)) (guaranteesKept u p) .0 (v .1) in
+    let m1 = and-both nets (marginsKept u (p .rows)) .0 (m .0) in
+    and-both (partOk u p) _ .1 (
+      holds-all (partTests u p) (eq-eqb _ _ lg, (g .0, (le-leb _ _ lr, (r1 .0, (r .1, (m1 .1, (m .1, tt))))))),
+      holds-all (z1 ∷ z2 ∷ nets ∷ []) (g .1, (r1 .1, (m1 .0, tt))),
+    ))
+
+-- the number of rows that a part that stands says is in range
+pub few-rows : (s : List ℕ) (at : ℕ) → partStands s at ≡ true → rowCount s at ≤ mostRows
+unfolding partStands
+few-rows s at t =
+    let p : Part = partAt mostHours (countsIn s .operators) s at in
+    let w = and-both (partOk (setupOf s) p) (partPlain mostHours (countsIn s .operators) s at) .0 t in
+    omega (arith, sound-part (setupOf s) p (w .0) .rows-high, length-part-rows s at (countsIn s .operators))
+
+pub too-many-rows : (s : List ℕ) (at : ℕ) → mostRows < rowCount s at → false ≡ partStands s at
+too-many-rows s at h = sym (fails-with (partStands s at) (λ t. le-leb _ _ (few-rows s at t)) (lt-leb (rowCount s at) mostRows h))
+
+module _ (s : List ℕ) (at n operators : ℕ) (k : SetupKnown s) (en : n ≡ rowCount s at) (eo : operators ≡ countsIn s .operators) (few : n ≤ mostRows) where
+  abbrev rows : List Row
+  rows = rowsFrom s (at + rowsAt) n
+
+  part-in-order : partStands s at ≡ (guaranteesStand s at operators && (rowsStand s at n && sumsStand s at rows))
+  unfolding partStands partPlain guaranteesStand rowsStand sumsStand
+  part-in-order =
+      let ops : operatorCount (setupOf s) ≡ countsIn s .operators = ap (λ (c : Counts). c .operators) (counts-of-setup s) in
+      let lg = length-guarantees-from s at (countsIn s .operators) ∙ sym ops in
+      let lr : length (rowsOf s at) ≤ mostRows =
+      omega (arith, ap (λ (p : Part). length (p .rows)) (part-places s at operators (omega (arith, k .operators-high)) (omega arith)), length-part-rows s at operators) in
+      let place : at + rowsAt + rowWidth * rowCount s at ≡ at + (rowsAt + rowWidth * rowCount s at) = omega arith in
+      rw (eo, en, part-places s at (countsIn s .operators) (omega (arith, k .operators-high)) (omega arith), place)
+      (in-order (setupOf s) (partWith s at (rowsOf s at)) _ _ _ lg lr)
+
+  pub guarantees-fail : guaranteesStand s at operators ≡ false → false ≡ partStands s at
+  guarantees-fail g = sym (part-in-order ∙ rw g)
+
+  pub rows-fail : guaranteesStand s at operators ≡ true → rowsStand s at n ≡ false → false ≡ partStands s at
+  rows-fail g r = sym (part-in-order ∙ rw (g, r))
+
+  pub sums-decide : guaranteesStand s at operators ≡ true → rowsStand s at n ≡ true → sumsStand s at rows ≡ partStands s at
+  sums-decide g r = sym (part-in-order ∙ rw (g, r))
+
+-- ---- what the sums ask of rows and guarantees that stand
+
+pub rows-tabled : (s : List ℕ) (at n : ℕ) → SetupKnown s → rowsStand s at n ≡ true → Each (Tabled mostHours) (rowsFrom s (at + rowsAt) n)
+unfolding rowsStand
+rows-tabled s at n k t =
+    let c = counts-of-setup s in
+    let accounts = ap (λ (c : Counts). c .accounts) c in
+    let hours = ap (λ (c : Counts). c .hours) c in
+    let w = and-both _ (noTwins (rowsFrom s (at + rowsAt) n)) .0 t in
+    let v = and-both (every (rowOk (setupOf s)) (rowsFrom s (at + rowsAt) n)) _ .0 (w .0) in
+    each-map (λ r e.
+    let q : SoundRow (setupOf s) r = sound-row (setupOf s) r e in
+    record {
+      proposer-low = q .proposer-low;
+      proposer-high = omega (arith, q .proposer-high, accounts, k .tabled .accounts-high);
+      counterparty-low = q .counterparty-low;
+      counterparty-high = omega (arith, q .counterparty-high, accounts, k .tabled .accounts-high);
+      first-low = q .first-low;
+      in-order = q .in-order;
+      last-high = omega (arith, q .last-high, hours, k .tabled .hours-high);
+      quantity-high = q .quantity-high;
+    }) (every-each (rowOk (setupOf s)) (rowsFrom s (at + rowsAt) n) (v .0))
+
+pub guarantees-small : (s : List ℕ) (at operators n : ℕ) → operators ≡ n → guaranteesStand s at operators ≡ true
+    → Each (λ g. g .0 ≤ mostGuarantee) (guaranteesFrom s at n)
+unfolding guaranteesStand
+guarantees-small s at operators n e t =
+    let w = and-both (every (λ g. leb (g .0) mostGuarantee) (guaranteesFrom s at operators)) _ .0 t in
+    rw e at (each-map (λ g h. leb-true (g .0) mostGuarantee h) (every-each _ (guaranteesFrom s at operators) (w .0)))

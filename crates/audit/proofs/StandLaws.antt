@@ -1,0 +1,111 @@
+-- The set-up's section as code tests it: opening accepts its bytes and no guarantee stands in them exactly where it stands.
+use Prim.Native.Nat.{ℕ, zero, suc, _+_, _-_, _≤_}
+use mathlib.Core.Path.{_≡_, refl, sym, ap, _∙_}
+use mathlib.Core.List.{List, [], _∷_}
+use mathlib.Core.Option.{Option, none}
+use mathlib.Core.Bool.{Bool, true, false, not, _&&_, and-assoc, and-true}
+use native.Mathlib.Numerals.{add-one}
+use native.Mathlib.Omega.{arith}
+use lib.ListN.{length, take, replicate, length-replicate}
+use borrow.Author.Tests.{not-true}
+use Rattle.wire.specs.Numbers.{Bytes}
+use Rattle.wire.specs.Regions.{zerosFrom}
+use Rattle.units.specs.declared.Cents.{Cents}
+use Rattle.units.specs.Units.{cents}
+use Rattle.rules.specs.declared.Counts.{Counts}
+use Rattle.rules.specs.declared.Refusal.{Refusal}
+use Rattle.rules.specs.Basics.{isSome, Each, nil, cons}
+use Rattle.rules.specs.Limits.{thousand, bookSize}
+use Rattle.rules.specs.Books.{Setup, operatorCount}
+use Rattle.rules.specs.Opening.{countsIn, operatorsFrom, setupLength, setupOf, operatorsOf, setupRefusal}
+use Rattle.rules.proofs.Tests.{and-both}
+use Rattle.rules.proofs.Searches.{none-of}
+use Rattle.rules.proofs.SetupEntries.{counts-of-setup}
+use Rattle.image.specs.Layout.{setupRoom}
+use Rattle.image.specs.Valid.{setupOk}
+use Rattle.image.proofs.Soundness.{SoundSetup, sound-setup}
+use Rattle.image.proofs.SetupRanges.{SoundOperator, values-in-range}
+use Rattle.image.proofs.SetupAgain.{setup-short, setup-in-front}
+use Rattle.audit.specs.Plain.{noneLodged}
+use Rattle.audit.specs.Stands.{setupStands, SetupKnown}
+use Rattle.audit.proofs.SetupTests.{setup-sound-in, setup-accepted-in}
+
+-- a test fails where one that holds with it fails
+pub fails-with : (t : Bool) {u : Bool} → (t ≡ true → u ≡ true) → u ≡ false → t ≡ false
+fails-with true f e = sym (f refl) ∙ e
+fails-with false f e = refl
+
+-- ---- the loop over the operators
+
+pub none-lodged-done : (ok : Bool) (s : List ℕ) (at n : ℕ) → n ≤ 0 → (ok && noneLodged s at n) ≡ ok
+unfolding noneLodged
+none-lodged-done ok s at zero h = and-true ok
+none-lodged-done ok s at (suc n) h = absurd (omega arith)
+
+pub none-lodged-step : {t : Bool} (ok : Bool) (s : List ℕ) (at n m : ℕ) → n ≡ m + 1 → t ≡ zerosFrom s at 8
+    → (ok && noneLodged s at n) ≡ ((ok && t) && noneLodged s (at + 10) m)
+unfolding noneLodged
+none-lodged-step ok s at n m e h = rw (e, add-one m, h) (sym (and-assoc ok _ _))
+
+-- ---- a set-up that stands is known
+
+maintenance-each : (gs : List Cents) (ms : List ℕ) → length gs ≡ length ms → Each SoundOperator (operatorsOf gs ms) → Each (λ m. m ≤ thousand) ms
+unfolding operatorsOf
+maintenance-each [] [] h e = nil
+maintenance-each [] (m ∷ ms) h e = absurd (omega arith)
+maintenance-each (g ∷ gs) [] h e = absurd (omega arith)
+maintenance-each (g ∷ gs) (m ∷ ms) h (cons p e) = cons (p .1) (maintenance-each gs ms (omega arith) e)
+
+sound-known : (s : List ℕ) → length s ≡ bookSize → SoundSetup (setupOf s) → SetupKnown s
+unfolding setupOf
+sound-known s l k =
+    let u : Setup = setupOf s in
+    let c = counts-of-setup s in
+    let operators = ap (λ (n : Counts). n .operators) c in
+    let accounts = ap (λ (n : Counts). n .accounts) c in
+    let points = ap (λ (n : Counts). n .points) c in
+    let hours = ap (λ (n : Counts). n .hours) c in
+    let v = values-in-range u (operatorsOf (replicate (operatorCount u) (cents 0)) (u .maintenance)) (k .in-range) in
+    record {
+      size = l;
+      tabled = record {
+        whole = omega (arith, k .hours-high, k .operators-high, k .accounts-high, k .points-high);
+        accounts-high = omega (arith, k .accounts-high);
+        hours-high = omega (arith, k .hours-high);
+      };
+      operators-high = omega (arith, k .operators-high);
+      prices-high = v .estimates-sound;
+      maintenance-high = maintenance-each (replicate (operatorCount u) (cents 0)) (u .maintenance) (length-replicate (operatorCount u) (cents 0)) (v .operators-sound);
+    }
+
+pub setup-known : (s : List ℕ) → length s ≡ bookSize → setupStands s ≡ true → SetupKnown s
+unfolding setupStands
+setup-known s l t =
+    let w = and-both (setupOk (setupOf (take setupRoom s))) _ .0 t in
+    let k = sound-setup (setupOf (take setupRoom s)) (w .0) in
+    sound-known s l (rw (setup-in-front s k) at k)
+
+-- ---- by what opening would say of its bytes
+
+module _ (s : List ℕ) (b : Bytes s) (l : length s ≡ bookSize) (size : ℕ) (e : size ≡ setupLength (countsIn s)) where
+  accepted-here : not (isSome (setupRefusal (take size s))) ≡ true → setupRefusal (take (setupLength (countsIn s)) s) ≡ none
+  accepted-here t = ap (λ (n : ℕ). setupRefusal (take n s)) (sym e) ∙ none-of (setupRefusal (take size s)) (not-true _ t)
+
+  pub refused-setup : not (isSome (setupRefusal (take size s))) ≡ false → false ≡ setupStands s
+  unfolding setupStands
+  refused-setup f =
+      sym (fails-with (setupStands s) (λ t.
+      let w = and-both (setupOk (setupOf (take setupRoom s))) _ .0 t in
+      let g = and-both (noneLodged s (operatorsFrom (countsIn s)) (countsIn s .operators)) _ .0 (w .1) in
+      let n = setup-accepted-in s b (omega arith) (g .0) (w .0) in
+      ap (λ (o : Option Refusal). not (isSome o)) (ap (λ (m : ℕ). setupRefusal (take m s)) e ∙ n)) f)
+
+  pub accepted-short : not (isSome (setupRefusal (take size s))) ≡ true → size ≤ setupRoom
+  accepted-short t =
+      omega (arith, setup-short s (sound-setup (setupOf (take setupRoom s)) (setup-sound-in s b (omega arith) (accepted-here t))))
+
+  pub accepted-setup : {lodged zero : Bool} → not (isSome (setupRefusal (take size s))) ≡ true
+      → lodged ≡ noneLodged s (operatorsFrom (countsIn s)) (countsIn s .operators) → zero ≡ zerosFrom s size (setupRoom - size)
+      → (lodged && zero) ≡ setupStands s
+  unfolding setupStands
+  accepted-setup t n z = rw (n, z, e, setup-sound-in s b (omega arith) (accepted-here t))

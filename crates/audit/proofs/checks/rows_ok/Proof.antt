@@ -1,0 +1,71 @@
+-- What was tested so far, with the test of what is left, is the test of all.
+use Prim.Native.Nat.{_+_, _-_, _*_, _≤_}
+use mathlib.Core.Path.{_≡_, refl}
+use mathlib.Core.Bool.{_&&_}
+use native.Mathlib.Omega.{arith}
+use lib.ListN.{length}
+use borrow.Author.Needs.{needs}
+use Rattle.rules.specs.Basics.{every}
+use Rattle.rules.specs.Books.{Setup, accountCount}
+use Rattle.image.specs.Image.{rowIn}
+use Rattle.image.specs.Valid.{rowOk}
+use Rattle.image.specs.Cells.{rowsFrom}
+use Rattle.image.proofs.RowsFrom.{every-done, every-step}
+use Rattle.audit.proofs.checks.rows_ok.Statement.{statement}
+use Rattle.audit.proofs.checks.rows_ok.Tie as tie
+
+abbrev Inv-loop : tie.InvT-loop
+Inv-loop s at n accounts hours ok₀ k₀ left₀ ok k left =
+    (k + 18 * left ≤ length s)
+    × ((u : Setup) → accountCount u ≡ accounts → u .hours ≡ hours → every (rowOk u) (rowsFrom s at n) ≡ (ok && every (rowOk u) (rowsFrom s k left)))
+
+abbrev μ-loop : tie.MeasureT-loop
+μ-loop s at n accounts hours ok₀ k₀ left₀ ok k left = left
+
+loop-holds : tie.Need-loop-holds Inv-loop μ-loop
+loop-holds c = (search needs, λ u n h. refl)
+
+row-at-requires : tie.Need-row-at-requires Inv-loop μ-loop
+row-at-requires c κs = search needs
+
+row-ok-requires : tie.Need-row-ok-requires Inv-loop μ-loop
+row-ok-requires c κs = search needs
+
+add-k : tie.Need-add-k Inv-loop μ-loop
+add-k c = search needs
+
+sub-left : tie.Need-sub-left Inv-loop μ-loop
+sub-left c = search needs
+
+loop-less : tie.Need-loop-less Inv-loop μ-loop
+loop-less c = search needs
+
+loop-again : tie.Need-loop-again Inv-loop μ-loop
+unfolding rowsFrom
+loop-again c =
+    let b = c .before .before .before in
+    let l = b .loop in (
+      search needs,
+      λ u n h. every-step rowIn 18 (l .ok) (rowOk u) (b .before .before .args .s .now) (l .k) (l .left) (l .left - 1) (omega arith) (c .before .row-at .ensures) (c .row-ok .ensures u n h) (l .inv .1 u n h),
+    )
+
+returns : tie.Need-returns Inv-loop μ-loop
+unfolding rowsFrom
+returns c u n h =
+    let l = c .before .loop in
+    every-done rowIn 18 (l .ok) (rowOk u) (c .before .before .before .args .s .now) (l .k) (l .left) (omega arith) (l .inv .1 u n h)
+
+pub rows-ok-spec : {M : Type 1} → statement M
+rows-ok-spec =
+    tie.close
+    (tie.spec
+    Inv-loop
+    μ-loop
+    loop-holds
+    row-at-requires
+    row-ok-requires
+    add-k
+    sub-left
+    loop-less
+    loop-again
+    returns)

@@ -1,0 +1,29 @@
+-- The two tests are those of the definition.
+use borrow.Author.Needs.{needs}
+use Rattle.audit.specs.Stands.{guaranteesStand}
+use Rattle.audit.proofs.part.guarantees_stand.Statement.{statement}
+use Rattle.audit.proofs.part.guarantees_stand.Tie as tie
+
+mul-used : tie.Need-mul-used
+mul-used c = search needs
+
+guarantees-ok-requires : tie.Need-guarantees-ok-requires
+guarantees-ok-requires c κs = search needs
+
+add-all-zero : tie.Need-add-all-zero
+add-all-zero c = search needs
+
+sub-all-zero : tie.Need-sub-all-zero
+sub-all-zero c = search needs
+
+all-zero-requires : tie.Need-all-zero-requires
+all-zero-requires c κs = search needs
+
+returns : tie.Need-returns
+unfolding guaranteesStand
+returns c = rw (c .before .guarantees-ok .ensures, c .all-zero .ensures)
+
+pub guarantees-stand-spec : {M : Type 1} → statement M
+guarantees-stand-spec =
+    tie.close
+    (tie.spec mul-used guarantees-ok-requires add-all-zero sub-all-zero all-zero-requires returns)

@@ -1,0 +1,59 @@
+-- What was read of the operator's guarantee and maintenance is what is available to it.
+use mathlib.Core.Path.{_∙_, ap}
+use native.Mathlib.Omega.{arith}
+use borrow.Author.Needs.{needs}
+use Rattle.rules.specs.declared.Operator.{Operator}
+use Rattle.audit.proofs.CoverLaws.{guarantee-small, maintenance-small, covered-read}
+use Rattle.audit.proofs.part.operator_covered.Statement.{statement}
+use Rattle.audit.proofs.part.operator_covered.Tie as tie
+
+exposure-of-requires : tie.Need-exposure-of-requires
+exposure-of-requires c κs = search needs
+
+operator-requires : tie.Need-operator-requires
+operator-requires c κs = search needs
+
+sub-get-u64 : tie.Need-sub-get-u64
+sub-get-u64 c = search needs
+
+mul-get-u64 : tie.Need-mul-get-u64
+mul-get-u64 c = search needs
+
+add-get-u64 : tie.Need-add-get-u64
+add-get-u64 c = search needs
+
+get-u64-requires : tie.Need-get-u64-requires
+get-u64-requires c κs = search needs
+
+available-requires : tie.Need-available-requires
+available-requires c κs =
+    let b = c .before .before .before .before .before in
+    let s = b .args .book .now in
+    let g = guarantee-small s (b .args .at) _ (b .args .number) (b .pre .2) (omega arith) (omega arith) in
+    let m = maintenance-small s (b .args .number) (b .pre .0 .maintenance-high) (omega arith) (omega arith) in
+    (omega (arith, g, c .get-u64 .ensures), omega (arith, m, ap (λ (x : Operator). x .maintenance) (c .before .operator .ensures)))
+
+at-most-requires : tie.Need-at-most-requires
+at-most-requires c κs = search needs
+
+returns : tie.Need-returns
+returns c rows sums =
+    let available = c .before in
+    let read = available .before in
+    let owner = read .before in
+    c .at-most .ensures
+    ∙ covered-read _ _ rows _ _ _ _ _ (omega arith) (omega arith) (owner .before .exposure-of .ensures rows sums) (owner .operator .ensures) (read .get-u64 .ensures) (available .available .ensures)
+
+pub operator-covered-spec : {M : Type 1} → statement M
+operator-covered-spec =
+    tie.close
+    (tie.spec
+    exposure-of-requires
+    operator-requires
+    sub-get-u64
+    mul-get-u64
+    add-get-u64
+    get-u64-requires
+    available-requires
+    at-most-requires
+    returns)

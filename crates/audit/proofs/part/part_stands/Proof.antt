@@ -1,0 +1,96 @@
+-- Too many rows are no part; else the tests, in this order, are those of a part.
+use mathlib.Core.Path.{sym, ap, _∙_}
+use native.Mathlib.Omega.{arith}
+use borrow.Author.Tests.{not-true, not-false}
+use Rattle.rules.specs.declared.Counts.{Counts}
+use Rattle.audit.proofs.PartStands.{too-many-rows, guarantees-fail, rows-fail, sums-decide, rows-tabled, guarantees-small}
+use borrow.Author.Needs.{needs}
+use Rattle.audit.proofs.part.part_stands.Statement.{statement}
+use Rattle.audit.proofs.part.part_stands.Tie as tie
+
+counts-requires : tie.Need-counts-requires
+counts-requires c κs = search needs
+
+add-get-u16 : tie.Need-add-get-u16
+add-get-u16 c = search needs
+
+get-u16-requires : tie.Need-get-u16-requires
+get-u16-requires c κs = search needs
+
+cast-rows : tie.Need-cast-rows
+cast-rows c = search needs
+
+returns : tie.Need-returns
+returns c = too-many-rows _ _ (omega (arith, c .before .get-u16 .ensures))
+
+cast-guarantees-stand : tie.Need-cast-guarantees-stand
+cast-guarantees-stand c = search needs
+
+guarantees-stand-requires : tie.Need-guarantees-stand-requires
+guarantees-stand-requires c κs =
+    let counted = c .before .before .before in
+    (search needs, omega (arith, ap (λ (n : Counts). n .operators) (counted .counts .ensures), counted .before .before .pre .0 .operators-high))
+
+returns-2 : tie.Need-returns-2
+returns-2 c =
+    let tested = c .before in
+    let read = tested .before .before .before in
+    let counted = read .before in
+    guarantees-fail _ _ _ _ (counted .before .before .pre .0) (read .get-u16 .ensures) (ap (λ (n : Counts). n .operators) (counted .counts .ensures)) (omega arith)
+    (sym (tested .guarantees-stand .ensures) ∙ not-true _ (c .if2 .taken))
+
+rows-stand-requires : tie.Need-rows-stand-requires
+rows-stand-requires c κs = search needs
+
+returns-3 : tie.Need-returns-3
+returns-3 c =
+    let rows = c .before in
+    let stand = rows .before in
+    let tested = stand .before in
+    let read = tested .before .before .before in
+    let counted = read .before in
+    rows-fail _ _ _ _ (counted .before .before .pre .0) (read .get-u16 .ensures) (ap (λ (n : Counts). n .operators) (counted .counts .ensures)) (omega arith)
+    (sym (tested .guarantees-stand .ensures) ∙ not-false _ (stand .if2 .left)) (sym (rows .rows-stand .ensures) ∙ not-true _ (c .if3 .taken))
+
+sums-stand-requires : tie.Need-sums-stand-requires
+sums-stand-requires c κs =
+    let rows = c .before in
+    let stand = rows .before in
+    let tested = stand .before in
+    let counted = tested .before .before .before .before in
+    let known = counted .before .before .pre .0 in (
+      known,
+      search needs,
+      search needs,
+      rows-tabled _ _ _ known (sym (rows .rows-stand .ensures) ∙ not-false _ (c .if3 .left)),
+      guarantees-small _ _ _ _ (ap (λ (n : Counts). n .operators) (counted .counts .ensures)) (sym (tested .guarantees-stand .ensures) ∙ not-false _ (stand .if2 .left)),
+    )
+
+returns-4 : tie.Need-returns-4
+returns-4 c =
+    let sums = c .before in
+    let rows = sums .before in
+    let stand = rows .before in
+    let tested = stand .before in
+    let read = tested .before .before .before in
+    let counted = read .before in
+    c .sums-stand .ensures
+    ∙ sums-decide _ _ _ _ (counted .before .before .pre .0) (read .get-u16 .ensures) (ap (λ (n : Counts). n .operators) (counted .counts .ensures)) (omega arith)
+    (sym (tested .guarantees-stand .ensures) ∙ not-false _ (stand .if2 .left)) (sym (rows .rows-stand .ensures) ∙ not-false _ (sums .if3 .left))
+
+pub part-stands-spec : {M : Type 1} → statement M
+part-stands-spec =
+    tie.close
+    (tie.spec
+    counts-requires
+    add-get-u16
+    get-u16-requires
+    cast-rows
+    returns
+    cast-guarantees-stand
+    guarantees-stand-requires
+    returns-2
+    rows-stand-requires
+    returns-3
+    sums-stand-requires
+    returns-4)

@@ -1,0 +1,89 @@
+-- Without a batch there are zeros; with one the part stands, and then its rows decide.
+use mathlib.Core.Path.{sym, _∙_}
+use native.Mathlib.Omega.{arith}
+use borrow.Author.Tests.{not-true, not-false}
+use Rattle.audit.proofs.PartStands.{few-rows}
+use Rattle.audit.proofs.BookStands.{saved-without, saved-with}
+use borrow.Author.Needs.{needs}
+use Rattle.audit.proofs.whole.saved_stands.Statement.{statement}
+use Rattle.audit.proofs.whole.saved_stands.Tie as tie
+
+shared-slice-read-if1 : tie.Need-shared-slice-read-if1
+shared-slice-read-if1 c = search needs
+
+all-zero-requires : tie.Need-all-zero-requires
+all-zero-requires c κs = search needs
+
+returns : tie.Need-returns
+returns c = c .all-zero .ensures ∙ sym (saved-without _ (c .before .if1 .taken))
+
+part-stands-requires : tie.Need-part-stands-requires
+part-stands-requires c κs = search needs
+
+returns-2 : tie.Need-returns-2
+returns-2 c =
+    let tested = c .before in
+    sym (saved-with _ (tested .before .if1 .left) ∙ rw (sym (tested .part-stands .ensures) ∙ not-true _ (c .if2 .taken)))
+
+add-get-u16 : tie.Need-add-get-u16
+add-get-u16 c = search needs
+
+get-u16-requires : tie.Need-get-u16-requires
+get-u16-requires c κs = search needs
+
+cast-saved : tie.Need-cast-saved
+cast-saved c = search needs
+
+add-get-u16-2 : tie.Need-add-get-u16-2
+add-get-u16-2 c = search needs
+
+get-u16-requires-2 : tie.Need-get-u16-requires-2
+get-u16-requires-2 c κs = search needs
+
+cast-rows : tie.Need-cast-rows
+cast-rows c = search needs
+
+add-rows-follow : tie.Need-add-rows-follow
+add-rows-follow c = search needs
+
+add-rows-follow-2 : tie.Need-add-rows-follow-2
+add-rows-follow-2 c = search needs
+
+rows-follow-requires : tie.Need-rows-follow-requires
+rows-follow-requires c κs =
+    let saved = c .before in
+    let stands = saved .before in
+    let tested = stands .before in
+    let s = tested .before .before .before .before .args .book .now in
+    let few = few-rows s 18950 (sym (tested .part-stands .ensures) ∙ not-false _ (stands .if2 .left)) in
+    (omega (arith, few, saved .get-u16 .ensures), omega (arith, c .get-u162 .ensures))
+
+returns-3 : tie.Need-returns-3
+returns-3 c =
+    let read = c .before in
+    let saved = read .before in
+    let stands = saved .before in
+    let tested = stands .before in
+    c .rows-follow .ensures
+    ∙ rw (saved .get-u16 .ensures, read .get-u162 .ensures)
+    (sym (saved-with _ (tested .before .if1 .left) ∙ rw (sym (tested .part-stands .ensures) ∙ not-false _ (stands .if2 .left))))
+
+pub saved-stands-spec : {M : Type 1} → statement M
+saved-stands-spec =
+    tie.close
+    (tie.spec
+    shared-slice-read-if1
+    all-zero-requires
+    returns
+    part-stands-requires
+    returns-2
+    add-get-u16
+    get-u16-requires
+    cast-saved
+    add-get-u16-2
+    get-u16-requires-2
+    cast-rows
+    add-rows-follow
+    add-rows-follow-2
+    rows-follow-requires
+    returns-3)

@@ -1,0 +1,97 @@
+-- A book section by section, as code tests it in its bytes: the set-up first, then what is read by it. Each test looks at its own places.
+use Prim.Native.Nat.{ℕ, _+_, _-_, _*_, _≤_}
+use mathlib.Core.Path.{_≡_}
+use mathlib.Core.List.{List}
+use mathlib.Core.Bool.{Bool, not, _&&_, _||_}
+use lib.ListN.{length, getD, take}
+use lib.Dec.{eqb, leb}
+use Rattle.wire.specs.Numbers.{numberAt}
+use Rattle.wire.specs.Regions.{zerosFrom}
+use Rattle.rules.specs.declared.Row.{Row}
+use Rattle.rules.specs.Basics.{if_then_else_, any, every, within, Each}
+use Rattle.rules.specs.Limits.{mostPrice, mostGuarantee, thousand, mostHours, mostOperators, mostRows, mostSchedules, bookSize}
+use Rattle.rules.specs.Books.{Part}
+use Rattle.rules.specs.Opening.{countsIn, operatorsFrom, setupLength, setupOf, estimatesIn}
+use Rattle.rules.specs.Registration.{pending}
+use Rattle.image.specs.Layout.{setupRoom, rowWidth, scheduleWidth, partSize, phaseAt, flagAt, scheduleCountAt, schedulesAt, presentAt, savedAt, rowCountAt, rowsAt}
+use Rattle.image.specs.Valid.{setupOk, rowOk, scheduleOk, noTwins, marginsKept, guaranteesKept, partOk, follows}
+use Rattle.image.specs.Cells.{rowsFrom, schedulesFrom, guaranteesFrom, partAt}
+use Rattle.image.specs.Tables.{SetupTabled}
+use Rattle.audit.specs.Plain.{noneLodged, netsHeld, partPlain}
+
+-- ---- the set-up
+
+-- opening would accept it; no guarantee stands in it, and zeros stand behind it
+unfoldable pub setupStands : List ℕ → Bool
+setupStands s =
+    setupOk (setupOf (take setupRoom s))
+    && (noneLodged s (operatorsFrom (countsIn s)) (countsIn s .operators)
+    && zerosFrom s (setupLength (countsIn s)) (setupRoom - setupLength (countsIn s)))
+
+-- what is known of a book's bytes once its set-up stands
+pub record SetupKnown (s : List ℕ) : Type 0 where
+  pub size : length s ≡ bookSize
+  pub tabled : SetupTabled s
+  pub operators-high : countsIn s .operators ≤ mostOperators
+  pub prices-high : Each (λ p. p .0 ≤ mostPrice) (estimatesIn s)
+  pub maintenance-high : Each (λ m. m ≤ thousand) (setupOf s .maintenance)
+
+-- ---- a part, the present and the saved one alike
+
+-- how many rows the part that begins at `at` says that it has, and those rows
+abbrev pub rowCount : List ℕ → ℕ → ℕ
+rowCount s at = numberAt s (at + rowCountAt) 2
+
+abbrev pub rowsOf : List ℕ → ℕ → List Row
+rowsOf s at = rowsFrom s (at + rowsAt) (rowCount s at)
+
+-- the guarantees at `at` with these rows
+abbrev pub partWith : List ℕ → ℕ → List Row → Part
+partWith s at rows = record { guarantees = guaranteesFrom s at (countsIn s .operators); rows = rows }
+
+-- no guarantee is too great, and zeros stand behind them
+unfoldable pub guaranteesStand : List ℕ → ℕ → ℕ → Bool
+guaranteesStand s at operators =
+    every (λ g. leb (g .0) mostGuarantee) (guaranteesFrom s at operators) && zerosFrom s (at + 8 * operators) (8 * mostOperators - 8 * operators)
+
+-- the n rows are in range, no two pending ones alike, and zeros stand behind them
+unfoldable pub rowsStand : List ℕ → ℕ → ℕ → Bool
+rowsStand s at n =
+    (every (rowOk (setupOf s)) (rowsFrom s (at + rowsAt) n) && zerosFrom s (at + rowsAt + rowWidth * n) (rowWidth * mostRows - rowWidth * n))
+    && noTwins (rowsFrom s (at + rowsAt) n)
+
+-- the nets are those of the rows, which keep the margins and are covered
+unfoldable pub sumsStand : List ℕ → ℕ → List Row → Bool
+sumsStand s at rows = (netsHeld mostHours rows s at && marginsKept (setupOf s) rows) && guaranteesKept (setupOf s) (partWith s at rows)
+
+-- the part is valid, and its bytes are its image
+unfoldable pub partStands : List ℕ → ℕ → Bool
+partStands s at =
+    partOk (setupOf s) (partAt mostHours (countsIn s .operators) s at) && partPlain mostHours (countsIn s .operators) s at
+
+-- the saved part: zeros without a batch; with one a part, whose rows the present ones follow
+unfoldable pub savedStands : List ℕ → Bool
+savedStands s =
+    if eqb (getD s flagAt 0) 0
+    then zerosFrom s (savedAt mostHours) (partSize mostHours)
+    else (partStands s (savedAt mostHours) && follows (rowsOf s (savedAt mostHours)) (rowsOf s presentAt))
+
+-- ---- schedules and phase
+
+-- there are no more schedules than may stand, each in range, and zeros stand behind them
+unfoldable pub schedulesStand : List ℕ → Bool
+schedulesStand s =
+    let n = numberAt s scheduleCountAt 2 in
+    leb n mostSchedules
+    && (every (scheduleOk (setupOf s)) (schedulesFrom s schedulesAt n)
+    && zerosFrom s (schedulesAt + scheduleWidth * n) (scheduleWidth * mostSchedules - scheduleWidth * n))
+
+-- none pending after phase 1, schedules only after it, an open batch only in it
+unfoldable pub phaseStands : List ℕ → Bool
+phaseStands s =
+    let phase = getD s phaseAt 0 in
+    let flag = getD s flagAt 0 in
+    (within 1 phase 3 && leb flag 1)
+    && (eqb phase 1 || not (any pending (rowsOf s presentAt)))
+    && (not (eqb phase 1) || eqb (numberAt s scheduleCountAt 2) 0)
+    && (eqb phase 1 || eqb flag 0)

@@ -1,0 +1,115 @@
+// A part of a book, the present and the saved one alike: what its bytes have to be.
+ghost use mathlib.Core.Path.{_≡_};
+ghost use mathlib.Core.List.{List};
+ghost use Prim.Native.Nat.{_+_, _*_, _≤_};
+ghost use lib.ListN.{length};
+ghost use Rattle.rules.specs.declared.Row.{Row};
+ghost use Rattle.rules.specs.Basics.{Each};
+ghost use Rattle.rules.specs.Limits.{mostGuarantee, mostHours};
+ghost use Rattle.rules.specs.Opening.{countsIn, setupOf};
+ghost use Rattle.rules.specs.Registration.{covered};
+ghost use Rattle.image.specs.Valid.{guaranteesKept};
+ghost use Rattle.image.specs.Cells.{rowsFrom, guaranteesFrom};
+ghost use Rattle.image.specs.Tables.{Tabled};
+ghost use Rattle.tables.specs.Sums.{SumsOf};
+ghost use Rattle.audit.specs.Stands.{SetupKnown, partWith, guaranteesStand, rowsStand, sumsStand, partStands};
+use crate::checks::guarantees_ok;
+use crate::checks::rows_ok;
+use crate::twins::no_twins;
+use image::layout::GUARANTEE_WIDTH;
+use image::layout::MOST_ROWS;
+use image::layout::NETS_IN;
+use image::layout::PERIODS;
+use image::layout::ROW_COUNT_IN;
+use image::layout::ROW_WIDTH;
+use image::layout::ROWS_IN;
+use setup::counts::counts;
+use setup::entries::operator;
+use tables::exposure::exposure_of;
+use tables::margins::margins_kept;
+use tables::sums::nets_kept;
+use tables::sums::sums_of;
+use units::Cents;
+use wire::numbers::get_u16;
+use wire::numbers::get_u64;
+use wire::regions::all_zero;
+
+// None of the guarantees is too great, and zeros stand behind them.
+fn guarantees_stand(book: &[u8], at: usize, operators: usize) -> bool
+    requires { ⌜ (at + 128 ≤ length (now book)) × (operators ≤ 16) ⌝ }
+    ensures { λ r. ⌜ r ≡ guaranteesStand (now (book .entry)) at operators ⌝ }
+{
+    let used = GUARANTEE_WIDTH * operators;
+    guarantees_ok(book, at, operators) & all_zero(book, at + used, ROW_COUNT_IN - used)
+}
+
+// The rows are in range, no two pending ones are alike, and zeros stand behind them.
+fn rows_stand(book: &[u8], at: usize, n: usize) -> bool
+    requires { ⌜ SetupKnown (now book) × (at + 4738 ≤ length (now book)) × (n ≤ 256) ⌝ }
+    ensures { λ r. ⌜ r ≡ rowsStand (now (book .entry)) at n ⌝ }
+{
+    let c = counts(book);
+    let rows = at + ROWS_IN;
+    let used = ROW_WIDTH * n;
+    rows_ok(book, rows, n, c.accounts, c.hours)
+        & all_zero(book, rows + used, ROW_WIDTH * MOST_ROWS - used)
+        & no_twins(book, rows, n)
+}
+
+// The exposure of the operator is at most what is available of its guarantee in the part at `at`.
+fn operator_covered(book: &[u8], at: usize, table: &[u32], number: u8) -> bool
+    requires { ⌜ SetupKnown (now book) × (at + 128 ≤ length (now book)) × Each (λ g. g .0 ≤ mostGuarantee) (guaranteesFrom (now book) at (countsIn (now book) .operators)) × (length (now table) ≡ 3200) × (1 ≤ number) × (number ≤ countsIn (now book) .operators) ⌝ }
+    ensures { λ r. ⌜ ((rows : List Row) → SumsOf mostHours rows (now (table .entry)) → r ≡ covered (setupOf (now (book .entry))) (partWith (now (book .entry)) at rows) number) ⌝ }
+{
+    let exposed = exposure_of(book, table, number);
+    let owner = operator(book, number);
+    let guarantee = Cents(get_u64(book, at + GUARANTEE_WIDTH * (number as usize - 1)));
+    exposed.at_most(guarantee.available(owner.maintenance))
+}
+
+// Whether that is so of every operator.
+fn guarantees_cover(book: &[u8], at: usize, table: &[u32]) -> bool
+    requires { ⌜ SetupKnown (now book) × (at + 128 ≤ length (now book)) × Each (λ g. g .0 ≤ mostGuarantee) (guaranteesFrom (now book) at (countsIn (now book) .operators)) × (length (now table) ≡ 3200) ⌝ }
+    ensures { λ r. ⌜ ((rows : List Row) → SumsOf mostHours rows (now (table .entry)) → r ≡ guaranteesKept (setupOf (now (book .entry))) (partWith (now (book .entry)) at rows)) ⌝ }
+{
+    let n = counts(book);
+    let mut number: u8 = 1;
+    while number <= n.operators {
+        if operator_covered(book, at, table, number) {
+            number = number + 1;
+        } else {
+            return false;
+        }
+    }
+    true
+}
+
+// What follows of the sums of the rows: the nets are theirs, margins are kept, and every exposure is covered.
+fn sums_stand(book: &[u8], at: usize, n: usize) -> bool
+    requires { ⌜ SetupKnown (now book) × (at + 7938 ≤ length (now book)) × (n ≤ 256) × Each (Tabled mostHours) (rowsFrom (now book) (at + 130) n) × Each (λ g. g .0 ≤ mostGuarantee) (guaranteesFrom (now book) at (countsIn (now book) .operators)) ⌝ }
+    ensures { λ r. ⌜ r ≡ sumsStand (now (book .entry)) at (rowsFrom (now (book .entry)) (at + 130) n) ⌝ }
+{
+    let table = sums_of(book, at + ROWS_IN, n);
+    nets_kept(book, at + NETS_IN, &table, PERIODS)
+        & margins_kept(book, &table)
+        & guarantees_cover(book, at, &table)
+}
+
+// The part that begins at `at` is valid, and nothing else stands in its bytes.
+pub fn part_stands(book: &[u8], at: usize) -> bool
+    requires { ⌜ SetupKnown (now book) × (at + 7938 ≤ length (now book)) ⌝ }
+    ensures { λ r. ⌜ r ≡ partStands (now (book .entry)) at ⌝ }
+{
+    let c = counts(book);
+    let rows = get_u16(book, at + ROW_COUNT_IN) as usize;
+    if MOST_ROWS < rows {
+        return false;
+    }
+    if !guarantees_stand(book, at, c.operators as usize) {
+        return false;
+    }
+    if !rows_stand(book, at, rows) {
+        return false;
+    }
+    sums_stand(book, at, rows)
+}

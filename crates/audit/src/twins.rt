@@ -1,0 +1,114 @@
+// No two pending rows are alike in proposer, counterparty and code: found by keys, of which only those that share a mark are compared.
+ghost use mathlib.Core.Path.{_≡_};
+ghost use mathlib.Core.Bool.{false};
+ghost use Prim.Native.Nat.{_+_, _-_, _*_, _≤_, _<_};
+ghost use lib.ListN.{length, getD};
+ghost use Rattle.image.specs.Valid.{noTwins};
+ghost use Rattle.image.specs.Cells.{rowsFrom};
+ghost use Rattle.audit.specs.Twins.{pairOf, markOf, keyAmong, keysApart, Keyed};
+use image::layout::MOST_ROWS;
+use image::layout::ROW_WIDTH;
+use image::layout::TURN;
+use image::rows::row_at;
+use rules::Row;
+
+// Marks that keys may have.
+const MARKS: usize = 8_192;
+
+// A number of 32 bits times this, about 2^32 over the golden ratio, has a mark in the first 13 of its lower 32 bits: numbers counted up
+// are spread by it.
+const SPREAD: u64 = 2_654_435_761;
+
+// The bits below the mark.
+const BELOW_MARK: u64 = 524_288;
+
+// The second number of a row's key. A row that is not pending gets one that no other row has.
+fn pair_of(r: Row, i: usize) -> u64
+    requires { ⌜ i < 256 ⌝ }
+    ensures { λ p. ⌜ p ≡ pairOf i r ⌝ }
+{
+    if r.status == 1 {
+        (r.proposer as u64) * 256 + (r.counterparty as u64)
+    } else {
+        65536 + (i as u64)
+    }
+}
+
+// Fills in the keys of the `n` rows from `at` on.
+fn put_keys(codes: &mut [u64], pairs: &mut [u64], s: &[u8], at: usize, n: usize)
+    requires { ⌜ (length (now codes) ≡ 256) × (length (now pairs) ≡ 256) × (n ≤ 256) × (at + 18 * n ≤ length (now s)) ⌝ }
+    ensures { λ _. ⌜ Keyed (now (s .entry)) at n (now (codes .exit)) (now (pairs .exit)) ⌝ }
+{
+    let mut i = 0;
+    while i < n {
+        let r = row_at(s, at + ROW_WIDTH * i);
+        codes[i] = r.code;
+        pairs[i] = pair_of(r, i);
+        i = i + 1;
+    }
+}
+
+// The mark of a key. Two keys seldom share one.
+fn mark_of(code: u64, pair: u64) -> usize
+    ensures { λ r. ⌜ (r ≡ markOf code pair) × (r < 8192) ⌝ }
+{
+    let word = (code % TURN + code / TURN + 257 * (pair % TURN)) % TURN;
+    (word * SPREAD / BELOW_MARK) as usize % MARKS
+}
+
+// One of the keys after place `i` is the key at `i`.
+fn key_after(codes: &[u64], pairs: &[u64], i: usize, n: usize) -> bool
+    requires { ⌜ (length (now codes) ≡ 256) × (length (now pairs) ≡ 256) × (i < n) × (n ≤ 256) ⌝ }
+    ensures { λ b. ⌜ b ≡ keyAmong (now (codes .entry)) (now (pairs .entry)) (getD (now (codes .entry)) i 0) (getD (now (pairs .entry)) i 0) (i + 1) (n - (i + 1)) ⌝ }
+{
+    let code = codes[i];
+    let pair = pairs[i];
+    let mut found = false;
+    let mut k = i + 1;
+    while k < n {
+        found = found | ((codes[k] == code) & (pairs[k] == pair));
+        k = k + 1;
+    }
+    found
+}
+
+// The same, where what was `seen` at the key's mark is 0 only if there is none: then nothing is searched.
+fn key_again(codes: &[u64], pairs: &[u64], i: usize, n: usize, seen: u8) -> bool
+    requires { ⌜ (length (now codes) ≡ 256) × (length (now pairs) ≡ 256) × (i < n) × (n ≤ 256) × (seen ≡ 0 → keyAmong (now codes) (now pairs) (getD (now codes) i 0) (getD (now pairs) i 0) (i + 1) (n - (i + 1)) ≡ false) ⌝ }
+    ensures { λ b. ⌜ b ≡ keyAmong (now (codes .entry)) (now (pairs .entry)) (getD (now (codes .entry)) i 0) (getD (now (pairs .entry)) i 0) (i + 1) (n - (i + 1)) ⌝ }
+{
+    if seen == 0 {
+        return false;
+    }
+    key_after(codes, pairs, i, n)
+}
+
+// No two of the `n` keys are the same: from the last to the first, each leaves a 1 at its mark.
+fn keys_apart(codes: &[u64], pairs: &[u64], seen: &mut [u8], n: usize) -> bool
+    requires { ⌜ (length (now codes) ≡ 256) × (length (now pairs) ≡ 256) × (length (now seen) ≡ 8192) × (n ≤ 256) ⌝ }
+    ensures { λ b. ⌜ b ≡ keysApart (now (codes .entry)) (now (pairs .entry)) 0 n ⌝ }
+{
+    let mut left = n;
+    while 0 < left {
+        let i = left - 1;
+        let mark = mark_of(codes[i], pairs[i]);
+        if key_again(codes, pairs, i, n, seen[mark]) {
+            return false;
+        }
+        seen[mark] = 1;
+        left = i;
+    }
+    true
+}
+
+// No two pending ones of the `n` rows from `at` on are alike.
+pub fn no_twins(s: &[u8], at: usize, n: usize) -> bool
+    requires { ⌜ (n ≤ 256) × (at + 18 * n ≤ length (now s)) ⌝ }
+    ensures { λ b. ⌜ b ≡ noTwins (rowsFrom (now (s .entry)) at n) ⌝ }
+{
+    let mut codes = [0u64; MOST_ROWS];
+    let mut pairs = [0u64; MOST_ROWS];
+    put_keys(&mut codes, &mut pairs, s, at, n);
+    let mut seen = [0u8; MARKS];
+    keys_apart(&codes, &pairs, &mut seen, n)
+}

@@ -1,0 +1,149 @@
+-- A valid book is read back from its image, as each value fits its bytes, and so bytes are a book exactly when they are the image of a
+-- valid one.
+use Prim.Native.Nat.{ℕ, _≤_}
+use mathlib.Core.Path.{_≡_, refl, sym, ap, _∙_}
+use mathlib.Core.List.{List, [], _∷_, map}
+use mathlib.Core.Option.{Option, none, some}
+use mathlib.Core.Bool.{true, _&&_}
+use native.Mathlib.Omega.{arith}
+use lib.ListN.{length}
+use lib.Dec.{eqb}
+use borrow.Author.Tests.{eqb-true, eq-eqb}
+use Rattle.wire.specs.Numbers.{number, le, Bytes}
+use Rattle.wire.specs.Parts.{Small}
+use Rattle.wire.proofs.NumberLaws.{number-le, le-number-wide}
+use Rattle.wire.proofs.PartLaws.{cut-flat}
+use Rattle.wire.proofs.PackLaws.{number-in-pack, pack-numbers}
+use Rattle.wire.proofs.SlotLaws.{unslots}
+use Rattle.units.specs.declared.Cents.{Cents}
+use Rattle.units.specs.Units.{cents}
+use Rattle.rules.specs.declared.Row.{Row}
+use Rattle.rules.specs.declared.Schedule.{Schedule}
+use Rattle.rules.specs.Basics.{Each, nil, cons}
+use Rattle.rules.specs.Limits.{mostOperators, mostRows, mostSchedules, mostGuarantee}
+use Rattle.rules.specs.Books.{Setup, Part, Book, operatorCount}
+use Rattle.rules.proofs.Tests.{and-both}
+use Rattle.rules.proofs.Searches.{each-map}
+use Rattle.image.specs.Layout.{rowWidths, rowWidth, scheduleWidths, scheduleWidth, partWidths, usedSize, bookWidths}
+use Rattle.image.specs.Image.{rowValues, rowBytes, scheduleValues, scheduleBytes, partSections, partBytes, flag, savedBytes, sectionsWith, sections, image, rowIn, scheduleIn, partOf, partIn, savedIn, bookOf, decode}
+use Rattle.image.specs.Valid.{valid, same, isBookOf}
+use Rattle.image.proofs.Soundness.{SoundSetup, SoundRow, SoundSchedule}
+use Rattle.image.proofs.SoundBooks.{SoundPart, SavedSound, sound}
+use Rattle.image.proofs.Sizes.{row-small, schedule-small, part-fits-of, fits, length-row, length-schedule, length-guarantee, wide-part, wide-book, length-image}
+use Rattle.image.proofs.StoredSetup.{setup-back}
+
+-- ---- rows and schedules
+
+module _ (u : Setup) (s : SoundSetup u) where
+  pub row-back : (r : Row) → SoundRow u r → rowIn (rowBytes r) ≡ r
+  unfolding rowIn rowBytes
+  row-back r k =
+      let ws : List ℕ = rowWidths in
+      let vs : List ℕ = rowValues r in
+      let fit : Small rowWidths vs = row-small u r s k in
+      rw (number-in-pack ws vs 0 fit, number-in-pack ws vs 1 fit, number-in-pack ws vs 2 fit, number-in-pack ws vs 3 fit, number-in-pack ws vs 4 fit, number-in-pack ws vs 5 fit, number-in-pack ws vs 6 fit, number-in-pack ws vs 7 fit)
+
+  pub schedule-back : (x : Schedule) → SoundSchedule u x → scheduleIn (scheduleBytes x) ≡ x
+  unfolding scheduleIn scheduleBytes
+  schedule-back x k =
+      let ws : List ℕ = scheduleWidths in
+      let vs : List ℕ = scheduleValues x in
+      let fit : Small scheduleWidths vs = schedule-small u x s k in
+      rw (number-in-pack ws vs 0 fit, number-in-pack ws vs 1 fit, number-in-pack ws vs 2 fit, number-in-pack ws vs 3 fit, number-in-pack ws vs 4 fit)
+
+pub row-again : (c : List ℕ) → Bytes c → length c ≡ rowWidth → rowBytes (rowIn c) ≡ c
+unfolding rowBytes rowIn
+row-again c b l = pack-numbers rowWidths b l
+
+pub schedule-again : (c : List ℕ) → Bytes c → length c ≡ scheduleWidth → scheduleBytes (scheduleIn c) ≡ c
+unfolding scheduleBytes scheduleIn
+schedule-again c b l = pack-numbers scheduleWidths b l
+
+pub guarantee-back : (g : Cents) → g .0 ≤ mostGuarantee → cents (number (le 8 (g .0))) ≡ g
+guarantee-back g h = rw (number-le 8 (g .0) (omega arith))
+
+pub guarantee-again : (c : List ℕ) → Bytes c → length c ≡ 8 → le 8 (cents (number c) .0) ≡ c
+guarantee-again c b l = le-number-wide b 8 l
+
+-- ---- a part
+
+map-same : {A : Type 0} {f : A → A} {xs : List A} → Each (λ x. f x ≡ x) xs → map f xs ≡ xs
+map-same nil = refl
+map-same (cons e es) = rw (e, map-same es)
+
+module _ (top : ℕ) (u : Setup) (s : SoundSetup u) where
+  pub part-back : (p : Part) → SoundPart u p → partIn top (operatorCount u) (partBytes top p) ≡ p
+  unfolding partIn partOf partBytes partSections
+  part-back p k =
+      let f = part-fits-of u p (s .operators-high) k in
+      let c = cut-flat (partWidths top) (partSections top p) (wide-part top p f) in
+      let n : operatorCount u ≡ length (p .guarantees) = sym (k .guarantees-all) in
+      let g = unslots 8 mostOperators (λ (x : Cents). le 8 (x .0)) length-guarantee (λ x. cents (number x)) (p .guarantees) (map-same (each-map guarantee-back (k .guarantees-high))) in
+      let m : number (le 2 (length (p .rows))) ≡ length (p .rows) = number-le 2 _ (omega (arith, k .rows-high)) in
+      let r = unslots rowWidth mostRows rowBytes length-row rowIn (p .rows) (map-same (each-map (row-back u s) (k .rows-sound))) in
+      rw (c, n, m, g, r)
+
+  saved-back : (rows : List Row) (o : Option Part) → SavedSound u rows o → savedIn (number (le 1 (flag o))) top (operatorCount u) (savedBytes top o) ≡ o
+  unfolding savedIn savedBytes le number
+  saved-back rows none k = refl
+  saved-back rows (some p) k = ap (λ (x : Part). some x) (part-back p (k .0))
+
+-- ---- a book
+
+pub decode-image : (top size : ℕ) (b : Book) → valid b ≡ true → decode top size (image top size b) ≡ b
+unfolding decode bookOf image sections sectionsWith
+decode-image top size b v =
+    let s = sound b v in
+    let u = s .setup-sound in
+    let f = fits b s in
+    let c = cut-flat (bookWidths top size) (sections top size b) (wide-book top size b f) in
+    let so = setup-back (b .setup) u in
+    let ph : number (le 1 (b .phase)) ≡ b .phase = number-le 1 _ (omega (arith, s .phase-high)) in
+    let pt = part-back top (b .setup) u (b .part) (s .part-sound) in
+    let sv = saved-back top (b .setup) u (b .part .rows) (b .saved) (s .saved-sound) in
+    let n : number (le 2 (length (b .schedules))) ≡ length (b .schedules) = number-le 2 _ (omega (arith, s .schedules-high)) in
+    let sc = unslots scheduleWidth mostSchedules scheduleBytes length-schedule scheduleIn (b .schedules) (map-same (each-map (schedule-back (b .setup) u) (s .schedules-sound))) in
+    rw (c, so, ph, pt, n, sc, sv)
+
+-- ---- bytes that are a book
+
+pub same-refl : (s : List ℕ) → same s s ≡ true
+unfolding same
+same-refl [] = refl
+same-refl (x ∷ xs) = rw (eq-eqb x x refl, same-refl xs)
+
+pub same-true : (s t : List ℕ) → same s t ≡ true → s ≡ t
+unfolding same
+same-true [] [] h = refl
+same-true [] (y ∷ ys) h = cc
+same-true (x ∷ xs) [] h = cc
+same-true (x ∷ xs) (y ∷ ys) h =
+    let w = and-both (eqb x y) (same xs ys) .0 h in
+    rw (eqb-true x y (w .0), same-true xs ys (w .1))
+
+-- the image of a valid book is a book
+pub image-is-book : (top size : ℕ) (b : Book) → usedSize top ≤ size → valid b ≡ true → isBookOf top size (image top size b) ≡ true
+unfolding isBookOf
+image-is-book top size b h v =
+    rw (decode-image top size b v, v, same-refl (image top size b), eq-eqb _ _ (length-image top size b (fits b (sound b v)) h))
+
+-- and bytes that are a book are the image of the valid book that they say
+pub book-is-image : (top size : ℕ) (s : List ℕ) → isBookOf top size s ≡ true
+    → (s ≡ image top size (decode top size s)) × (valid (decode top size s) ≡ true)
+unfolding isBookOf
+book-is-image top size s h =
+    let b : Book = decode top size s in
+    let w = and-both (eqb (length s) size && valid b) (same (image top size b) s) .0 h in
+    (sym (same-true _ _ (w .1)), and-both (eqb (length s) size) (valid b) .0 (w .0) .1)
+
+-- bytes of a book have its size
+pub length-book : (top size : ℕ) (s : List ℕ) → isBookOf top size s ≡ true → length s ≡ size
+unfolding isBookOf
+length-book top size s h =
+    let b : Book = decode top size s in
+    let w = and-both (eqb (length s) size && valid b) (same (image top size b) s) .0 h in
+    eqb-true _ _ (and-both (eqb (length s) size) (valid b) .0 (w .0) .0)
+
+-- so a valid book has one image, and an image says one valid book
+pub one-book : (top size : ℕ) (b c : Book) → valid b ≡ true → valid c ≡ true → image top size b ≡ image top size c → b ≡ c
+one-book top size b c v w e = sym (decode-image top size b v) ∙ ap (decode top size) e ∙ decode-image top size c w

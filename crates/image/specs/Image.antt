@@ -1,0 +1,139 @@
+-- The image of a plain book in bytes (document 01, "Opening"), and the plain book that bytes say.
+use Prim.Native.Nat.{ℕ, zero, suc, _+_, _-_, _*_}
+use mathlib.Core.List.{List, [], _∷_, _++_, map}
+use mathlib.Core.Option.{Option, none, some}
+use lib.ListN.{length, getD, replicate}
+use Rattle.wire.specs.Numbers.{number, numberAt, le, signed}
+use Rattle.wire.specs.Parts.{zeros, flat, cut, pack, slots, chunks, padded}
+use Rattle.units.specs.Units.{kwh, cents, centsPerMwh}
+use Rattle.units.specs.declared.Cents.{Cents}
+use Rattle.rules.specs.declared.Row.{Row}
+use Rattle.rules.specs.declared.Schedule.{Schedule}
+use Rattle.rules.specs.Basics.{upTo}
+use Rattle.rules.specs.Limits.{mostOperators, mostAccounts, mostRows, mostSchedules}
+use Rattle.rules.specs.Books.{Setup, Part, Book, operatorCount}
+use Rattle.rules.specs.Opening.{setupBytes, setupOf}
+use Rattle.rules.specs.Registration.{netOf, figure}
+use Rattle.image.specs.Layout.{setupRoom, rowWidths, rowWidth, scheduleWidths, scheduleWidth, partWidths, partSize, usedSize, bookWidths}
+
+-- ---- the image
+
+-- a row, in the order in which it reads out
+abbrev pub rowValues : Row → List ℕ
+rowValues r =
+    r .proposer ∷ r .counterparty ∷ r .code ∷ r .side ∷ r .first ∷ r .last ∷ r .quantity .0 ∷ r .status ∷ []
+
+unfoldable pub rowBytes : Row → List ℕ
+rowBytes r = pack rowWidths (rowValues r)
+
+abbrev pub scheduleValues : Schedule → List ℕ
+scheduleValues x = x .point ∷ x .side ∷ x .hour ∷ x .quantity .0 ∷ x .price .0 ∷ []
+
+unfoldable pub scheduleBytes : Schedule → List ℕ
+scheduleBytes x = pack scheduleWidths (scheduleValues x)
+
+-- net positions, signed, 4 bytes each, by account and then period
+unfoldable pub accountNets : ℕ → List Row → ℕ → List ℕ
+accountNets top rows a = flat (map (λ h. signed 4 (figure (netOf rows a h))) (upTo top))
+
+unfoldable pub netsBytes : ℕ → List Row → List ℕ
+netsBytes top rows = flat (map (accountNets top rows) (upTo mostAccounts))
+
+-- a part: its guarantees, how many rows, the rows, the net positions; unused bytes are zero
+unfoldable pub partSections : ℕ → Part → List (List ℕ)
+partSections top p =
+    slots 8 mostOperators (λ g. le 8 (g .0)) (p .guarantees)
+    ∷ le 2 (length (p .rows))
+    ∷ slots rowWidth mostRows rowBytes (p .rows)
+    ∷ netsBytes top (p .rows)
+    ∷ []
+
+unfoldable pub partBytes : ℕ → Part → List ℕ
+partBytes top p = flat (partSections top p)
+
+-- a batch is open
+abbrev pub flag : Option Part → ℕ
+flag none = 0
+flag (some p) = 1
+
+-- the part saved at the opening of a batch; zeros without one
+unfoldable pub savedBytes : ℕ → Option Part → List ℕ
+savedBytes top none = zeros (partSize top)
+savedBytes top (some p) = partBytes top p
+
+-- the set-up with its guarantees zero: those in force stand in the part
+unfoldable pub storedSetup : Setup → List ℕ
+storedSetup u = setupBytes u (replicate (operatorCount u) (cents 0))
+
+-- the sections of a book, with these bytes for its present part
+unfoldable pub sectionsWith : ℕ → ℕ → Book → List ℕ → List (List ℕ)
+sectionsWith top size b part =
+    padded setupRoom (storedSetup (b .setup))
+    ∷ le 1 (b .phase)
+    ∷ le 1 (flag (b .saved))
+    ∷ le 2 (length (b .schedules))
+    ∷ slots scheduleWidth mostSchedules scheduleBytes (b .schedules)
+    ∷ part
+    ∷ savedBytes top (b .saved)
+    ∷ zeros (size - usedSize top)
+    ∷ []
+
+unfoldable pub sections : ℕ → ℕ → Book → List (List ℕ)
+sections top size b = sectionsWith top size b (partBytes top (b .part))
+
+unfoldable pub image : ℕ → ℕ → Book → List ℕ
+image top size b = flat (sections top size b)
+
+-- ---- the book that bytes say
+
+unfoldable pub rowIn : List ℕ → Row
+rowIn x =
+    record {
+      proposer = numberAt x 0 1;
+      counterparty = numberAt x 1 1;
+      code = numberAt x 2 8;
+      side = numberAt x 10 1;
+      first = numberAt x 11 1;
+      last = numberAt x 12 1;
+      quantity = kwh (numberAt x 13 4);
+      status = numberAt x 17 1;
+    }
+
+unfoldable pub scheduleIn : List ℕ → Schedule
+scheduleIn x =
+    record {
+      point = numberAt x 0 1;
+      side = numberAt x 1 1;
+      hour = numberAt x 2 1;
+      quantity = kwh (numberAt x 3 4);
+      price = centsPerMwh (numberAt x 7 4);
+    }
+
+-- the part in these sections, of a book with so many operators
+unfoldable pub partOf : ℕ → List (List ℕ) → Part
+partOf operators c =
+    record {
+      guarantees = map (λ x. cents (number x)) (chunks 8 operators (getD c 0 []));
+      rows = map rowIn (chunks rowWidth (number (getD c 1 [])) (getD c 2 []));
+    }
+
+unfoldable pub partIn : ℕ → ℕ → List ℕ → Part
+partIn top operators s = partOf operators (cut (partWidths top) s)
+
+unfoldable pub savedIn : ℕ → ℕ → ℕ → List ℕ → Option Part
+savedIn zero top operators s = none
+savedIn (suc flag) top operators s = some (partIn top operators s)
+
+unfoldable pub bookOf : ℕ → List (List ℕ) → Book
+bookOf top c =
+    let u = setupOf (getD c 0 []) in
+    record {
+      setup = u;
+      phase = number (getD c 1 []);
+      part = partIn top (operatorCount u) (getD c 5 []);
+      schedules = map scheduleIn (chunks scheduleWidth (number (getD c 3 [])) (getD c 4 []));
+      saved = savedIn (number (getD c 2 [])) top (operatorCount u) (getD c 6 []);
+    }
+
+unfoldable pub decode : ℕ → ℕ → List ℕ → Book
+decode top size s = bookOf top (cut (bookWidths top size) s)

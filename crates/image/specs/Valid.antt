@@ -1,0 +1,148 @@
+-- Which plain books are valid, and which bytes are a book (document 01, "Opening").
+use Prim.Native.Nat.{ℕ, zero, suc, _^_}
+use mathlib.Core.List.{List, [], _∷_}
+use mathlib.Core.Option.{Option, none, some}
+use mathlib.Core.Bool.{Bool, true, false, not, _&&_, _||_}
+use lib.ListN.{length, replicate}
+use lib.Dec.{eqb, leb, ltb}
+use Rattle.units.specs.Units.{cents}
+use Rattle.rules.specs.declared.Row.{Row}
+use Rattle.rules.specs.declared.Schedule.{Schedule}
+use Rattle.rules.specs.Basics.{any, every, allOf, isSome, upTo, within}
+use Rattle.rules.specs.Limits.{mostEnergy, mostPrice, mostGuarantee, mostRows, mostSchedules, mostHours, bookSize}
+use Rattle.rules.specs.Books.{Setup, Part, Book, countsOf, accountAt, operatorCount, accountCount, pointCount}
+use Rattle.rules.specs.Opening.{badCounts, operatorsOf, faultyOffset}
+use Rattle.rules.specs.Registration.{pending, alike, accountHour, keepsMargins, covered}
+use Rattle.image.specs.Image.{image, decode}
+
+-- ---- the set-up: one that opening would accept
+
+abbrev pub setupTests : Setup → List Bool
+setupTests u =
+    not (badCounts (countsOf u))
+    ∷ eqb (length (u .estimates)) (u .hours)
+    ∷ not (isSome (faultyOffset u (operatorsOf (replicate (operatorCount u) (cents 0)) (u .maintenance))))
+    ∷ []
+
+unfoldable pub setupOk : Setup → Bool
+setupOk u = allOf (setupTests u)
+
+-- ---- rows and schedules: every field in range; rows have two different accounts
+
+abbrev pub rowTests : Setup → Row → List Bool
+rowTests u r =
+    within 1 (r .proposer) (accountCount u)
+    ∷ within 1 (r .counterparty) (accountCount u)
+    ∷ not (eqb (r .proposer) (r .counterparty))
+    ∷ ltb (r .code) (256 ^ 8)
+    ∷ within 1 (r .side) 2
+    ∷ within 1 (r .first) (u .hours)
+    ∷ within (r .first) (r .last) (u .hours)
+    ∷ within 1 (r .quantity .0) mostEnergy
+    ∷ within 1 (r .status) 3
+    ∷ []
+
+unfoldable pub rowOk : Setup → Row → Bool
+rowOk u r = allOf (rowTests u r)
+
+abbrev pub scheduleTests : Setup → Schedule → List Bool
+scheduleTests u x =
+    within 1 (x .point) (pointCount u)
+    ∷ within 1 (x .side) 2
+    ∷ within 1 (x .hour) (u .hours)
+    ∷ within 1 (x .quantity .0) mostEnergy
+    ∷ leb (x .price .0) mostPrice
+    ∷ []
+
+unfoldable pub scheduleOk : Setup → Schedule → Bool
+scheduleOk u x = allOf (scheduleTests u x)
+
+-- ---- a part, the present and the saved one alike
+
+-- no two pending rows are alike in proposer, counterparty and code
+unfoldable pub noTwins : List Row → Bool
+noTwins [] = true
+noTwins (r ∷ rs) = not (pending r && any (alike (r .proposer) (r .counterparty) (r .code)) rs) && noTwins rs
+
+-- margins are kept by every account in every hour
+unfoldable pub marginsKept : Setup → List Row → Bool
+marginsKept u rows =
+    every (λ a. every (λ h. keepsMargins (accountAt u a) (accountHour rows a h)) (upTo (u .hours))) (upTo (accountCount u))
+
+-- no operator's exposure is above what is available
+unfoldable pub guaranteesKept : Setup → Part → Bool
+guaranteesKept u p = every (covered u p) (upTo (operatorCount u))
+
+abbrev pub partTests : Setup → Part → List Bool
+partTests u p =
+    eqb (length (p .guarantees)) (operatorCount u)
+    ∷ every (λ g. leb (g .0) mostGuarantee) (p .guarantees)
+    ∷ leb (length (p .rows)) mostRows
+    ∷ every (rowOk u) (p .rows)
+    ∷ noTwins (p .rows)
+    ∷ marginsKept u (p .rows)
+    ∷ guaranteesKept u p
+    ∷ []
+
+unfoldable pub partOk : Setup → Part → Bool
+partOk u p = allOf (partTests u p)
+
+-- the rows are the same but for their status
+unfoldable pub sameTerms : Row → Row → Bool
+sameTerms x y =
+    eqb (x .proposer) (y .proposer)
+    && eqb (x .counterparty) (y .counterparty)
+    && eqb (x .code) (y .code)
+    && eqb (x .side) (y .side)
+    && eqb (x .first) (y .first)
+    && eqb (x .last) (y .last)
+    && eqb (x .quantity .0) (y .quantity .0)
+
+-- the saved rows are the first of the present ones but for their status: a saved pending row may since be confirmed or withdrawn
+unfoldable pub follows : List Row → List Row → Bool
+follows [] ys = true
+follows (x ∷ xs) [] = false
+follows (x ∷ xs) (y ∷ ys) = sameTerms x y && (eqb (x .status) (y .status) || pending x) && follows xs ys
+
+unfoldable pub savedOk : Setup → List Row → Option Part → Bool
+savedOk u rows none = true
+savedOk u rows (some p) = partOk u p && follows (p .rows) rows
+
+-- ---- a book: none pending after phase 1, schedules only after it, an open batch only in it
+
+abbrev pub bookTests : Book → List Bool
+bookTests b =
+    setupOk (b .setup)
+    ∷ within 1 (b .phase) 3
+    ∷ partOk (b .setup) (b .part)
+    ∷ savedOk (b .setup) (b .part .rows) (b .saved)
+    ∷ leb (length (b .schedules)) mostSchedules
+    ∷ every (scheduleOk (b .setup)) (b .schedules)
+    ∷ (eqb (b .phase) 1 || not (any pending (b .part .rows)))
+    ∷ (not (eqb (b .phase) 1) || eqb (length (b .schedules)) 0)
+    ∷ (eqb (b .phase) 1 || not (isSome (b .saved)))
+    ∷ []
+
+unfoldable pub valid : Book → Bool
+valid b = allOf (bookTests b)
+
+-- ---- bytes that are a book: the image of a valid one
+
+unfoldable pub same : List ℕ → List ℕ → Bool
+same [] [] = true
+same [] (y ∷ ys) = false
+same (x ∷ xs) [] = false
+same (x ∷ xs) (y ∷ ys) = eqb x y && same xs ys
+
+unfoldable pub isBookOf : ℕ → ℕ → List ℕ → Bool
+isBookOf top size s = eqb (length s) size && valid (decode top size s) && same (image top size (decode top size s)) s
+
+-- today's book: at most 25 hours, 49,152 bytes
+abbrev pub isBook : List ℕ → Bool
+isBook s = isBookOf mostHours bookSize s
+
+abbrev pub bookBytes : Book → List ℕ
+bookBytes b = image mostHours bookSize b
+
+abbrev pub bookIn : List ℕ → Book
+bookIn s = decode mostHours bookSize s

@@ -1,0 +1,97 @@
+-- The sum and the exposure of the hours that are left make that of all hours, whatever rows the table is of.
+use Prim.Native.Nat.{ℕ, _+_, _-_, _*_, _^_, _≤_}
+use mathlib.Core.Path.{_≡_, _∙_, sym, ap}
+use mathlib.Core.List.{List}
+use native.Mathlib.Omega.{arith}
+use borrow.Author.Needs.{needs}
+use Rattle.rules.specs.declared.Counts.{Counts}
+use Rattle.rules.specs.declared.Row.{Row}
+use Rattle.rules.specs.Basics.{total, counting}
+use Rattle.rules.specs.Limits.{mostPrice, mostHours}
+use Rattle.rules.specs.Opening.{countsIn}
+use Rattle.rules.proofs.CountingLaws.{sum-begins, sum-next, sum-done}
+use Rattle.tables.specs.Sums.{SumsOf}
+use Rattle.tables.proofs.ExposureLaws.{hourExposure, hour-exposure-read, exposure-by-hour, estimate-small}
+use Rattle.tables.proofs.exposure.account_exposure.Statement.{statement}
+use Rattle.tables.proofs.exposure.account_exposure.Tie as tie
+
+abbrev Inv-loop : tie.InvT-loop
+Inv-loop book table number n sum₀ hour₀ sum hour =
+    (n .hours ≡ countsIn book .hours)
+    × (1 ≤ hour)
+    × (hour ≤ countsIn book .hours + 1)
+    × (sum .0 ≤ (hour - 1) * (mostPrice * 2 ^ 33))
+    × ((rows : List Row) → SumsOf mostHours rows table
+    → sum .0 + total (hourExposure book rows number) (counting (countsIn book .hours + 1 - hour) hour)
+    ≡ total (hourExposure book rows number) (counting (countsIn book .hours) 1))
+
+abbrev μ-loop : tie.MeasureT-loop
+μ-loop book table number n sum₀ hour₀ sum hour = countsIn book .hours + 1 - hour
+
+counts-requires : tie.Need-counts-requires Inv-loop μ-loop
+counts-requires c κs = search needs
+
+loop-holds : tie.Need-loop-holds Inv-loop μ-loop
+loop-holds c = (
+  ap (λ (n : Counts). n .hours) (c .counts .ensures),
+  search needs,
+  search needs,
+  search needs,
+  λ rows sums. sum-begins _ _ _ _ (omega arith),
+)
+
+account-hour-requires : tie.Need-account-hour-requires Inv-loop μ-loop
+account-hour-requires c κs = search needs
+
+estimate-requires : tie.Need-estimate-requires Inv-loop μ-loop
+estimate-requires c κs = search needs
+
+hour-exposure-requires : tie.Need-hour-exposure-requires Inv-loop μ-loop
+hour-exposure-requires c κs =
+    let start = c .before .before .before .before .before .before .before .before in
+    rw (c .estimate .ensures) (estimate-small (start .args .book .now) (c .before .before .before .before .loop .hour) (start .pre .1) (omega arith) (omega arith))
+
+plus-requires : tie.Need-plus-requires Inv-loop μ-loop
+plus-requires c κs = search needs
+
+add-hour : tie.Need-add-hour Inv-loop μ-loop
+add-hour c = search needs
+
+loop-less : tie.Need-loop-less Inv-loop μ-loop
+loop-less c = search needs
+
+loop-again : tie.Need-loop-again Inv-loop μ-loop
+loop-again c =
+    let l = c .before .before .before .before .before .before .loop in
+    let exact = c .before .hour-exposure .ensures .0 in
+    let price = c .before .before .estimate .ensures in
+    let hour = c .before .before .before .account-hour in (
+      l .inv .0,
+      search needs,
+      search needs,
+      search needs,
+      λ rows sums.
+          sum-next _ _ _ _ _ _ _ (omega arith) (c .plus .ensures ∙ ap (λ (x : ℕ). l .sum .0 + x) (hour-exposure-read _ rows _ _ _ _ price (hour .ensures rows sums) exact)) (l .inv .4 rows sums),
+    )
+
+returns : tie.Need-returns Inv-loop μ-loop
+returns c =
+    let l = c .before .before .loop in
+    ((λ rows sums. sum-done _ _ _ _ _ (omega arith) (l .inv .4 rows sums) ∙ sym (exposure-by-hour _ rows _)), search needs)
+
+pub account-exposure-spec : {M : Type 1} → statement M
+account-exposure-spec =
+    tie.close
+    (tie.spec
+    Inv-loop
+    μ-loop
+    counts-requires
+    loop-holds
+    account-hour-requires
+    estimate-requires
+    hour-exposure-requires
+    plus-requires
+    add-hour
+    loop-less
+    loop-again
+    returns)

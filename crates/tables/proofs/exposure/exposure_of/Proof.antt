@@ -1,0 +1,84 @@
+-- The sum and what the accounts that are left add make the operator's exposure, whatever rows the table is of.
+use Prim.Native.Nat.{ℕ, _+_, _-_, _*_, _^_, _≤_}
+use mathlib.Core.Path.{_≡_, _∙_, sym, ap}
+use mathlib.Core.List.{List}
+use native.Mathlib.Omega.{arith}
+use borrow.Author.Needs.{needs}
+use Rattle.rules.specs.declared.Counts.{Counts}
+use Rattle.rules.specs.declared.Row.{Row}
+use Rattle.rules.specs.Basics.{total, counting}
+use Rattle.rules.specs.Limits.{mostHours, mostPrice}
+use Rattle.rules.specs.Opening.{countsIn, setupOf}
+use Rattle.rules.proofs.CountingLaws.{sum-begins, sum-next, sum-done}
+use Rattle.tables.specs.Sums.{SumsOf, exposureShare}
+use Rattle.tables.proofs.ExposureLaws.{exposure-by-account}
+use Rattle.tables.proofs.exposure.exposure_of.Statement.{statement}
+use Rattle.tables.proofs.exposure.exposure_of.Tie as tie
+
+abbrev Inv-loop : tie.InvT-loop
+Inv-loop book table operator n sum₀ number₀ sum number =
+    (n .accounts ≡ countsIn book .accounts)
+    × (1 ≤ number)
+    × (number ≤ countsIn book .accounts + 1)
+    × (sum .0 ≤ (number - 1) * (mostHours * (mostPrice * 2 ^ 33)))
+    × ((rows : List Row) → SumsOf mostHours rows table
+    → sum .0 + total (exposureShare (setupOf book) rows operator) (counting (countsIn book .accounts + 1 - number) number)
+    ≡ total (exposureShare (setupOf book) rows operator) (counting (countsIn book .accounts) 1))
+
+abbrev μ-loop : tie.MeasureT-loop
+μ-loop book table operator n sum₀ number₀ sum number = countsIn book .accounts + 1 - number
+
+counts-requires : tie.Need-counts-requires Inv-loop μ-loop
+counts-requires c κs = search needs
+
+loop-holds : tie.Need-loop-holds Inv-loop μ-loop
+loop-holds c = (
+  ap (λ (n : Counts). n .accounts) (c .counts .ensures),
+  search needs,
+  search needs,
+  search needs,
+  λ rows sums. sum-begins _ _ _ _ (omega arith),
+)
+
+exposure-share-requires : tie.Need-exposure-share-requires Inv-loop μ-loop
+exposure-share-requires c κs = search needs
+
+plus-requires : tie.Need-plus-requires Inv-loop μ-loop
+plus-requires c κs = search needs
+
+add-number : tie.Need-add-number Inv-loop μ-loop
+add-number c = search needs
+
+loop-less : tie.Need-loop-less Inv-loop μ-loop
+loop-less c = search needs
+
+loop-again : tie.Need-loop-again Inv-loop μ-loop
+loop-again c =
+    let l = c .before .before .before .before .loop in
+    let share = c .before .exposure-share .ensures .0 in (
+      l .inv .0,
+      search needs,
+      search needs,
+      search needs,
+      λ rows sums. sum-next _ _ _ _ _ _ _ (omega arith) (c .plus .ensures ∙ ap (λ (x : ℕ). l .sum .0 + x) (share rows sums)) (l .inv .4 rows sums),
+    )
+
+returns : tie.Need-returns Inv-loop μ-loop
+returns c rows sums =
+    let l = c .before .before .loop in
+    sum-done _ _ _ _ _ (omega arith) (l .inv .4 rows sums) ∙ sym (exposure-by-account _ rows _)
+
+pub exposure-of-spec : {M : Type 1} → statement M
+exposure-of-spec =
+    tie.close
+    (tie.spec
+    Inv-loop
+    μ-loop
+    counts-requires
+    loop-holds
+    exposure-share-requires
+    plus-requires
+    add-number
+    loop-less
+    loop-again
+    returns)

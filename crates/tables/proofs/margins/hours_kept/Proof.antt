@@ -1,0 +1,74 @@
+-- Every hour passes the test where every hour that is left does, whatever rows the table is of.
+use Prim.Native.Nat.{_+_, _-_, _≤_}
+use mathlib.Core.Path.{_≡_, _∙_, sym, ap}
+use mathlib.Core.List.{List}
+use native.Mathlib.Omega.{arith}
+use borrow.Author.Needs.{needs}
+use Rattle.rules.specs.declared.Row.{Row}
+use Rattle.rules.specs.Basics.{every, counting}
+use Rattle.rules.specs.Registration.{accountHour, keepsMargins}
+use Rattle.rules.specs.Limits.{mostHours}
+use Rattle.rules.proofs.CountingLaws.{every-done, every-next, every-fails, every-same}
+use Rattle.tables.specs.Sums.{SumsOf}
+use Rattle.tables.proofs.margins.hours_kept.Statement.{statement}
+use Rattle.tables.proofs.margins.hours_kept.Tie as tie
+
+abbrev Inv-loop : tie.InvT-loop
+Inv-loop table account number hours hour₀ hour =
+    (1 ≤ hour)
+    × (hour ≤ hours + 1)
+    × ((rows : List Row) → SumsOf mostHours rows table
+    → every (λ h. keepsMargins account (accountHour rows number h)) (counting hours 1)
+    ≡ every (λ h. keepsMargins account (accountHour rows number h)) (counting (hours + 1 - hour) hour))
+
+abbrev μ-loop : tie.MeasureT-loop
+μ-loop table account number hours hour₀ hour = hours + 1 - hour
+
+loop-holds : tie.Need-loop-holds Inv-loop μ-loop
+loop-holds c = (search needs, search needs, λ rows sums. every-same _ _ _ _ (omega arith))
+
+account-hour-requires : tie.Need-account-hour-requires Inv-loop μ-loop
+account-hour-requires c κs = search needs
+
+keeps-margins-requires : tie.Need-keeps-margins-requires Inv-loop μ-loop
+keeps-margins-requires c κs = search needs
+
+add-hour : tie.Need-add-hour Inv-loop μ-loop
+add-hour c = search needs
+
+loop-less : tie.Need-loop-less Inv-loop μ-loop
+loop-less c = search needs
+
+loop-again : tie.Need-loop-again Inv-loop μ-loop
+loop-again c =
+    let l = c .before .before .before .before .loop in (
+      search needs,
+      search needs,
+      λ rows sums.
+          l .inv .2 rows sums
+          ∙ every-next _ _ _ _ (omega arith) (sym (c .before .keeps-margins .ensures ∙ ap (keepsMargins _) (c .before .before .account-hour .ensures rows sums)) ∙ c .if1 .taken),
+    )
+
+returns : tie.Need-returns Inv-loop μ-loop
+returns c rows sums =
+    let l = c .before .before .before .before .loop in
+    sym (l .inv .2 rows sums
+    ∙ every-fails _ _ _ (omega arith) (sym (c .before .keeps-margins .ensures ∙ ap (keepsMargins _) (c .before .before .account-hour .ensures rows sums)) ∙ c .if1 .left))
+
+returns-2 : tie.Need-returns-2 Inv-loop μ-loop
+returns-2 c rows sums = sym (c .before .loop .inv .2 rows sums ∙ every-done _ _ _ (omega arith))
+
+pub hours-kept-spec : {M : Type 1} → statement M
+hours-kept-spec =
+    tie.close
+    (tie.spec
+    Inv-loop
+    μ-loop
+    loop-holds
+    account-hour-requires
+    keeps-margins-requires
+    add-hour
+    loop-less
+    loop-again
+    returns
+    returns-2)

@@ -1,0 +1,97 @@
+-- Every account passes the test where every account that is left does, whatever rows the table is of.
+use Prim.Native.Nat.{_+_, _-_, _≤_}
+use mathlib.Core.Path.{_≡_, _∙_, sym, ap}
+use mathlib.Core.List.{List}
+use native.Mathlib.Omega.{arith}
+use borrow.Author.Needs.{needs}
+use Rattle.rules.specs.declared.Counts.{Counts}
+use Rattle.rules.specs.declared.Row.{Row}
+use Rattle.rules.specs.Basics.{every, nth, counting}
+use Rattle.rules.specs.Books.{noAccount}
+use Rattle.rules.specs.Opening.{countsIn, setupOf, accountsIn}
+use Rattle.rules.specs.Limits.{mostHours}
+use Rattle.rules.proofs.CountingLaws.{every-done, every-next, every-fails, every-same}
+use Rattle.image.specs.Valid.{marginsKept}
+use Rattle.tables.specs.Sums.{SumsOf}
+use Rattle.tables.proofs.MarginLaws.{accountKeeps, margins-by-account, account-kept}
+use Rattle.tables.proofs.margins.margins_kept.Statement.{statement}
+use Rattle.tables.proofs.margins.margins_kept.Tie as tie
+
+abbrev Inv-loop : tie.InvT-loop
+Inv-loop book table n number₀ number =
+    (n .accounts ≡ countsIn book .accounts)
+    × (n .hours ≡ countsIn book .hours)
+    × (1 ≤ number)
+    × (number ≤ countsIn book .accounts + 1)
+    × ((rows : List Row) → SumsOf mostHours rows table
+    → marginsKept (setupOf book) rows
+    ≡ every (λ a. accountKeeps rows (nth (accountsIn book) a noAccount) (countsIn book .hours) a) (counting (countsIn book .accounts + 1 - number) number))
+
+abbrev μ-loop : tie.MeasureT-loop
+μ-loop book table n number₀ number = countsIn book .accounts + 1 - number
+
+counts-requires : tie.Need-counts-requires Inv-loop μ-loop
+counts-requires c κs = search needs
+
+loop-holds : tie.Need-loop-holds Inv-loop μ-loop
+loop-holds c =
+    let read = c .counts .ensures in (
+      ap (λ (n : Counts). n .accounts) read,
+      ap (λ (n : Counts). n .hours) read,
+      search needs,
+      search needs,
+      λ rows sums. margins-by-account _ rows ∙ every-same _ _ _ _ (omega arith),
+    )
+
+account-requires : tie.Need-account-requires Inv-loop μ-loop
+account-requires c κs = search needs
+
+hours-kept-requires : tie.Need-hours-kept-requires Inv-loop μ-loop
+hours-kept-requires c κs = search needs
+
+add-number : tie.Need-add-number Inv-loop μ-loop
+add-number c = search needs
+
+loop-less : tie.Need-loop-less Inv-loop μ-loop
+loop-less c = search needs
+
+loop-again : tie.Need-loop-again Inv-loop μ-loop
+loop-again c =
+    let l = c .before .before .before .before .before .loop in
+    let kept = c .before .hours-kept in
+    let read = c .before .before .account .ensures in (
+      l .inv .0,
+      l .inv .1,
+      search needs,
+      search needs,
+      λ rows sums.
+          l .inv .4 rows sums
+          ∙ every-next _ _ _ _ (omega arith) (account-kept rows _ _ _ _ _ read (l .inv .1) (kept .ensures rows sums) ∙ c .if2 .taken),
+    )
+
+returns : tie.Need-returns Inv-loop μ-loop
+returns c rows sums =
+    let l = c .before .before .before .before .before .loop in
+    let kept = c .before .hours-kept in
+    let read = c .before .before .account .ensures in
+    sym (l .inv .4 rows sums
+    ∙ every-fails _ _ _ (omega arith) (account-kept rows _ _ _ _ _ read (l .inv .1) (kept .ensures rows sums) ∙ c .if2 .left))
+
+returns-2 : tie.Need-returns-2 Inv-loop μ-loop
+returns-2 c rows sums = sym (c .before .before .loop .inv .4 rows sums ∙ every-done _ _ _ (omega arith))
+
+pub margins-kept-spec : {M : Type 1} → statement M
+margins-kept-spec =
+    tie.close
+    (tie.spec
+    Inv-loop
+    μ-loop
+    counts-requires
+    loop-holds
+    account-requires
+    hours-kept-requires
+    add-number
+    loop-less
+    loop-again
+    returns
+    returns-2)

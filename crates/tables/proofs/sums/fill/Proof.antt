@@ -1,0 +1,87 @@
+-- What the table holds and the sums of the rows that are left make the sums of all rows.
+use Prim.Native.Nat.{_+_, _-_, _*_, _≤_}
+use mathlib.Core.Path.{_≡_}
+use native.Mathlib.Omega.{arith}
+use lib.ListN.{length}
+use borrow.Author.Needs.{needs}
+use Rattle.rules.specs.Basics.{Each}
+use Rattle.rules.specs.Limits.{mostEnergy}
+use Rattle.image.specs.Cells.{rowsFrom}
+use Rattle.image.specs.Tables.{Tabled}
+use Rattle.image.proofs.RowsFrom.{rows-done, rows-step}
+use Rattle.tables.proofs.FillLaws.{each-first, each-rest, Filling, filling-none, filling-room, filling-next, filling-done}
+use Rattle.tables.proofs.sums.fill.Statement.{statement}
+use Rattle.tables.proofs.sums.fill.Tie as tie
+
+abbrev Inv-loop : tie.InvT-loop
+Inv-loop table₀ top s at n place₀ left₀ table place left =
+    (place + 18 * left ≤ length s)
+    × (left ≤ 256)
+    × (length table ≡ length table₀)
+    × Each (Tabled top) (rowsFrom s place left)
+    × Filling top (rowsFrom s at n) (rowsFrom s place left) table ((256 - left) * mostEnergy)
+
+abbrev μ-loop : tie.MeasureT-loop
+μ-loop table₀ top s at n place₀ left₀ table place left = left
+
+loop-holds : tie.Need-loop-holds Inv-loop μ-loop
+loop-holds c =
+    let start = c .before .before in
+    (search needs, search needs, search needs, start .pre .3, filling-none _ _ _ (start .pre .0))
+
+row-at-requires : tie.Need-row-at-requires Inv-loop μ-loop
+row-at-requires c κs = search needs
+
+take-row-requires : tie.Need-take-row-requires Inv-loop μ-loop
+take-row-requires c κs =
+    let l = c .before .before .before .loop in
+    let s = c .before .before .before .before .before .before .args .s .now in
+    let step = rows-step s (l .place) (l .left) (l .left - 1) (omega arith) in
+    let first = rw step at (l .inv .3) in
+    let r : Tabled (c .before .before .before .before .before .before .args .top) (c .before .row-at .result) = rw (c .before .row-at .ensures) (each-first first) in
+    (search needs, r, filling-room _ _ _ _ _ (l .inv .4) r (omega arith), search needs)
+
+add-place : tie.Need-add-place Inv-loop μ-loop
+add-place c = search needs
+
+sub-left : tie.Need-sub-left Inv-loop μ-loop
+sub-left c = search needs
+
+loop-less : tie.Need-loop-less Inv-loop μ-loop
+loop-less c = search needs
+
+loop-again : tie.Need-loop-again Inv-loop μ-loop
+loop-again c =
+    let t = c .before .before in
+    let l = t .before .before .before .before .loop in
+    let s = t .before .before .before .before .before .before .before .args .s .now in
+    let step = rows-step s (l .place) (l .left) (l .left - 1) (omega arith) in
+    let rows = rw step at (l .inv .3) in (
+      search needs,
+      search needs,
+      search needs,
+      each-rest rows,
+      filling-next _ _ _ _ _ _ _ _ step (omega arith) (each-first rows) (rw (t .before .before .row-at .ensures) at (t .take-row .ensures)) (l .inv .4),
+    )
+
+same-length : tie.Need-same-length Inv-loop μ-loop
+same-length c = search needs
+
+returns : tie.Need-returns Inv-loop μ-loop
+returns c = let l = c .before .loop in filling-done _ _ _ _ (rows-done _ _ _ (c .loop-test .left)) (omega (arith, c .before .before .before .before .pre .0 .whole)) (omega arith) (l .inv .4)
+
+pub fill-spec : {M : Type 1} → statement M
+fill-spec =
+    tie.close
+    (tie.spec
+    Inv-loop
+    μ-loop
+    loop-holds
+    row-at-requires
+    take-row-requires
+    add-place
+    sub-left
+    loop-less
+    loop-again
+    same-length
+    returns)

@@ -1,0 +1,66 @@
+-- The sums of all account hours in one table of four lanes: bought, sold, pending sales, pending purchases, by account and then hour.
+-- `top` is the most periods that a day can have, 25 hours today.
+use Prim.Native.Nat.{ℕ, zero, suc, _+_, _-_, _*_, _%_, _^_, _≤_, _<_}
+use mathlib.Core.Path.{_≡_}
+use mathlib.Core.List.{List, [], _∷_}
+use mathlib.Core.Bool.{Bool}
+use lib.ListN.{length, getD}
+use lib.Dec.{eqb}
+use Rattle.wire.specs.Numbers.{numberAt}
+use Rattle.rules.specs.declared.Row.{Row}
+use Rattle.rules.specs.Basics.{if_then_else_, total, every, upTo}
+use Rattle.rules.specs.Limits.{mostAccounts, mostHours}
+use Rattle.rules.specs.Books.{Setup, estimateAt, operatorOf}
+use Rattle.rules.specs.Registration.{bought, sold, pendingSales, pendingPurchases, accountHour, exposed}
+use Rattle.image.specs.Tables.{slots, cellOf, placeOf, InTable}
+
+-- the table holds the sums of these rows, and each fits its 32 bits
+pub record SumsOf (top : ℕ) (rows : List Row) (table : List ℕ) : Type 0 where
+  pub whole : slots * top ≤ length table
+  pub small : (k : ℕ) → getD table k 0 < 2 ^ 32
+  pub bought-at : (a h : ℕ) → InTable top a h → getD table (cellOf top 0 a h) 0 ≡ bought rows a h
+  pub sold-at : (a h : ℕ) → InTable top a h → getD table (cellOf top 1 a h) 0 ≡ sold rows a h
+  pub sales-at : (a h : ℕ) → InTable top a h → getD table (cellOf top 2 a h) 0 ≡ pendingSales rows a h
+  pub purchases-at : (a h : ℕ) → InTable top a h → getD table (cellOf top 3 a h) 0 ≡ pendingPurchases rows a h
+
+-- ---- how the table is filled
+
+-- a table of no rows
+pub record NoSums (top : ℕ) (table : List ℕ) : Type 0 where
+  pub whole : slots * top ≤ length table
+  pub zeros : (k : ℕ) → getD table k 0 ≡ 0
+
+-- what a lane is the sum of
+unfoldable pub laneSum : ℕ → List Row → ℕ → ℕ → ℕ
+laneSum zero = bought
+laneSum (suc zero) = sold
+laneSum (suc (suc zero)) = pendingSales
+laneSum (suc (suc (suc lane))) = pendingPurchases
+
+-- one row more: each account hour of each lane has its share, and no cell grows by more than the row's quantity
+pub record Taken (top : ℕ) (before after : List ℕ) (r : Row) : Type 0 where
+  pub share : (lane a h : ℕ) → lane ≤ 3 → InTable top a h
+      → getD after (cellOf top lane a h) 0 ≡ getD before (cellOf top lane a h) 0 + laneSum lane (r ∷ []) a h
+  pub grown : (k : ℕ) → getD after k 0 ≤ getD before k 0 + r .quantity .0
+
+-- ---- what is stored of the sums
+
+-- the 4 bytes of each net position are bought less sold in two's complement: with what is sold added they come to what is bought
+unfoldable pub netStored : ℕ → List ℕ → ℕ → List ℕ → ℕ → ℕ → Bool
+netStored top s at table a h =
+    eqb
+    ((numberAt s (at + 4 * placeOf top a h) 4 + getD table (cellOf top 1 a h) 0) % 2 ^ 32)
+    (getD table (cellOf top 0 a h) 0 % 2 ^ 32)
+
+unfoldable pub netsStored : ℕ → List ℕ → ℕ → List ℕ → Bool
+netsStored top s at table = every (λ a. every (netStored top s at table a) (upTo top)) (upTo mostAccounts)
+
+-- ---- exposure, account by account
+
+-- the exposure of an account over all hours, at the estimated prices
+unfoldable pub accountExposure : Setup → List Row → ℕ → ℕ
+accountExposure u rows a = total (λ h. estimateAt u h .0 * exposed (accountHour rows a h)) (upTo (u .hours))
+
+-- what an account adds to an operator's exposure: nothing where it is another's
+unfoldable pub exposureShare : Setup → List Row → ℕ → ℕ → ℕ
+exposureShare u rows o a = if eqb (operatorOf u a) o then accountExposure u rows a else 0

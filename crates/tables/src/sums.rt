@@ -1,0 +1,200 @@
+// The sums of all account hours in one pass over the rows, and what is read off them.
+ghost use mathlib.Core.Path.{_≡_};
+ghost use mathlib.Core.List.{List};
+ghost use Prim.Native.Nat.{_+_, _-_, _*_, _≤_, _<_};
+ghost use lib.ListN.{length, getD};
+ghost use Rattle.rules.specs.declared.Row.{Row};
+ghost use Rattle.rules.specs.Basics.{every, upTo, Each};
+ghost use Rattle.rules.specs.Limits.{mostAccounts, mostHours};
+ghost use Rattle.rules.specs.Registration.{accountHour};
+ghost use Rattle.image.specs.Layout.{mostPeriods, accountWidth};
+ghost use Rattle.image.specs.Cells.{rowsFrom};
+ghost use Rattle.image.specs.Tables.{slots, placeOf, cellOf, Inside, InTable, Tabled, Room, Raised};
+ghost use Rattle.tables.specs.Sums.{SumsOf, NoSums, Taken, netStored, netsStored};
+use image::cells::add_range;
+use image::layout::LANE_SLOTS;
+use image::layout::NET_WIDTH;
+use image::layout::PERIODS;
+use image::layout::ROW_WIDTH;
+use image::layout::TABLE_SIZE;
+use image::layout::TURN;
+use image::rows::row_at;
+use rules::AccountHour;
+use rules::Net;
+use rules::Row;
+use rules::hours::pick;
+use rules::limits::MOST_ACCOUNTS;
+use units::Kwh;
+use wire::numbers::get_u32;
+
+// The lanes of the table.
+const BOUGHT: usize = 0;
+
+const SOLD: usize = 1;
+
+const SALES: usize = 2;
+
+const PURCHASES: usize = 3;
+
+// The cell of an account hour in a lane.
+fn cell(top: usize, lane: usize, account: u8, hour: u8) -> usize
+    requires { ⌜ (lane ≤ 3) × InTable top account hour × (top ≤ mostPeriods) ⌝ }
+    ensures { λ r. ⌜ Inside top slots (cellOf top lane account hour) hour r ⌝ }
+{
+    top * (LANE_SLOTS * lane + (account as usize - 1)) + (hour as usize - 1)
+}
+
+// The place of an account hour among those of all accounts.
+fn place(top: usize, account: u8, hour: u8) -> usize
+    requires { ⌜ InTable top account hour × (top ≤ mostPeriods) ⌝ }
+    ensures { λ r. ⌜ Inside top mostAccounts (placeOf top account hour) hour r ⌝ }
+{
+    top * (account as usize - 1) + (hour as usize - 1)
+}
+
+// Adds the row's quantity to the account's cells of its hours in a lane.
+fn add_hours(table: &mut [u32], top: usize, lane: usize, account: u8, r: Row)
+    requires { ⌜ (slots * top ≤ length (now table)) × (lane ≤ 3) × (1 ≤ account) × (account ≤ mostAccounts) × Tabled top r × Room (now table) (top * (mostAccounts * lane)) (r .quantity .0) × (top ≤ mostPeriods) ⌝ }
+    ensures { λ _. ⌜ Raised (now (table .entry)) (now (table .exit)) (cellOf top lane account (r .first)) (r .last - r .first + 1) (r .quantity .0) ⌝ }
+{
+    let at = cell(top, lane, account, r.first);
+    let n = (r.last - r.first) as usize + 1;
+    let quantity = r.quantity;
+    add_range(table, at, n, quantity.0);
+}
+
+// A confirmed row: its buyer bought, and its seller sold.
+fn take_confirmed(table: &mut [u32], top: usize, r: Row)
+    requires { ⌜ (slots * top ≤ length (now table)) × Tabled top r × Room (now table) 0 (r .quantity .0) × (r .status ≡ 2) × (top ≤ mostPeriods) ⌝ }
+    ensures { λ _. ⌜ Taken top (now (table .entry)) (now (table .exit)) r ⌝ }
+{
+    let buyer = pick(r.side == 1, r.counterparty, r.proposer);
+    let seller = pick(r.side == 1, r.proposer, r.counterparty);
+    add_hours(table, top, BOUGHT, buyer, r);
+    add_hours(table, top, SOLD, seller, r);
+}
+
+// A pending row: it waits on its proposer, as a sale or as a purchase.
+fn take_pending(table: &mut [u32], top: usize, r: Row)
+    requires { ⌜ (slots * top ≤ length (now table)) × Tabled top r × Room (now table) 0 (r .quantity .0) × (r .status ≡ 1) × (top ≤ mostPeriods) ⌝ }
+    ensures { λ _. ⌜ Taken top (now (table .entry)) (now (table .exit)) r ⌝ }
+{
+    if r.side == 1 {
+        add_hours(table, top, SALES, r.proposer, r);
+    } else if r.side == 2 {
+        add_hours(table, top, PURCHASES, r.proposer, r);
+    }
+}
+
+// One row more. A withdrawn one counts for nobody.
+fn take_row(table: &mut [u32], top: usize, r: Row)
+    requires { ⌜ (slots * top ≤ length (now table)) × Tabled top r × Room (now table) 0 (r .quantity .0) × (top ≤ mostPeriods) ⌝ }
+    ensures { λ _. ⌜ Taken top (now (table .entry)) (now (table .exit)) r ⌝ }
+{
+    if r.status == 2 {
+        take_confirmed(table, top, r);
+    } else if r.status == 1 {
+        take_pending(table, top, r);
+    }
+}
+
+// A table of no rows.
+fn zeros() -> [u32; TABLE_SIZE]
+    ensures { λ r. ⌜ NoSums mostHours r ⌝ }
+{
+    [0u32; TABLE_SIZE]
+}
+
+// Takes the `n` rows that stand from `at` on into a table of no rows.
+fn fill(table: &mut [u32], top: usize, s: &[u8], at: usize, n: usize)
+    requires { ⌜ NoSums top (now table) × (at + 18 * n ≤ length (now s)) × (n ≤ 256) × Each (Tabled top) (rowsFrom (now s) at n) × (top ≤ mostPeriods) ⌝ }
+    ensures { λ _. ⌜ SumsOf top (rowsFrom (now (s .entry)) at n) (now (table .exit)) ⌝ }
+{
+    let mut place = at;
+    let mut left = n;
+    while 0 < left {
+        let r = row_at(s, place);
+        take_row(table, top, r);
+        place = place + ROW_WIDTH;
+        left = left - 1;
+    }
+}
+
+// The sums of all account hours by the `n` rows that stand from `at` on.
+pub fn sums_of(s: &[u8], at: usize, n: usize) -> [u32; TABLE_SIZE]
+    requires { ⌜ (at + 18 * n ≤ length (now s)) × (n ≤ 256) × Each (Tabled mostHours) (rowsFrom (now s) at n) ⌝ }
+    ensures { λ r. ⌜ SumsOf mostHours (rowsFrom (now (s .entry)) at n) r ⌝ }
+{
+    let mut table = zeros();
+    fill(&mut table, PERIODS, s, at, n);
+    table
+}
+
+// The sum that a lane holds for an account hour.
+fn sum_at(table: &[u32], top: usize, lane: usize, account: u8, hour: u8) -> u32
+    requires { ⌜ (slots * top ≤ length (now table)) × (lane ≤ 3) × InTable top account hour × (top ≤ mostPeriods) ⌝ }
+    ensures { λ r. ⌜ r ≡ getD (now (table .entry)) (cellOf top lane account hour) 0 ⌝ }
+{
+    let k = cell(top, lane, account, hour);
+    table[k]
+}
+
+// What an account holds in an hour.
+pub fn account_hour(table: &[u32], top: usize, account: u8, hour: u8) -> AccountHour
+    requires { ⌜ (slots * top ≤ length (now table)) × InTable top account hour × (top ≤ mostPeriods) ⌝ }
+    ensures { λ r. ⌜ ((rows : List Row) → SumsOf top rows (now (table .entry)) → r ≡ accountHour rows account hour) ⌝ }
+{
+    let net = Net {
+        bought: Kwh(sum_at(table, top, BOUGHT, account, hour)),
+        sold: Kwh(sum_at(table, top, SOLD, account, hour)),
+    };
+    AccountHour {
+        net,
+        sales: Kwh(sum_at(table, top, SALES, account, hour)),
+        purchases: Kwh(sum_at(table, top, PURCHASES, account, hour)),
+    }
+}
+
+// Whether the 4 bytes of a net position are what the account bought in the hour less what it sold.
+fn net_kept(s: &[u8], nets: usize, table: &[u32], top: usize, account: u8, hour: u8) -> bool
+    requires { ⌜ (nets + mostAccounts * accountWidth top ≤ length (now s)) × (slots * top ≤ length (now table)) × InTable top account hour × (top ≤ mostPeriods) ⌝ }
+    ensures { λ r. ⌜ r ≡ netStored top (now (s .entry)) nets (now (table .entry)) account hour ⌝ }
+{
+    let at = nets + NET_WIDTH * place(top, account, hour);
+    let stored = get_u32(s, at) as u64;
+    let bought = sum_at(table, top, BOUGHT, account, hour) as u64;
+    let sold = sum_at(table, top, SOLD, account, hour) as u64;
+    (stored + sold) % TURN == bought % TURN
+}
+
+// The same for all hours of an account.
+fn account_nets_kept(s: &[u8], nets: usize, table: &[u32], top: usize, account: u8) -> bool
+    requires { ⌜ (nets + mostAccounts * accountWidth top ≤ length (now s)) × (slots * top ≤ length (now table)) × (1 ≤ account) × (account ≤ mostAccounts) × (top ≤ mostPeriods) ⌝ }
+    ensures { λ r. ⌜ r ≡ every (netStored top (now (s .entry)) nets (now (table .entry)) account) (upTo top) ⌝ }
+{
+    let mut hour: u8 = 1;
+    while hour as usize <= top {
+        if net_kept(s, nets, table, top, account, hour) {
+            hour = hour + 1;
+        } else {
+            return false;
+        }
+    }
+    true
+}
+
+// Whether all net positions that stand from `nets` on are those of the table.
+pub fn nets_kept(s: &[u8], nets: usize, table: &[u32], top: usize) -> bool
+    requires { ⌜ (nets + mostAccounts * accountWidth top ≤ length (now s)) × (slots * top ≤ length (now table)) × (top ≤ mostPeriods) ⌝ }
+    ensures { λ r. ⌜ r ≡ netsStored top (now (s .entry)) nets (now (table .entry)) ⌝ }
+{
+    let mut account: u8 = 1;
+    while account <= MOST_ACCOUNTS {
+        if account_nets_kept(s, nets, table, top, account) {
+            account = account + 1;
+        } else {
+            return false;
+        }
+    }
+    true
+}
