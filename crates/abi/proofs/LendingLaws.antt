@@ -14,7 +14,7 @@ use Rattle.wire.proofs.RegionLaws.{splice-take-drop}
 use Rattle.rules.specs.declared.Position.{Position}
 use Rattle.rules.specs.declared.Position.the-variants.{Long, Short}
 use Rattle.rules.specs.declared.Refusal.the-variants.{BufferShort}
-use Rattle.rules.specs.Verdicts.{accepted, refused, lowest}
+use Rattle.rules.specs.Verdicts.{accepted, refused, firstToApply}
 use Rattle.rules.specs.Readings.{positionFigure}
 use Rattle.abi.specs.Lending.{lentRefusal, lentOutcome, lentBytes}
 
@@ -22,11 +22,11 @@ use Rattle.abi.specs.Lending.{lentRefusal, lentOutcome, lentBytes}
 
 module _ (said buffer : List ℕ) where
   pub no-room : length buffer < length said → (refused BufferShort ≡ lentOutcome said buffer) × (buffer ≡ lentBytes said buffer)
-  unfolding lentOutcome lentBytes lentRefusal lowest
+  unfolding lentOutcome lentBytes lentRefusal firstToApply
   no-room h = let t = lt-ltb (length buffer) (length said) h in (rw t, rw t)
 
   pub room : length said ≤ length buffer → (accepted 0 ≡ lentOutcome said buffer) × (splice buffer 0 said ≡ lentBytes said buffer)
-  unfolding lentOutcome lentBytes lentRefusal lowest
+  unfolding lentOutcome lentBytes lentRefusal firstToApply
   room h =
       let t = le-ltb (length buffer) (length said) h in
       (rw t, splice-take-drop buffer 0 said ∙ rw (t, zero-add (length said)))

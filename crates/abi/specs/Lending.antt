@@ -12,7 +12,7 @@ use Rattle.rules.specs.declared.NetReading.{NetReading}
 use Rattle.rules.specs.declared.ExposureReading.{ExposureReading}
 use Rattle.rules.specs.declared.Refusal.{Refusal}
 use Rattle.rules.specs.declared.Refusal.the-variants.{BufferShort}
-use Rattle.rules.specs.Verdicts.{refused, lowest, outcomeOf, _⇒_}
+use Rattle.rules.specs.Verdicts.{refused, firstToApply, outcomeOf, _⇒_}
 use Rattle.rules.specs.Requests.{filled, unlessRefused}
 use Rattle.rules.specs.Readings.{positionFigure}
 use Rattle.abi.specs.Fields.{requestBytes}
@@ -20,7 +20,7 @@ use Rattle.abi.specs.Fields.{requestBytes}
 -- ---- bytes told to a buffer
 
 unfoldable pub lentRefusal : List ℕ → List ℕ → Option Refusal
-lentRefusal said buffer = lowest ((ltb (length buffer) (length said) ⇒ BufferShort) ∷ [])
+lentRefusal said buffer = firstToApply ((ltb (length buffer) (length said) ⇒ BufferShort) ∷ [])
 
 unfoldable pub lentOutcome : List ℕ → List ℕ → Outcome
 lentOutcome said buffer = outcomeOf (lentRefusal said buffer) 0

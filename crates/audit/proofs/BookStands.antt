@@ -17,15 +17,15 @@ use Rattle.rules.specs.Limits.{mostHours, mostOperators, mostSchedules, bookSiz
 use Rattle.rules.specs.Books.{Setup, Part, Book}
 use Rattle.rules.specs.Opening.{countsIn, operatorsFrom, setupLength, setupOf}
 use Rattle.rules.specs.Registration.{pending}
-use Rattle.rules.proofs.Tests.{test-same, and-both}
+use Rattle.rules.proofs.Basics.Tests.{test-same, and-both}
 use Rattle.image.specs.Layout.{setupRoom, scheduleWidth, partSize, usedSize, phaseAt, flagAt, scheduleCountAt, schedulesAt, presentAt, savedAt}
 use Rattle.image.specs.Image.{scheduleIn, savedIn, decode}
 use Rattle.image.specs.Valid.{setupOk, scheduleOk, partOk, follows, savedOk, bookTests, valid, isBook}
 use Rattle.image.specs.Cells.{schedulesFrom, partAt}
-use Rattle.image.proofs.Soundness.{all-holds, holds-all, sound-setup}
+use Rattle.image.proofs.Sound.Soundness.{all-holds, holds-all, sound-setup}
 use Rattle.image.proofs.Round.{length-book}
-use Rattle.image.proofs.Places.{bookAt, decode-places}
-use Rattle.image.proofs.SetupAgain.{setup-in-front}
+use Rattle.image.proofs.Reading.Places.{bookAt, decode-places}
+use Rattle.image.proofs.Setups.SetupAgain.{setup-in-front}
 use Rattle.audit.specs.Plain.{noneLodged, partPlain, savedPlain, bookPlainTests, bookPlain}
 use Rattle.audit.specs.Stands.{setupStands, rowsOf, partStands, savedStands, schedulesStand, phaseStands}
 use Rattle.audit.proofs.Local.{is-book-local}

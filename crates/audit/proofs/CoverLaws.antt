@@ -19,8 +19,8 @@ use Rattle.rules.specs.Limits.{mostGuarantee, thousand}
 use Rattle.rules.specs.Books.{operatorCount, maintenanceAt}
 use Rattle.rules.specs.Opening.{countsIn, setupOf, operatorsIn}
 use Rattle.rules.specs.Registration.{exposure, available, covered}
-use Rattle.rules.proofs.Searches.{each-at}
-use Rattle.rules.proofs.SetupEntries.{length-operators, counts-of-setup}
+use Rattle.rules.proofs.Basics.Searches.{each-at}
+use Rattle.rules.proofs.Setups.SetupEntries.{length-operators, counts-of-setup}
 use Rattle.setup.specs.Faults.{noOperator}
 use Rattle.image.specs.Cells.{guaranteesFrom}
 use Rattle.audit.specs.Stands.{partWith}

@@ -11,7 +11,7 @@ use Rattle.rules.specs.Registration.{pending}
 use Rattle.image.specs.Image.{rowIn}
 use Rattle.image.specs.Valid.{sameTerms, follows}
 use Rattle.image.specs.Cells.{rowsFrom}
-use Rattle.image.proofs.RowsFrom.{rows-done, rows-step, length-rows}
+use Rattle.image.proofs.Reading.RowsFrom.{rows-done, rows-step, length-rows}
 
 -- a saved row, and what it can since have become
 abbrev pub rowFollows : Row → Row → Bool

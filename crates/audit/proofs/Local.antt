@@ -21,15 +21,15 @@ use Rattle.rules.specs.declared.Row.{Row}
 use Rattle.rules.specs.Limits.{mostOperators, mostSchedules}
 use Rattle.rules.specs.Books.{Setup}
 use Rattle.rules.specs.Opening.{countsIn}
-use Rattle.rules.proofs.Tests.{test-same, and-both}
+use Rattle.rules.proofs.Basics.Tests.{test-same, and-both}
 use Rattle.image.specs.Layout.{setupRoom, scheduleWidth, partSize, usedSize, bookWidths, phaseAt, flagAt, scheduleCountAt, schedulesAt, presentAt, savedAt}
 use Rattle.image.specs.Image.{scheduleBytes, partBytes, flag, savedBytes, sectionsWith, sections, image, scheduleIn, partIn, savedIn, decode}
 use Rattle.image.specs.Valid.{valid, isBookOf}
-use Rattle.image.proofs.Soundness.{all-holds, holds-all}
-use Rattle.image.proofs.SoundBooks.{SoundBook, SavedSound, sound}
-use Rattle.image.proofs.Sizes.{fits, length-schedule, wide-book}
+use Rattle.image.proofs.Sound.Soundness.{all-holds, holds-all}
+use Rattle.image.proofs.Sound.SoundBooks.{SoundBook, SavedSound, sound}
+use Rattle.image.proofs.Writing.Sizes.{fits, length-schedule, wide-book}
 use Rattle.image.proofs.Round.{schedule-again, same-refl, book-is-image, length-book}
-use Rattle.image.proofs.Places.{bookAt, counts-at, decode-places}
+use Rattle.image.proofs.Reading.Places.{bookAt, counts-at, decode-places}
 use Rattle.audit.specs.Plain.{partPlain, savedPlain, bookPlainTests, bookPlain}
 use Rattle.audit.proofs.SetupTests.{setup-plain, plain-setup}
 use Rattle.audit.proofs.PartTests.{slots-zero, part-plain, plain-part}

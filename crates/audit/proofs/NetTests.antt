@@ -21,12 +21,12 @@ use Rattle.rules.specs.declared.Row.{Row}
 use Rattle.rules.specs.Basics.{upTo}
 use Rattle.rules.specs.Limits.{mostAccounts}
 use Rattle.rules.specs.Registration.{bought, sold, netOf, figure}
-use Rattle.rules.proofs.Searches.{counting-length}
+use Rattle.rules.proofs.Basics.Searches.{counting-length}
 use Rattle.image.specs.Layout.{accountWidth, netAt, netsAt}
 use Rattle.image.specs.Image.{accountNets, netsBytes}
-use Rattle.image.proofs.Soundness.{every-upTo, upTo-every}
-use Rattle.image.proofs.Sizes.{length-account}
-use Rattle.image.proofs.Nets.{upTo-at}
+use Rattle.image.proofs.Sound.Soundness.{every-upTo, upTo-every}
+use Rattle.image.proofs.Writing.Sizes.{length-account}
+use Rattle.image.proofs.Writing.Nets.{upTo-at}
 use Rattle.audit.specs.Plain.{netHeld, netsHeld}
 
 -- ---- one net

@@ -20,16 +20,16 @@ use Rattle.rules.specs.Basics.{every, allOf, upTo, Each}
 use Rattle.rules.specs.Limits.{mostHours, mostAccounts, mostGuarantee, mostOperators, mostRows}
 use Rattle.rules.specs.Books.{Setup, Part, operatorCount}
 use Rattle.rules.specs.Opening.{countsIn, setupOf}
-use Rattle.rules.proofs.Tests.{test-same, and-both}
-use Rattle.rules.proofs.Searches.{every-each, each-map}
-use Rattle.rules.proofs.SetupEntries.{counts-of-setup}
+use Rattle.rules.proofs.Basics.Tests.{test-same, and-both}
+use Rattle.rules.proofs.Basics.Searches.{every-each, each-map}
+use Rattle.rules.proofs.Setups.SetupEntries.{counts-of-setup}
 use Rattle.image.specs.Layout.{rowWidth, partWidths, partSize, rowsAt, netsAt, netAt}
 use Rattle.image.specs.Image.{rowIn, partOf, partIn}
 use Rattle.image.specs.Valid.{rowOk, noTwins, marginsKept, guaranteesKept, partTests, partOk}
 use Rattle.image.specs.Tables.{placeOf, InTable, Tabled}
 use Rattle.image.specs.Cells.{rowsFrom, guaranteesFrom, partAt}
-use Rattle.image.proofs.Soundness.{SoundRow, sound-row, all-holds, holds-all, every-upTo, upTo-every}
-use Rattle.image.proofs.SoundBooks.{sound-part}
+use Rattle.image.proofs.Sound.Soundness.{SoundRow, sound-row, all-holds, holds-all, every-upTo, upTo-every}
+use Rattle.image.proofs.Sound.SoundBooks.{sound-part}
 use Rattle.tables.specs.Sums.{SumsOf, netStored, netsStored}
 use Rattle.audit.specs.Plain.{netsHeld, partPlain}
 use Rattle.audit.specs.Stands.{SetupKnown, rowCount, rowsOf, partWith, guaranteesStand, rowsStand, sumsStand, partStands}

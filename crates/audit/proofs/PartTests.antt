@@ -21,8 +21,8 @@ use Rattle.rules.specs.Books.{Part}
 use Rattle.image.specs.Layout.{rowWidth, accountWidth, partWidths, partSize, rowCountAt, rowAt, netsAt}
 use Rattle.image.specs.Image.{rowBytes, partSections, partBytes, rowIn, partOf, partIn}
 use Rattle.image.specs.Cells.{partAt}
-use Rattle.image.proofs.Soundness.{all-holds, holds-all}
-use Rattle.image.proofs.Sizes.{PartFits, length-row, length-guarantee, wide-part}
+use Rattle.image.proofs.Sound.Soundness.{all-holds, holds-all}
+use Rattle.image.proofs.Writing.Sizes.{PartFits, length-row, length-guarantee, wide-part}
 use Rattle.image.proofs.Round.{row-again, guarantee-again}
 use Rattle.audit.specs.Plain.{partPlainTests, partPlain}
 use Rattle.audit.proofs.NetTests.{nets-held, held-nets}

@@ -22,16 +22,16 @@ use Rattle.rules.specs.declared.Counts.{Counts}
 use Rattle.rules.specs.Basics.{entries}
 use Rattle.rules.specs.Books.{Setup}
 use Rattle.rules.specs.Opening.{setupRefusal, countsIn, operatorsFrom, setupLength, operatorIn, operatorsIn, setupOf, guaranteesOf}
-use Rattle.rules.proofs.Tests.{and-both}
-use Rattle.rules.proofs.SetupEntries.{counts-of-setup, operator-at}
+use Rattle.rules.proofs.Basics.Tests.{and-both}
+use Rattle.rules.proofs.Setups.SetupEntries.{counts-of-setup, operator-at}
 use Rattle.image.specs.Layout.{setupRoom}
 use Rattle.image.specs.Image.{storedSetup}
 use Rattle.image.specs.Valid.{setupOk}
-use Rattle.image.proofs.Soundness.{SoundSetup, sound-setup}
-use Rattle.image.proofs.Sizes.{length-stored}
-use Rattle.image.proofs.StoredSetup.{guarantees-back}
-use Rattle.image.proofs.SetupAgain.{NoGuarantees, setup-again, entries-first, counts-first-bytes, setup-short, accepted-sound, front-sound, front-accepted}
-use Rattle.image.proofs.Places.{counts-at}
+use Rattle.image.proofs.Sound.Soundness.{SoundSetup, sound-setup}
+use Rattle.image.proofs.Writing.Sizes.{length-stored}
+use Rattle.image.proofs.Setups.StoredSetup.{guarantees-back}
+use Rattle.image.proofs.Setups.SetupAgain.{NoGuarantees, setup-again, entries-first, counts-first-bytes, setup-short, accepted-sound, front-sound, front-accepted}
+use Rattle.image.proofs.Reading.Places.{counts-at}
 use Rattle.audit.specs.Plain.{noneLodged}
 
 -- ---- no guarantee in the set-up

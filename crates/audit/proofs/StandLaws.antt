@@ -18,14 +18,14 @@ use Rattle.rules.specs.Basics.{isSome, Each, nil, cons}
 use Rattle.rules.specs.Limits.{thousand, bookSize}
 use Rattle.rules.specs.Books.{Setup, operatorCount}
 use Rattle.rules.specs.Opening.{countsIn, operatorsFrom, setupLength, setupOf, operatorsOf, setupRefusal}
-use Rattle.rules.proofs.Tests.{and-both}
-use Rattle.rules.proofs.Searches.{none-of}
-use Rattle.rules.proofs.SetupEntries.{counts-of-setup}
+use Rattle.rules.proofs.Basics.Tests.{and-both}
+use Rattle.rules.proofs.Basics.Searches.{none-of}
+use Rattle.rules.proofs.Setups.SetupEntries.{counts-of-setup}
 use Rattle.image.specs.Layout.{setupRoom}
 use Rattle.image.specs.Valid.{setupOk}
-use Rattle.image.proofs.Soundness.{SoundSetup, sound-setup}
-use Rattle.image.proofs.SetupRanges.{SoundOperator, values-in-range}
-use Rattle.image.proofs.SetupAgain.{setup-short, setup-in-front}
+use Rattle.image.proofs.Sound.Soundness.{SoundSetup, sound-setup}
+use Rattle.image.proofs.Setups.SetupRanges.{SoundOperator, values-in-range}
+use Rattle.image.proofs.Setups.SetupAgain.{setup-short, setup-in-front}
 use Rattle.audit.specs.Plain.{noneLodged}
 use Rattle.audit.specs.Stands.{setupStands, SetupKnown}
 use Rattle.audit.proofs.SetupTests.{setup-sound-in, setup-accepted-in}

@@ -16,13 +16,13 @@ use Rattle.wire.proofs.NumberLaws.{number-at-small}
 use Rattle.rules.specs.declared.Row.{Row}
 use Rattle.rules.specs.Basics.{any}
 use Rattle.rules.specs.Registration.{pending, alike}
-use Rattle.rules.proofs.Tests.{test-same, and-both, or-neither}
-use Rattle.rules.proofs.RowTests.{alike-by, alike-true}
+use Rattle.rules.proofs.Basics.Tests.{test-same, and-both, or-neither}
+use Rattle.rules.proofs.Rows.RowTests.{alike-by, alike-true}
 use Rattle.image.specs.Image.{rowIn}
 use Rattle.image.specs.Valid.{noTwins}
 use Rattle.image.specs.Cells.{rowsFrom}
-use Rattle.image.proofs.RowBytes.{row-at}
-use Rattle.image.proofs.RowsFrom.{rows-done, rows-step}
+use Rattle.image.proofs.Reading.RowBytes.{row-at}
+use Rattle.image.proofs.Reading.RowsFrom.{rows-done, rows-step}
 use Rattle.audit.specs.Twins.{pairOf, markOf, keyAmong, keysApart, Keyed}
 
 -- ---- the loops over keys

@@ -12,13 +12,13 @@ use Rattle.rules.specs.declared.Outcome.{Outcome}
 use Rattle.rules.specs.declared.Refusal.{Refusal}
 use Rattle.rules.specs.declared.Refusal.the-variants.{WrongPhase}
 use Rattle.rules.specs.Limits.{mostHours, bookSize}
-use Rattle.rules.specs.Verdicts.{lowest, accepted, refused}
+use Rattle.rules.specs.Verdicts.{firstToApply, accepted, refused}
 use Rattle.rules.specs.Books.{Book}
 use Rattle.rules.specs.Requests.{Kind, requestOf}
 use Rattle.rules.specs.Calls.{phaseOf, stateChecks, next, given}
-use Rattle.rules.proofs.Clearing.{Clear, clear}
+use Rattle.rules.proofs.Checks.Clearing.{Clear, clear}
 use Rattle.image.specs.Valid.{isBook, bookIn, bookBytes}
-use Rattle.image.proofs.SoundBooks.{SoundBook, book-sound}
+use Rattle.image.proofs.Sound.SoundBooks.{SoundBook, book-sound}
 use Rattle.image.proofs.Round.{image-is-book}
 use Rattle.book.specs.Kinds.{decided, outcomeOn, bookAfter}
 use Rattle.book.proofs.StateLaws.{book-image}
@@ -30,7 +30,7 @@ decided-clear k b q e = clear (stateChecks b k q) e
 
 -- 11, of every kind
 pub in-wrong-phase : (b : Book) (q : Request) (k : Kind) → (b .phase ≡ phaseOf k → ⊥) → decided k b q ≡ some WrongPhase
-unfolding decided stateChecks lowest
+unfolding decided stateChecks firstToApply
 in-wrong-phase b q k n = rw (ne-eqb _ _ n)
 
 -- a call of that kind on a book's bytes s answers o and leaves the bytes t, a book again

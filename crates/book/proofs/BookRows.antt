@@ -18,17 +18,17 @@ use Rattle.rules.specs.Basics.{nth, Each}
 use Rattle.rules.specs.Limits.{mostPrice, mostRows, mostHours, mostAccounts, bookSize}
 use Rattle.rules.specs.Books.{Setup, Book, noAccount, noRow, accountAt, operatorOf, countsOf, operatorCount, accountCount}
 use Rattle.rules.specs.Opening.{countsIn, accountsIn, accountIn, accountsFrom, estimatesIn, setupOf, operatorsOf}
-use Rattle.rules.proofs.Searches.{each-map, each-nth, each-at}
-use Rattle.rules.proofs.SetupEntries.{nth-entry, account-at, counts-of-setup}
+use Rattle.rules.proofs.Basics.Searches.{each-map, each-nth, each-at}
+use Rattle.rules.proofs.Setups.SetupEntries.{nth-entry, account-at, counts-of-setup}
 use Rattle.image.specs.Layout.{setupRoom, rowWidth, partWidths, partSize, presentAt, rowCountAt, rowsAt}
 use Rattle.image.specs.Image.{partOf, partIn}
 use Rattle.image.specs.Valid.{isBook, bookIn}
 use Rattle.image.specs.Cells.{partAt, rowsFrom}
 use Rattle.image.specs.Tables.{Tabled, SetupTabled}
-use Rattle.image.proofs.Soundness.{SoundSetup, SoundRow}
-use Rattle.image.proofs.SetupRanges.{InRange, values-in-range}
-use Rattle.image.proofs.SetupAgain.{counts-first-bytes, setup-short, setup-in-front}
-use Rattle.image.proofs.Places.{decode-places}
+use Rattle.image.proofs.Sound.Soundness.{SoundSetup, SoundRow}
+use Rattle.image.proofs.Setups.SetupRanges.{InRange, values-in-range}
+use Rattle.image.proofs.Setups.SetupAgain.{counts-first-bytes, setup-short, setup-in-front}
+use Rattle.image.proofs.Reading.Places.{decode-places}
 use Rattle.book.proofs.StateLaws.{book-length, book-is-sound, row-count-stands}
 
 -- ---- a part

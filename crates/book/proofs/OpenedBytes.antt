@@ -26,15 +26,15 @@ use Rattle.rules.specs.Limits.{mostOperators, mostAccounts, mostRows, mostSched
 use Rattle.rules.specs.Books.{Setup, operatorCount, accountCount, pointCount, countsOf}
 use Rattle.rules.specs.Opening.{countsIn, operatorsFrom, setupLength, operatorIn, operatorsIn, setupOf, guaranteesOf, operatorBytes, accountBytes, pointBytes, operatorsOf, setupBytes, setupRefusal, opened}
 use Rattle.rules.specs.Registration.{moved}
-use Rattle.rules.proofs.SetupEntries.{operator-at, counts-of-setup}
-use Rattle.rules.proofs.SetupShape.{accepted-shape}
+use Rattle.rules.proofs.Setups.SetupEntries.{operator-at, counts-of-setup}
+use Rattle.rules.proofs.Setups.SetupShape.{accepted-shape}
 use Rattle.image.specs.Layout.{setupRoom, rowWidth, scheduleWidth, accountWidth, partWidths, partSize, usedSize, bookWidths, phaseAt, presentAt}
 use Rattle.image.specs.Image.{rowBytes, scheduleBytes, accountNets, netsBytes, partSections, partBytes, savedBytes, storedSetup, sectionsWith, sections, image}
-use Rattle.image.proofs.Soundness.{sound-setup}
-use Rattle.image.proofs.SoundBooks.{sound}
-use Rattle.image.proofs.Sizes.{Fits, fits, length-row, length-schedule, length-guarantee, length-joined, length-operator-bytes, length-operators, length-stored}
-use Rattle.image.proofs.Opened.{opened-valid}
-use Rattle.image.proofs.SetupAgain.{bytes-again, length-guarantees, accepted-sound}
+use Rattle.image.proofs.Sound.Soundness.{sound-setup}
+use Rattle.image.proofs.Sound.SoundBooks.{sound}
+use Rattle.image.proofs.Writing.Sizes.{Fits, fits, length-row, length-schedule, length-guarantee, length-joined, length-operator-bytes, length-operators, length-stored}
+use Rattle.image.proofs.Keeping.Opened.{opened-valid}
+use Rattle.image.proofs.Setups.SetupAgain.{bytes-again, length-guarantees, accepted-sound}
 use Rattle.book.specs.Fresh.{unlodged, lodged}
 
 -- ---- the two loops over operators

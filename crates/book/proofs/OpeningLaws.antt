@@ -18,16 +18,16 @@ use Rattle.rules.specs.declared.Counts.{Counts}
 use Rattle.rules.specs.declared.Refusal.{Refusal}
 use Rattle.rules.specs.declared.Refusal.the-variants.{NotABook}
 use Rattle.rules.specs.Limits.{bookSize, mostOperators}
-use Rattle.rules.specs.Verdicts.{lowest, accepted, refused}
+use Rattle.rules.specs.Verdicts.{firstToApply, accepted, refused}
 use Rattle.rules.specs.Opening.{countsIn, operatorsFrom, setupRefusal, openRefusal, openOutcome, opened}
-use Rattle.rules.proofs.Clearing.{clear, clear-lowest}
-use Rattle.rules.proofs.SetupShape.{accepted-shape}
+use Rattle.rules.proofs.Checks.Clearing.{clear, clear-applies}
+use Rattle.rules.proofs.Setups.SetupShape.{accepted-shape}
 use Rattle.image.specs.Layout.{setupRoom, phaseAt, presentAt}
 use Rattle.image.specs.Valid.{isBook, bookBytes}
-use Rattle.image.proofs.SoundBooks.{sound}
-use Rattle.image.proofs.Sizes.{Fits, fits}
-use Rattle.image.proofs.SetupAgain.{length-guarantees}
-use Rattle.image.proofs.Opened.{opened-valid, opened-is-book}
+use Rattle.image.proofs.Sound.SoundBooks.{sound}
+use Rattle.image.proofs.Writing.Sizes.{Fits, fits}
+use Rattle.image.proofs.Setups.SetupAgain.{length-guarantees}
+use Rattle.image.proofs.Keeping.Opened.{opened-valid, opened-is-book}
 use Rattle.book.specs.Fresh.{unlodged, lodged}
 use Rattle.book.specs.Doors.{openBytes}
 use Rattle.book.proofs.OpenedBytes.{length-stored-opened, opening-writes}
@@ -104,11 +104,11 @@ module _ (s : List ℕ) (b : Bytes s) (h : setupRefusal s ≡ none) where
 
 module _ (s book : List ℕ) where
   pub other-size : (length book ≡ bookSize → ⊥) → openRefusal s book ≡ some NotABook
-  unfolding openRefusal lowest
+  unfolding openRefusal firstToApply
   other-size h = rw (ne-eqb _ _ h)
 
   pub setup-decides : length book ≡ bookSize → openRefusal s book ≡ setupRefusal s
-  unfolding openRefusal setupRefusal lowest
+  unfolding openRefusal setupRefusal firstToApply
   setup-decides h = rw (eq-eqb _ _ h)
 
   -- a refusal is answered, and changes no byte
@@ -124,4 +124,4 @@ module _ (s book : List ℕ) where
   -- which is a book
   pub open-leaves-a-book : openRefusal s book ≡ none → isBook (openBytes s book) ≡ true
   unfolding openBytes openRefusal setupRefusal
-  open-leaves-a-book h = rw h (opened-is-book s (clear-lowest _ (clear _ h .1)) _ bookSize (omega arith))
+  open-leaves-a-book h = rw h (opened-is-book s (clear-applies _ (clear _ h .1)) _ bookSize (omega arith))

@@ -11,9 +11,9 @@ use Rattle.rules.specs.Limits.{mostRows}
 use Rattle.rules.specs.Books.{Book, countsOf, operatorCount}
 use Rattle.rules.specs.Requests.{Kind, withdraw, guarantee, settle, kindNumber, wantedMap, fieldCount, inRange}
 use Rattle.rules.specs.Calls.{Call, _∈_, inputChecks}
-use Rattle.rules.proofs.Tests.{within-true}
-use Rattle.rules.proofs.Clearing.{Clear}
-use Rattle.rules.proofs.Passed.{field-in-range}
+use Rattle.rules.proofs.Basics.Tests.{within-true}
+use Rattle.rules.proofs.Checks.Clearing.{Clear}
+use Rattle.rules.proofs.Checks.Passed.{field-in-range}
 use Rattle.book.specs.Kinds.{Ready}
 
 -- a call that lends nothing: only settle looks at more than the request

@@ -26,18 +26,18 @@ use Rattle.rules.specs.Limits.{mostEnergy, mostHours, bookSize}
 use Rattle.rules.specs.Books.{Setup, noAccount, accountAt, operatorCount, accountCount}
 use Rattle.rules.specs.Opening.{countsIn, setupOf}
 use Rattle.rules.specs.Registration.{bought, sold, netOf, accountHour, keepsMargins, exposure}
-use Rattle.rules.specs.Verdicts.{Check, _⇒_, lowest}
+use Rattle.rules.specs.Verdicts.{Check, _⇒_, firstToApply}
 use Rattle.rules.specs.Readings.{position, netChecks, netReadingOf, netReading, exposureChecks, exposureReadingOf, exposureReading}
-use Rattle.rules.proofs.Tests.{and-both, within-true}
-use Rattle.rules.proofs.Searches.{each-at}
-use Rattle.rules.proofs.Clearing.{clear-lowest}
+use Rattle.rules.proofs.Basics.Tests.{and-both, within-true}
+use Rattle.rules.proofs.Basics.Searches.{each-at}
+use Rattle.rules.proofs.Checks.Clearing.{clear-applies}
 use Rattle.image.specs.Layout.{presentAt, netAt}
 use Rattle.image.specs.Valid.{isBook, bookIn}
 use Rattle.image.specs.Tables.{InTable}
-use Rattle.image.proofs.Sizes.{fits}
-use Rattle.image.proofs.SetupRanges.{InRange, SoundAccount}
+use Rattle.image.proofs.Writing.Sizes.{fits}
+use Rattle.image.proofs.Setups.SetupRanges.{InRange, SoundAccount}
 use Rattle.image.proofs.Round.{book-is-image}
-use Rattle.image.proofs.ImageReads.{net-read}
+use Rattle.image.proofs.Reading.ImageReads.{net-read}
 use Rattle.book.proofs.StateLaws.{book-is-sound}
 use Rattle.book.proofs.BookRows.{counts-in, setup-in, values-in}
 
@@ -60,15 +60,15 @@ stored-position b s v e low high = go (ltb b s) refl
         let same : b - s ≡ v = omega arith in
         rw (lt-ltb v 2147483648 (omega arith), same)
 
--- ---- tests, the lowest first
+-- ---- tests in rank
 
-lowest-here : (t : Bool) (r : Refusal) (cs : List Check) → t ≡ true → lowest ((t ⇒ r) ∷ cs) ≡ some r
-unfolding lowest
-lowest-here t r cs e = rw (e, lowest)
+applies-here : (t : Bool) (r : Refusal) (cs : List Check) → t ≡ true → firstToApply ((t ⇒ r) ∷ cs) ≡ some r
+unfolding firstToApply
+applies-here t r cs e = rw (e, firstToApply)
 
-lowest-past : (t : Bool) (r : Refusal) (cs : List Check) → t ≡ false → lowest ((t ⇒ r) ∷ cs) ≡ lowest cs
-unfolding lowest
-lowest-past t r cs e = rw (e, lowest)
+applies-past : (t : Bool) (r : Refusal) (cs : List Check) → t ≡ false → firstToApply ((t ⇒ r) ∷ cs) ≡ firstToApply cs
+unfolding firstToApply
+applies-past t r cs e = rw (e, firstToApply)
 
 -- an account of a set-up in range
 account-in-range : (u : Setup) (os : List Operator) (a : ℕ) → InRange u os → 1 ≤ a → a ≤ accountCount u → SoundAccount (operatorCount u) (accountAt u a)
@@ -146,11 +146,11 @@ module _ (s : List ℕ) (h : isBook s ≡ true) (n : Counts) (e : n ≡ countsIn
 
     pub net-no-account : not (within 1 a (n .accounts)) ≡ true → netReading (bookIn s) a t ≡ NetReading.Unread (OutOfRange 1)
     unfolding netReading
-    net-no-account x = ap (λ (o : Option Refusal). netReadingOf o net) (lowest-here _ _ _ (by-account x))
+    net-no-account x = ap (λ (o : Option Refusal). netReadingOf o net) (applies-here _ _ _ (by-account x))
 
     pub net-no-hour : not (within 1 a (n .accounts)) ≡ false → not (within 1 t (n .hours)) ≡ true → netReading (bookIn s) a t ≡ NetReading.Unread (OutOfRange 5)
     unfolding netReading
-    net-no-hour x y = ap (λ (o : Option Refusal). netReadingOf o net) (lowest-past _ _ _ (by-account x) ∙ lowest-here _ _ [] (by-hour y))
+    net-no-hour x y = ap (λ (o : Option Refusal). netReadingOf o net) (applies-past _ _ _ (by-account x) ∙ applies-here _ _ [] (by-hour y))
 
     module _ (x : not (within 1 a (n .accounts)) ≡ false) (y : not (within 1 t (n .hours)) ≡ false) where
       account-inside : (1 ≤ a) × (a ≤ accountCount u)
@@ -168,7 +168,7 @@ module _ (s : List ℕ) (h : isBook s ≡ true) (n : Counts) (e : n ≡ countsIn
       net-stands v q =
           let near = net-near s h a t account-inside hour-inside in
           let stored = net-stored s h a t account-inside hour-inside v q in
-          ap (λ (o : Option Refusal). netReadingOf o net) (clear-lowest (netChecks (bookIn s) a t) (rw (by-account x), (rw (by-hour y), tt)))
+          ap (λ (o : Option Refusal). netReadingOf o net) (clear-applies (netChecks (bookIn s) a t) (rw (by-account x), (rw (by-hour y), tt)))
           ∙ ap NetReading.Stands (stored-position _ _ v stored (near .0) (near .1))
 
   module _ (o : ℕ) where
@@ -178,11 +178,11 @@ module _ (s : List ℕ) (h : isBook s ≡ true) (n : Counts) (e : n ≡ countsIn
     pub exposure-no-operator : not (within 1 o (n .operators)) ≡ true → exposureReading (bookIn s) o ≡ ExposureReading.Unread (OutOfRange 9)
     unfolding exposureReading
     exposure-no-operator x =
-        ap (λ (y : Option Refusal). exposureReadingOf y (exposure u (bookIn s .part .rows) o)) (lowest-here _ _ _ (by-operator x))
+        ap (λ (y : Option Refusal). exposureReadingOf y (exposure u (bookIn s .part .rows) o)) (applies-here _ _ _ (by-operator x))
 
     pub exposure-stands : (m : MilliCents) → not (within 1 o (n .operators)) ≡ false → m .0 ≡ exposure (setupOf s) (bookIn s .part .rows) o
         → exposureReading (bookIn s) o ≡ ExposureReading.Stands m
     unfolding exposureReading
     exposure-stands m x y =
-        ap (λ (z : Option Refusal). exposureReadingOf z (exposure u (bookIn s .part .rows) o)) (clear-lowest (exposureChecks (bookIn s) o) (rw (by-operator x), tt))
+        ap (λ (z : Option Refusal). exposureReadingOf z (exposure u (bookIn s .part .rows) o)) (clear-applies (exposureChecks (bookIn s) o) (rw (by-operator x), tt))
         ∙ ap (λ (z : ℕ). ExposureReading.Stands (milliCents z)) (ap (λ (z : Setup). exposure z (bookIn s .part .rows) o) (setup-in s h) ∙ sym y)

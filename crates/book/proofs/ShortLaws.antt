@@ -15,9 +15,9 @@ use Rattle.rules.specs.Basics.{if_then_else_, total, counting}
 use Rattle.rules.specs.Limits.{mostEnergy, mostPrice}
 use Rattle.rules.specs.Books.{Setup, estimateAt, operatorOf, accountCount}
 use Rattle.rules.specs.Registration.{confirmed, covers, seller, netOf, takes, ofOperator}
-use Rattle.rules.proofs.Tests.{or-neither}
+use Rattle.rules.proofs.Basics.Tests.{or-neither}
 use Rattle.image.specs.Valid.{isBook, bookIn}
-use Rattle.image.proofs.MoneyLaws.{where-most}
+use Rattle.image.proofs.Tables.MoneyLaws.{where-most}
 use Rattle.book.specs.Netted.{netted}
 use Rattle.book.specs.Worth.{shortWorth, accountShort, shortShare, netWith}
 use Rattle.book.proofs.ReadingLaws.{net-near}

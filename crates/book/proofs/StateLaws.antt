@@ -14,15 +14,15 @@ use Rattle.rules.specs.Basics.{isSome, nth}
 use Rattle.rules.specs.Limits.{mostHours, mostRows, mostSchedules, bookSize}
 use Rattle.rules.specs.Books.{Part, Book, noRow}
 use Rattle.rules.specs.Calls.{restored}
-use Rattle.rules.proofs.Searches.{some-of, each-at}
+use Rattle.rules.proofs.Basics.Searches.{some-of, each-at}
 use Rattle.image.specs.Layout.{rowWidths, rowWidth, phaseAt, flagAt, scheduleCountAt, presentAt, savedAt, rowCountAt, rowAt}
 use Rattle.image.specs.Image.{rowValues, rowBytes, rowIn, flag}
 use Rattle.image.specs.Valid.{valid, follows, isBook, bookIn, bookBytes}
-use Rattle.image.proofs.SoundBooks.{SoundBook, sound}
-use Rattle.image.proofs.Sizes.{Fits, fits, row-small}
-use Rattle.image.proofs.KeepsRows.{follows-cons}
-use Rattle.image.proofs.Keeps.{batch-follows}
-use Rattle.image.proofs.ImageReads.{phase-read, flag-read, schedule-count-read, row-count-read, saved-row-count-read, row-read, row-value-read}
+use Rattle.image.proofs.Sound.SoundBooks.{SoundBook, sound}
+use Rattle.image.proofs.Writing.Sizes.{Fits, fits, row-small}
+use Rattle.image.proofs.Keeping.KeepsRows.{follows-cons}
+use Rattle.image.proofs.Keeping.Keeps.{batch-follows}
+use Rattle.image.proofs.Reading.ImageReads.{phase-read, flag-read, schedule-count-read, row-count-read, saved-row-count-read, row-read, row-value-read}
 use Rattle.image.proofs.Round.{row-back, book-is-image, length-book}
 
 -- the flag says whether a batch is open

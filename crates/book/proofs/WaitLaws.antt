@@ -18,8 +18,8 @@ use Rattle.rules.specs.Registration.{pending, covers, alike, waiting}
 use Rattle.image.specs.Layout.{presentAt, rowAt}
 use Rattle.image.specs.Valid.{isBook, bookIn}
 use Rattle.image.specs.Tables.{cellOf, InTable, Tabled, Raised}
-use Rattle.image.proofs.SumLaws.{raised-cell, raised-most, zero-at}
-use Rattle.image.proofs.RowBytes.{row-at}
+use Rattle.image.proofs.Tables.SumLaws.{raised-cell, raised-most, zero-at}
+use Rattle.image.proofs.Reading.RowBytes.{row-at}
 use Rattle.book.specs.Waits.{waitCell, Waits, WaitsOf, noWaits, WaitTaken}
 use Rattle.book.proofs.StateLaws.{book-is-sound, numbered-row-stands}
 

@@ -13,8 +13,8 @@ use Rattle.rules.specs.declared.Row.{Row}
 use Rattle.rules.specs.Basics.{if_then_else_, total, nth, upTo, Each, nil, cons}
 use Rattle.rules.specs.Books.{Setup, noRow, estimateAt, operatorOf, accountCount}
 use Rattle.rules.specs.Registration.{pending, covers, buyer, seller, counted, waiting, withStatus, mark, pendingSales, accountHour, takes, exposed, ofOperator, exposureOf, exposure, exposureWith}
-use Rattle.rules.proofs.Totals.{total-zero, total-add, total-times, total-cong, shared}
-use Rattle.rules.proofs.AccountHours.{moved-confirm, waiting-end, hour-takes}
+use Rattle.rules.proofs.Basics.Totals.{total-zero, total-add, total-times, total-cong, shared}
+use Rattle.rules.proofs.Rows.AccountHours.{moved-confirm, waiting-end, hour-takes}
 use Rattle.book.specs.Worth.{shortWorth, accountShort, spanPrice, saleWorth}
 
 -- ---- tests

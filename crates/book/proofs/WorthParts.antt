@@ -19,13 +19,13 @@ use Rattle.rules.specs.Limits.{mostEnergy, mostPrice, mostHours}
 use Rattle.rules.specs.Books.{Setup, noRow, estimateAt, operatorOf, accountCount}
 use Rattle.rules.specs.Opening.{countsIn, estimatesIn, setupOf}
 use Rattle.rules.specs.Registration.{pending, exposure, exposureWith}
-use Rattle.rules.proofs.Searches.{each-map}
-use Rattle.rules.proofs.Tests.{within-true}
-use Rattle.rules.proofs.Totals.{total-zero, total-last, total-upTo}
-use Rattle.rules.proofs.Differences.{lt-or-ge}
+use Rattle.rules.proofs.Basics.Searches.{each-map}
+use Rattle.rules.proofs.Basics.Tests.{within-true}
+use Rattle.rules.proofs.Basics.Totals.{total-zero, total-last, total-upTo}
+use Rattle.rules.proofs.Basics.Differences.{lt-or-ge}
 use Rattle.image.specs.Valid.{isBook, bookIn}
-use Rattle.image.proofs.Soundness.{SoundRow}
-use Rattle.image.proofs.MoneyLaws.{price-most}
+use Rattle.image.proofs.Sound.Soundness.{SoundRow}
+use Rattle.image.proofs.Tables.MoneyLaws.{price-most}
 use Rattle.book.specs.Worth.{shortWorth, spanPrice, saleWorth, PriceSums, Takeable, netWith}
 use Rattle.book.proofs.BookRows.{counts-in, setup-in, estimates-in, values-in}
 use Rattle.book.proofs.StateLaws.{book-is-sound}

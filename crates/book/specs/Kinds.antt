@@ -6,14 +6,14 @@ use mathlib.Core.Bool.{false}
 use Rattle.rules.specs.declared.Request.{Request}
 use Rattle.rules.specs.declared.Outcome.{Outcome}
 use Rattle.rules.specs.declared.Refusal.{Refusal}
-use Rattle.rules.specs.Verdicts.{lowest, outcomeOf}
+use Rattle.rules.specs.Verdicts.{firstToApply, outcomeOf}
 use Rattle.rules.specs.Books.{Book, countsOf}
 use Rattle.rules.specs.Requests.{Kind, kindNumber, faultyBit, sameAccounts, unlessRefused}
 use Rattle.rules.specs.Calls.{stateChecks, next, given}
 
 -- what the state refuses it for, if anything: 11 to 20
 unfoldable pub decided : Kind → Book → Request → Option Refusal
-decided k b q = lowest (stateChecks b k q)
+decided k b q = firstToApply (stateChecks b k q)
 
 -- the answer
 unfoldable pub outcomeOn : Kind → Book → Request → Outcome

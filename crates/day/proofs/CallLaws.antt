@@ -14,7 +14,7 @@ use Rattle.rules.specs.Basics.{bit}
 use Rattle.rules.specs.Verdicts.{refused}
 use Rattle.rules.specs.Requests.{room, reading, fieldBytes, write}
 use Rattle.rules.specs.Calls.{Call, step}
-use Rattle.rules.proofs.RoundTrip.{read-writes-back}
+use Rattle.rules.proofs.Records.RoundTrip.{read-writes-back}
 use Rattle.image.specs.Valid.{isBook, bookIn}
 use Rattle.settlement.specs.Settling.{settleRecord, settleCall}
 use Rattle.day.specs.Doors.{Answered, inBytes, callAnswer, callWith}

@@ -11,10 +11,10 @@ use Rattle.rules.specs.declared.Refusal.the-variants.{NotABook}
 use Rattle.rules.specs.Verdicts.{refused}
 use Rattle.rules.specs.Limits.{mostHours, bookSize}
 use Rattle.rules.specs.Calls.{Call, step}
-use Rattle.rules.proofs.Clearing.{never-both}
-use Rattle.rules.proofs.Passed.{Passed, Kept, step-cases}
+use Rattle.rules.proofs.Checks.Clearing.{never-both}
+use Rattle.rules.proofs.Checks.Passed.{Passed, Kept, step-cases}
 use Rattle.image.specs.Valid.{isBook, bookIn}
-use Rattle.image.proofs.Keeps.{keeps-valid}
+use Rattle.image.proofs.Keeping.Keeps.{keeps-valid}
 use Rattle.image.proofs.Round.{book-is-image}
 use Rattle.day.specs.Doors.{Answered, inBytes, refusedOn, callAnswer}
 use Rattle.day.proofs.Images.{image-stands}

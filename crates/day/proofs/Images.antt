@@ -13,8 +13,8 @@ use Rattle.rules.specs.Lists.{runs, after, isAcceptance, accepts, acceptsAs, en
 use Rattle.rules.specs.Ledger.{heard}
 use Rattle.image.specs.Valid.{valid, isBook, bookBytes, bookIn}
 use Rattle.image.proofs.Round.{decode-image, image-is-book}
-use Rattle.image.proofs.Keeps.{keeps-valid}
-use Rattle.image.proofs.Reachable.{OfBytes, after-valid}
+use Rattle.image.proofs.Keeping.Keeps.{keeps-valid}
+use Rattle.image.proofs.Keeping.Reachable.{OfBytes, after-valid}
 use Rattle.day.specs.Doors.{Answered, inBytes, callAnswer}
 use Rattle.day.specs.Lists.{answersOn, bytesAfter, acceptsOn, acceptsOnAs, heardOn, endsNoBatchOn, UndoneOn}
 

@@ -4,12 +4,12 @@ use Prim.Native.Nat.{ℕ}
 use mathlib.Core.Path.{_≡_, refl}
 use mathlib.Core.Bool.{Bool, true, false}
 use Rattle.rules.specs.Basics.{within}
-use Rattle.rules.specs.Verdicts.{lowest}
+use Rattle.rules.specs.Verdicts.{firstToApply}
 use Rattle.rules.specs.Books.{Book, accountCount, operatorCount}
 use Rattle.rules.specs.Readings.{netReading, exposureReading}
 use Rattle.rules.specs.Ledger.{Ledger}
-use Rattle.rules.proofs.Agreement.{Agrees}
-use Rattle.rules.proofs.LedgerReadings.{net-read-is-the-ledgers, exposure-read-is-the-ledgers}
+use Rattle.rules.proofs.Ledgers.Agreement.{Agrees}
+use Rattle.rules.proofs.Ledgers.LedgerReadings.{net-read-is-the-ledgers, exposure-read-is-the-ledgers}
 use Rattle.image.specs.Valid.{valid, bookBytes}
 use Rattle.book.specs.Doors.{netAnswer, exposureAnswer}
 use Rattle.day.specs.Readings.{ledgerNetReading, ledgerExposureReading}
@@ -17,7 +17,7 @@ use Rattle.day.proofs.Images.{image-says, image-stands}
 
 module _ (b : Book) (l : Ledger) (g : Agrees b l) where
   net-reading-agrees : (a h : ℕ) → netReading b a h ≡ ledgerNetReading l a h
-  unfolding netReading lowest ledgerNetReading
+  unfolding netReading firstToApply ledgerNetReading
   net-reading-agrees a h = go (within 1 a (accountCount (l .setup))) (within 1 h (l .setup .hours)) refl refl
     where
       go : (s t : Bool) → within 1 a (accountCount (l .setup)) ≡ s → within 1 h (l .setup .hours) ≡ t → netReading b a h ≡ ledgerNetReading l a h
@@ -26,7 +26,7 @@ module _ (b : Book) (l : Ledger) (g : Agrees b l) where
       go false t e f = rw (g .setup, e)
 
   exposure-reading-agrees : (o : ℕ) → exposureReading b o ≡ ledgerExposureReading l o
-  unfolding exposureReading lowest ledgerExposureReading
+  unfolding exposureReading firstToApply ledgerExposureReading
   exposure-reading-agrees o = go (within 1 o (operatorCount (l .setup))) refl
     where
       go : (t : Bool) → within 1 o (operatorCount (l .setup)) ≡ t → exposureReading b o ≡ ledgerExposureReading l o

@@ -9,12 +9,12 @@ use lib.Dec.{ltb}
 use borrow.Author.Tests.{ltb-true}
 use Rattle.rules.specs.declared.Refusal.{Refusal}
 use Rattle.rules.specs.Basics.{every, Each, nil, cons}
-use Rattle.rules.specs.Verdicts.{Check, _⇒_, _⇒↑_, applies, lowest, refusalNumbers, numbers}
+use Rattle.rules.specs.Verdicts.{Check, _⇒_, _⇒↑_, applies, firstToApply, refusalNumbers, numbers}
 use Rattle.rules.specs.Books.{Book}
 use Rattle.rules.specs.Requests.{readChecks}
 use Rattle.rules.specs.Calls.{Call, inputChecks, stateChecks, checks, refusal, answer, step}
 use Rattle.rules.specs.Lists.{runs}
-use Rattle.rules.proofs.Tests.{and-both}
+use Rattle.rules.proofs.Basics.Tests.{and-both}
 use Rattle.day.specs.Doors.{Answered, inBytes}
 
 -- ---- the number of a check
@@ -41,19 +41,19 @@ applies-ranked (false ⇒ x) r e = cc
 applies-ranked (some n ⇒↑ x) r e = cc
 applies-ranked (none ⇒↑ x) r e = cc
 
-lowest-go : (c : Check) (cs : List Check) (r : Refusal) (o : Option Refusal) → applies c ≡ o → 1 < rank c
-    → (lowest cs ≡ some r → 1 < refusalNumbers r .0) → lowest (c ∷ cs) ≡ some r → 1 < refusalNumbers r .0
-unfolding lowest
-lowest-go c cs r (some y) f l rest e = omega (arith, applies-ranked c r (f ∙ (rw (f, lowest) at e)))
-lowest-go c cs r none f l rest e = rest (rw (f, lowest) at e)
+applies-above-go : (c : Check) (cs : List Check) (r : Refusal) (o : Option Refusal) → applies c ≡ o → 1 < rank c
+    → (firstToApply cs ≡ some r → 1 < refusalNumbers r .0) → firstToApply (c ∷ cs) ≡ some r → 1 < refusalNumbers r .0
+unfolding firstToApply
+applies-above-go c cs r (some y) f l rest e = omega (arith, applies-ranked c r (f ∙ (rw (f, firstToApply) at e)))
+applies-above-go c cs r none f l rest e = rest (rw (f, firstToApply) at e)
 
 -- where every check's number is above 1, so is what is found
-lowest-above : (cs : List Check) → every (ltb 1) (map rank cs) ≡ true → (r : Refusal) → lowest cs ≡ some r → 1 < refusalNumbers r .0
-unfolding lowest every
-lowest-above [] h r e = let z : _≡_ {A = ℕ} 0 1 = cc in absurd (omega arith)
-lowest-above (c ∷ cs) h r e =
+applies-above : (cs : List Check) → every (ltb 1) (map rank cs) ≡ true → (r : Refusal) → firstToApply cs ≡ some r → 1 < refusalNumbers r .0
+unfolding firstToApply every
+applies-above [] h r e = let z : _≡_ {A = ℕ} 0 1 = cc in absurd (omega arith)
+applies-above (c ∷ cs) h r e =
     let w = and-both (ltb 1 (rank c)) (every (ltb 1) (map rank cs)) .0 h in
-    lowest-go c cs r (applies c) refl (ltb-true 1 (rank c) (w .0)) (lowest-above cs (w .1) r) e
+    applies-above-go c cs r (applies c) refl (ltb-true 1 (rank c) (w .0)) (applies-above cs (w .1) r) e
 
 -- ---- a call, and a list of calls
 
@@ -63,7 +63,7 @@ NotOne x = numbers (x .outcome) .0 ≡ 1 → ⊥
 
 refusal-above : (b : Book) (c : Call) (r : Refusal) → refusal b c ≡ some r → 1 < refusalNumbers r .0
 unfolding refusal every
-refusal-above b c r e = lowest-above (checks b c) (ap (every (ltb 1)) (ranks-of-a-call b c)) r e
+refusal-above b c r e = applies-above (checks b c) (ap (every (ltb 1)) (ranks-of-a-call b c)) r e
 
 step-not-one : (b : Book) (c : Call) → NotOne (inBytes (step b c))
 unfolding step answer

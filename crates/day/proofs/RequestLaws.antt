@@ -16,15 +16,15 @@ use Rattle.rules.specs.declared.Outcome.{Outcome}
 use Rattle.rules.specs.declared.Refusal.{Refusal}
 use Rattle.rules.specs.declared.Refusal.the-variants.{WrongLength, OutOfRange, SameAccount, BufferShort}
 use Rattle.rules.specs.declared.Reading.the-variants.{Read, Unread}
-use Rattle.rules.specs.Verdicts.{_⇒_, _⇒↑_, lowest, checked, refused}
+use Rattle.rules.specs.Verdicts.{_⇒_, _⇒↑_, firstToApply, checked, refused}
 use Rattle.rules.specs.Books.{Book, countsOf}
 use Rattle.rules.specs.Opening.{countsIn}
 use Rattle.rules.specs.Requests.{Kind, settle, kindNumber, kindOf, requestOf, readChecks, readingOf, reading, Fits, faultyBit, sameAccounts, rangeChecks}
 use Rattle.rules.specs.Calls.{Call, requestIn, kindIn, _∈_, inputChecks, refusal}
-use Rattle.rules.proofs.Tests.{within-true}
-use Rattle.rules.proofs.Clearing.{checked-same, clear, spared, spared↑}
-use Rattle.rules.proofs.Passed.{kind-number}
-use Rattle.rules.proofs.RoundTrip.{read-as, read-is-known, read-fits}
+use Rattle.rules.proofs.Basics.Tests.{within-true}
+use Rattle.rules.proofs.Checks.Clearing.{checked-same, clear, spared, spared↑}
+use Rattle.rules.proofs.Checks.Passed.{kind-number}
+use Rattle.rules.proofs.Records.RoundTrip.{read-as, read-is-known, read-fits}
 use Rattle.image.specs.Valid.{isBook, bookIn, bookBytes}
 use Rattle.book.specs.Kinds.{decided, outcomeOn, bookAfter, Ready}
 use Rattle.book.proofs.BookRows.{counts-in}
@@ -43,27 +43,27 @@ read-finds (some x) q p h = cc
 read-finds none q p h = refl
 
 -- a record that says nothing is refused for what they find
-pub unread-checks : (s : List ℕ) (r : Refusal) → reading s ≡ Unread r → lowest (readChecks s) ≡ some r
+pub unread-checks : (s : List ℕ) (r : Refusal) → reading s ≡ Unread r → firstToApply (readChecks s) ≡ some r
 unfolding reading
-unread-checks s r h = unread-finds (lowest (readChecks s)) (requestOf s) r h
+unread-checks s r h = unread-finds (firstToApply (readChecks s)) (requestOf s) r h
 
 -- one that says a request passed them
-read-checks : (s : List ℕ) (q : Request) → reading s ≡ Read q → lowest (readChecks s) ≡ none
+read-checks : (s : List ℕ) (q : Request) → reading s ≡ Read q → firstToApply (readChecks s) ≡ none
 unfolding reading
-read-checks s q h = read-finds (lowest (readChecks s)) (requestOf s) q h
+read-checks s q h = read-finds (firstToApply (readChecks s)) (requestOf s) q h
 
 -- ---- 6 and 7 are all that the input of another kind than settle is refused for
 
 sift : (f : Option ℕ) (same : Bool) (a b d : Refusal)
-    → lowest ((false ⇒ a) ∷ (f ⇒↑ OutOfRange) ∷ (false ⇒ b) ∷ (same ⇒ SameAccount) ∷ (false ⇒ d) ∷ [])
-    ≡ lowest ((f ⇒↑ OutOfRange) ∷ (same ⇒ SameAccount) ∷ [])
-unfolding lowest
+    → firstToApply ((false ⇒ a) ∷ (f ⇒↑ OutOfRange) ∷ (false ⇒ b) ∷ (same ⇒ SameAccount) ∷ (false ⇒ d) ∷ [])
+    ≡ firstToApply ((f ⇒↑ OutOfRange) ∷ (same ⇒ SameAccount) ∷ [])
+unfolding firstToApply
 sift (some n) same a b d = refl
 sift none true a b d = refl
 sift none false a b d = refl
 
 input-is-ranges : (b : Book) (c : Call) (k : Kind) (q : Request) → k ∈ (settle ∷ []) ≡ false
-    → lowest (inputChecks b c k q) ≡ lowest (rangeChecks (countsOf (b .setup)) q)
+    → firstToApply (inputChecks b c k q) ≡ firstToApply (rangeChecks (countsOf (b .setup)) q)
 unfolding inputChecks
 input-is-ranges b c k q e = rw e (sift (faultyBit (countsOf (b .setup)) q) (sameAccounts q) WrongLength (OutOfRange 12) BufferShort)
 
@@ -84,15 +84,15 @@ module _ (s : List ℕ) (c : Call) (h : isBook s ≡ true) (q : Request) (e : re
     other : kindIn c ∈ (settle ∷ []) ≡ false
     other = rw says (others (q .kind) low high)
 
-    ranges : lowest (inputChecks (bookIn s) c (kindIn c) (requestIn c)) ≡ lowest (rangeChecks (countsOf (bookIn s .setup)) q)
-    ranges = input-is-ranges (bookIn s) c (kindIn c) (requestIn c) other ∙ ap (λ (p : Request). lowest (rangeChecks (countsOf (bookIn s .setup)) p)) says
+    ranges : firstToApply (inputChecks (bookIn s) c (kindIn c) (requestIn c)) ≡ firstToApply (rangeChecks (countsOf (bookIn s .setup)) q)
+    ranges = input-is-ranges (bookIn s) c (kindIn c) (requestIn c) other ∙ ap (λ (p : Request). firstToApply (rangeChecks (countsOf (bookIn s .setup)) p)) says
 
     -- out of range
-    range-answered : (r : Refusal) → lowest (rangeChecks (countsOf (bookIn s .setup)) q) ≡ some r → callAnswer s c ≡ refusedOn r s c
+    range-answered : (r : Refusal) → firstToApply (rangeChecks (countsOf (bookIn s .setup)) q) ≡ some r → callAnswer s c ≡ refusedOn r s c
     range-answered r f = call-refused s c h r (input-refused (bookIn s) c (read-checks (c .bytes) q e) r (ranges ∙ f))
 
     -- in range: what the state decides
-    kind-answered : lowest (rangeChecks (countsOf (bookIn s .setup)) q) ≡ none
+    kind-answered : firstToApply (rangeChecks (countsOf (bookIn s .setup)) q) ≡ none
         → callAnswer s c
         ≡ record {
           outcome = outcomeOn (kindOf (q .kind)) (bookIn s) q;
@@ -123,11 +123,11 @@ read-code s q b e = read-fits s q e b 3 (omega arith)
 
 -- what the range checks came to, on the counts that a book begins with
 pub ranges-found : (s : List ℕ) → isBook s ≡ true → (n : Counts) (q : Request) (x : Checked) (o : Option Refusal) → n ≡ countsIn s
-    → x ≡ checked (lowest (rangeChecks n q)) → x ≡ checked o → lowest (rangeChecks (countsOf (bookIn s .setup)) q) ≡ o
+    → x ≡ checked (firstToApply (rangeChecks n q)) → x ≡ checked o → firstToApply (rangeChecks (countsOf (bookIn s .setup)) q) ≡ o
 ranges-found s h n q x o e f g =
-    ap (λ (m : Counts). lowest (rangeChecks m q)) (counts-in s h ∙ sym e) ∙ checked-same _ o (sym f ∙ g)
+    ap (λ (m : Counts). firstToApply (rangeChecks m q)) (counts-in s h ∙ sym e) ∙ checked-same _ o (sym f ∙ g)
 
-pub in-range-ready : (b : Book) (q : Request) → 1 ≤ q .kind → q .kind ≤ 9 → q .code < 256 ^ 8 → lowest (rangeChecks (countsOf (b .setup)) q) ≡ none
+pub in-range-ready : (b : Book) (q : Request) → 1 ≤ q .kind → q .kind ≤ 9 → q .code < 256 ^ 8 → firstToApply (rangeChecks (countsOf (b .setup)) q) ≡ none
     → Ready (kindOf (q .kind)) b q
 in-range-ready b q low high code e =
     let passed = clear (rangeChecks (countsOf (b .setup)) q) e in
@@ -155,14 +155,14 @@ AnsweredSaying q s o t =
 
 module _ (q : Request) (s : List ℕ) (h : isBook s ≡ true) (low : 1 ≤ q .kind) (high : q .kind ≤ 9) where
   -- out of range
-  pub refused-saying : (r : Refusal) → lowest (rangeChecks (countsOf (bookIn s .setup)) q) ≡ some r → AnsweredSaying q s (refused r) s
+  pub refused-saying : (r : Refusal) → firstToApply (rangeChecks (countsOf (bookIn s .setup)) q) ≡ some r → AnsweredSaying q s (refused r) s
   refused-saying r f = (
     (λ c e. ap (λ (x : Answered). x .outcome) (sym (range-answered s c h q e low high r f))),
     ((λ c e. ap (λ (x : Answered). x .book) (sym (range-answered s c h q e low high r f))), h),
   )
 
   -- in range: as its kind is answered
-  pub kind-saying : lowest (rangeChecks (countsOf (bookIn s .setup)) q) ≡ none → (o : Outcome) (t : List ℕ)
+  pub kind-saying : firstToApply (rangeChecks (countsOf (bookIn s .setup)) q) ≡ none → (o : Outcome) (t : List ℕ)
       → KindAnswered (kindOf (q .kind)) s q o t → AnsweredSaying q s o t
   kind-saying f o t k = (
     (λ c e. k .0 ∙ ap (λ (x : Answered). x .outcome) (sym (kind-answered s c h q e low high f))),

@@ -19,16 +19,16 @@ use Rattle.rules.specs.Registration.{netOf}
 use Rattle.rules.specs.Settlement.{pricesIn, settled, balance, results, balances, balanceFigure, balanceBytes, figuresIn}
 use Rattle.rules.specs.Calls.{Call, Settled, kindIn, requestIn, settles, refusal, answer, balancesAfter, _∈_, inputChecks, step}
 use Rattle.rules.specs.Lists.{isAcceptance, accepts, acceptsAs}
-use Rattle.rules.proofs.Tests.{and-both}
-use Rattle.rules.proofs.Searches.{each-map, any-none, counting-length}
-use Rattle.rules.proofs.Differences.{difference-most}
-use Rattle.rules.proofs.Figures.{figures-back}
-use Rattle.rules.proofs.Clearing.{Clear}
-use Rattle.rules.proofs.Passed.{passed-6-prices}
-use Rattle.rules.proofs.CallLists.{accepts-passed}
-use Rattle.rules.proofs.Batches.{the-kind}
+use Rattle.rules.proofs.Basics.Tests.{and-both}
+use Rattle.rules.proofs.Basics.Searches.{each-map, any-none, counting-length}
+use Rattle.rules.proofs.Basics.Differences.{difference-most}
+use Rattle.rules.proofs.Settling.Figures.{figures-back}
+use Rattle.rules.proofs.Checks.Clearing.{Clear}
+use Rattle.rules.proofs.Checks.Passed.{passed-6-prices}
+use Rattle.rules.proofs.Lists.CallLists.{accepts-passed}
+use Rattle.rules.proofs.Lists.Batches.{the-kind}
 use Rattle.image.specs.Valid.{valid}
-use Rattle.image.proofs.MoneyLaws.{mostMoney, settled-gained-most, settled-lost-most}
+use Rattle.image.proofs.Tables.MoneyLaws.{mostMoney, settled-gained-most, settled-lost-most}
 
 each-made : {A B : Type 0} {P : B → Type 0} (f : A → B) (xs : List A) → ((x : A) → P (f x)) → Each P (map f xs)
 each-made f [] h = nil

@@ -7,7 +7,7 @@ use mathlib.Core.Option.{Option, none, some}
 use mathlib.Core.Bool.{true, false}
 use Rattle.rules.specs.declared.Refusal.{Refusal}
 use Rattle.rules.specs.Limits.{mostHours, bookSize}
-use Rattle.rules.specs.Verdicts.{Check, applies, lowest, outcomeOf}
+use Rattle.rules.specs.Verdicts.{Check, applies, firstToApply, outcomeOf}
 use Rattle.rules.specs.Books.{Book}
 use Rattle.rules.specs.Requests.{Kind, register, confirm, withdraw, guarantee, openBatch, undo, keep, closeGate, schedule, settle, readChecks, unlessRefused}
 use Rattle.rules.specs.Calls.{Call, requestIn, kindIn, next, given, _∈_, inputChecks, stateChecks, checks, refusal, settles, answer, step}
@@ -18,49 +18,49 @@ use Rattle.day.proofs.DoorLaws.{call-on-book}
 
 -- ---- checks in a row
 
-first-go : (c : Check) (cs ds : List Check) (r : Refusal) (o : Option Refusal) → applies c ≡ o → lowest (c ∷ cs) ≡ some r
-    → (lowest cs ≡ some r → lowest (cs ++ ds) ≡ some r) → lowest (c ∷ cs ++ ds) ≡ some r
-unfolding lowest
-first-go c cs ds r (some y) f e rest = rw (f, lowest) (rw (f, lowest) at e)
-first-go c cs ds r none f e rest = rw (f, lowest) (rest (rw (f, lowest) at e))
+first-go : (c : Check) (cs ds : List Check) (r : Refusal) (o : Option Refusal) → applies c ≡ o → firstToApply (c ∷ cs) ≡ some r
+    → (firstToApply cs ≡ some r → firstToApply (cs ++ ds) ≡ some r) → firstToApply (c ∷ cs ++ ds) ≡ some r
+unfolding firstToApply
+first-go c cs ds r (some y) f e rest = rw (f, firstToApply) (rw (f, firstToApply) at e)
+first-go c cs ds r none f e rest = rw (f, firstToApply) (rest (rw (f, firstToApply) at e))
 
 -- what the first checks find is found
-lowest-first : (cs ds : List Check) (r : Refusal) → lowest cs ≡ some r → lowest (cs ++ ds) ≡ some r
-unfolding lowest
-lowest-first [] ds r e = cc
-lowest-first (c ∷ cs) ds r e = first-go c cs ds r (applies c) refl e (lowest-first cs ds r)
+applies-first : (cs ds : List Check) (r : Refusal) → firstToApply cs ≡ some r → firstToApply (cs ++ ds) ≡ some r
+unfolding firstToApply
+applies-first [] ds r e = cc
+applies-first (c ∷ cs) ds r e = first-go c cs ds r (applies c) refl e (applies-first cs ds r)
 
-later-go : (c : Check) (cs ds : List Check) (o : Option Refusal) → applies c ≡ o → lowest (c ∷ cs) ≡ none
-    → (lowest cs ≡ none → lowest (cs ++ ds) ≡ lowest ds) → lowest (c ∷ cs ++ ds) ≡ lowest ds
-unfolding lowest
-later-go c cs ds (some y) f e rest = let z : some y ≡ none = rw (f, lowest) at e in cc
-later-go c cs ds none f e rest = rw (f, lowest) (rest (rw (f, lowest) at e))
+later-go : (c : Check) (cs ds : List Check) (o : Option Refusal) → applies c ≡ o → firstToApply (c ∷ cs) ≡ none
+    → (firstToApply cs ≡ none → firstToApply (cs ++ ds) ≡ firstToApply ds) → firstToApply (c ∷ cs ++ ds) ≡ firstToApply ds
+unfolding firstToApply
+later-go c cs ds (some y) f e rest = let z : some y ≡ none = rw (f, firstToApply) at e in cc
+later-go c cs ds none f e rest = rw (f, firstToApply) (rest (rw (f, firstToApply) at e))
 
 -- where they find nothing, the later ones decide
-lowest-later : (cs ds : List Check) → lowest cs ≡ none → lowest (cs ++ ds) ≡ lowest ds
-unfolding lowest
-lowest-later [] ds e = refl
-lowest-later (c ∷ cs) ds e = later-go c cs ds (applies c) refl e (lowest-later cs ds)
+applies-later : (cs ds : List Check) → firstToApply cs ≡ none → firstToApply (cs ++ ds) ≡ firstToApply ds
+unfolding firstToApply
+applies-later [] ds e = refl
+applies-later (c ∷ cs) ds e = later-go c cs ds (applies c) refl e (applies-later cs ds)
 
 -- ---- a call on a plain book
 
 module _ (b : Book) (c : Call) where
   -- 2 to 5, by the record
-  pub record-refused : (r : Refusal) → lowest (readChecks (c .bytes)) ≡ some r → refusal b c ≡ some r
+  pub record-refused : (r : Refusal) → firstToApply (readChecks (c .bytes)) ≡ some r → refusal b c ≡ some r
   unfolding refusal checks
   record-refused r e =
-      lowest-first _ (stateChecks b (kindIn c) (requestIn c)) r (lowest-first _ (inputChecks b c (kindIn c) (requestIn c)) r e)
+      applies-first _ (stateChecks b (kindIn c) (requestIn c)) r (applies-first _ (inputChecks b c (kindIn c) (requestIn c)) r e)
 
-  module _ (e : lowest (readChecks (c .bytes)) ≡ none) where
+  module _ (e : firstToApply (readChecks (c .bytes)) ≡ none) where
     -- 5 to 10, by what else it was lent and the ranges of the book
-    pub input-refused : (r : Refusal) → lowest (inputChecks b c (kindIn c) (requestIn c)) ≡ some r → refusal b c ≡ some r
+    pub input-refused : (r : Refusal) → firstToApply (inputChecks b c (kindIn c) (requestIn c)) ≡ some r → refusal b c ≡ some r
     unfolding refusal checks
-    input-refused r f = lowest-first _ (stateChecks b (kindIn c) (requestIn c)) r (lowest-later _ _ e ∙ f)
+    input-refused r f = applies-first _ (stateChecks b (kindIn c) (requestIn c)) r (applies-later _ _ e ∙ f)
 
     -- 11 to 20, by the state
-    pub state-decides : lowest (inputChecks b c (kindIn c) (requestIn c)) ≡ none → refusal b c ≡ lowest (stateChecks b (kindIn c) (requestIn c))
+    pub state-decides : firstToApply (inputChecks b c (kindIn c) (requestIn c)) ≡ none → refusal b c ≡ firstToApply (stateChecks b (kindIn c) (requestIn c))
     unfolding refusal checks
-    state-decides f = lowest-later _ _ (lowest-later _ _ e ∙ f)
+    state-decides f = applies-later _ _ (applies-later _ _ e ∙ f)
 
 -- ---- on the bytes of a book
 

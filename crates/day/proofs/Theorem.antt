@@ -18,18 +18,18 @@ use Rattle.rules.specs.Settlement.{pricesIn, registeredTotal, figuresIn}
 use Rattle.rules.specs.Calls.{Call, step}
 use Rattle.rules.specs.Lists.{after, acceptsAs}
 use Rattle.rules.specs.Ledger.{newLedger, fedAll, ledgerNet}
-use Rattle.rules.proofs.Clearing.{clear, clear-lowest}
-use Rattle.rules.proofs.Agreement.{day-agrees}
-use Rattle.rules.proofs.LedgerReadings.{net-is-the-ledgers, hour-is-the-ledgers, exposure-is-the-ledgers, available-is-the-ledgers}
-use Rattle.rules.proofs.LedgerDay.{dayBook, dayLedger, day-setup, day-settled}
-use Rattle.rules.proofs.SettledTotal.{Owned}
-use Rattle.rules.proofs.Searches.{each-map}
-use Rattle.rules.proofs.Batches.{undone-batch-cut-out}
+use Rattle.rules.proofs.Checks.Clearing.{clear, clear-applies}
+use Rattle.rules.proofs.Ledgers.Agreement.{day-agrees}
+use Rattle.rules.proofs.Ledgers.LedgerReadings.{net-is-the-ledgers, hour-is-the-ledgers, exposure-is-the-ledgers, available-is-the-ledgers}
+use Rattle.rules.proofs.Ledgers.LedgerDay.{dayBook, dayLedger, day-setup, day-settled}
+use Rattle.rules.proofs.Settling.SettledTotal.{Owned}
+use Rattle.rules.proofs.Basics.Searches.{each-map}
+use Rattle.rules.proofs.Lists.Batches.{undone-batch-cut-out}
 use Rattle.image.specs.Valid.{bookBytes}
-use Rattle.image.proofs.SetupRanges.{each-split, each-join}
-use Rattle.image.proofs.SetupAgain.{accepted-in-range}
-use Rattle.image.proofs.Opened.{opened-valid}
-use Rattle.image.proofs.Reachable.{OfBytes, after-valid, reachable-valid, reachable-setup, reachable-nets-cancel, reachable-nets-within-margins, reachable-margins-kept, reachable-covered}
+use Rattle.image.proofs.Setups.SetupRanges.{each-split, each-join}
+use Rattle.image.proofs.Setups.SetupAgain.{accepted-in-range}
+use Rattle.image.proofs.Keeping.Opened.{opened-valid}
+use Rattle.image.proofs.Keeping.Reachable.{OfBytes, after-valid, reachable-valid, reachable-setup, reachable-nets-cancel, reachable-nets-within-margins, reachable-margins-kept, reachable-covered}
 use Rattle.book.specs.Doors.{openBytes}
 use Rattle.day.specs.Doors.{Answered, inBytes, callAnswer}
 use Rattle.day.specs.Lists.{answersOn, bytesAfter, acceptsOnAs, ledgerOn, UndoneOn, CutOutOn}
@@ -168,7 +168,7 @@ module _ (setup : List ℕ) (h : setupRefusal setup ≡ none) where
 module _ (setup book : List ℕ) (h : openRefusal setup book ≡ none) where
   setup-accepted : setupRefusal setup ≡ none
   unfolding openRefusal setupRefusal
-  setup-accepted = clear-lowest _ (clear _ h .1)
+  setup-accepted = clear-applies _ (clear _ h .1)
 
   opened-bytes : openBytes setup book ≡ bookBytes (opened setup)
   unfolding openBytes

@@ -22,15 +22,15 @@ use Rattle.rules.specs.declared.Schedule.{Schedule}
 use Rattle.rules.specs.Basics.{Each, nil, cons}
 use Rattle.rules.specs.Limits.{mostOperators, mostRows, mostSchedules, mostGuarantee}
 use Rattle.rules.specs.Books.{Setup, Part, Book, operatorCount}
-use Rattle.rules.proofs.Tests.{and-both}
-use Rattle.rules.proofs.Searches.{each-map}
+use Rattle.rules.proofs.Basics.Tests.{and-both}
+use Rattle.rules.proofs.Basics.Searches.{each-map}
 use Rattle.image.specs.Layout.{rowWidths, rowWidth, scheduleWidths, scheduleWidth, partWidths, usedSize, bookWidths}
 use Rattle.image.specs.Image.{rowValues, rowBytes, scheduleValues, scheduleBytes, partSections, partBytes, flag, savedBytes, sectionsWith, sections, image, rowIn, scheduleIn, partOf, partIn, savedIn, bookOf, decode}
 use Rattle.image.specs.Valid.{valid, same, isBookOf}
-use Rattle.image.proofs.Soundness.{SoundSetup, SoundRow, SoundSchedule}
-use Rattle.image.proofs.SoundBooks.{SoundPart, SavedSound, sound}
-use Rattle.image.proofs.Sizes.{row-small, schedule-small, part-fits-of, fits, length-row, length-schedule, length-guarantee, wide-part, wide-book, length-image}
-use Rattle.image.proofs.StoredSetup.{setup-back}
+use Rattle.image.proofs.Sound.Soundness.{SoundSetup, SoundRow, SoundSchedule}
+use Rattle.image.proofs.Sound.SoundBooks.{SoundPart, SavedSound, sound}
+use Rattle.image.proofs.Writing.Sizes.{row-small, schedule-small, part-fits-of, fits, length-row, length-schedule, length-guarantee, wide-part, wide-book, length-image}
+use Rattle.image.proofs.Setups.StoredSetup.{setup-back}
 
 -- ---- rows and schedules
 

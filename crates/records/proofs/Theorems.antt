@@ -11,8 +11,8 @@ use Rattle.rules.specs.declared.Request.{Request}
 use Rattle.rules.specs.declared.Reading.the-variants.{Read}
 use Rattle.rules.specs.Verdicts.{accepted}
 use Rattle.rules.specs.Requests.{wantedLength, reading, write, writeOutcome, written, filled, Canonical, Fits}
-use Rattle.rules.proofs.Fields.{length-write}
-use Rattle.rules.proofs.RoundTrip.{written-reads-back, read-writes-back, read-is-known}
+use Rattle.rules.proofs.Records.Fields.{length-write}
+use Rattle.rules.proofs.Records.RoundTrip.{written-reads-back, read-writes-back, read-is-known}
 use Rattle.records.proofs.WritingLaws.{writes-front, accepted-writing}
 
 -- "Requests written by us read back as the same request": of a buffer that was written, the first bytes, as many as the kind's

@@ -14,9 +14,9 @@ use Rattle.wire.proofs.NumberLaws.{length-le}
 use Rattle.wire.proofs.RegionLaws.{splice-take-drop, splice-one, splice-none, splice-append}
 use Rattle.rules.specs.declared.Request.{Request}
 use Rattle.rules.specs.declared.Refusal.the-variants.{UnknownKind, BufferShort}
-use Rattle.rules.specs.Verdicts.{lowest, accepted, refused}
+use Rattle.rules.specs.Verdicts.{firstToApply, accepted, refused}
 use Rattle.rules.specs.Requests.{isKind, wantedLength, wantedMap, fieldCount, room, fieldOf, fieldBytes, writeChecks, writeOutcome, write, written, filled}
-use Rattle.rules.proofs.Clearing.{accepted-none, clear, spared}
+use Rattle.rules.proofs.Checks.Clearing.{accepted-none, clear, spared}
 
 -- ---- a number put byte by byte
 
@@ -56,17 +56,17 @@ record-put q s m e =
 
 module _ (q : Request) (buffer : List ℕ) where
   pub writes-no-kind : isKind (q .kind) ≡ false → (refused UnknownKind ≡ writeOutcome q buffer) × (buffer ≡ written q buffer)
-  unfolding writeOutcome written lowest
+  unfolding writeOutcome written firstToApply
   writes-no-kind k = (rw k, rw k)
 
   pub writes-no-room : isKind (q .kind) ≡ true → length buffer < wantedLength (q .kind)
       → (refused BufferShort ≡ writeOutcome q buffer) × (buffer ≡ written q buffer)
-  unfolding writeOutcome written lowest
+  unfolding writeOutcome written firstToApply
   writes-no-room k h = let t = lt-ltb (length buffer) (wantedLength (q .kind)) h in (rw (k, t), rw (k, t))
 
   pub writes-front : isKind (q .kind) ≡ true → wantedLength (q .kind) ≤ length buffer
       → (accepted 0 ≡ writeOutcome q buffer) × (filled (write q) buffer ≡ written q buffer)
-  unfolding writeOutcome written lowest
+  unfolding writeOutcome written firstToApply
   writes-front k h = let t = le-ltb (length buffer) (wantedLength (q .kind)) h in (rw (k, t), rw (k, t))
 
   -- the same, as a region replaced
@@ -80,5 +80,5 @@ module _ (q : Request) (buffer : List ℕ) where
   pub accepted-writing : writeOutcome q buffer ≡ accepted 0 → (isKind (q .kind) ≡ true) × (wantedLength (q .kind) ≤ length buffer)
   unfolding writeOutcome
   accepted-writing h =
-      let c = clear (writeChecks q buffer) (accepted-none (lowest (writeChecks q buffer)) 0 h) in
+      let c = clear (writeChecks q buffer) (accepted-none (firstToApply (writeChecks q buffer)) 0 h) in
       (not-false _ (spared _ _ (c .0)), ltb-false _ _ (spared _ _ (c .1 .0)))

@@ -4,7 +4,7 @@ ghost use mathlib.Core.Bool.{not};
 ghost use Rattle.rules.specs.Basics.{if_then_else_};
 ghost use Rattle.rules.specs.declared.Checked.the-variants.{Clear, Fails};
 ghost use Rattle.rules.specs.declared.Refusal.the-variants.{OutOfRange, SameAccount};
-ghost use Rattle.rules.specs.Verdicts.{lowest, checked};
+ghost use Rattle.rules.specs.Verdicts.{firstToApply, checked};
 ghost use Rattle.rules.specs.Requests.{wantedMap, rangeChecks};
 use rules::Checked;
 use rules::Counts;
@@ -40,7 +40,7 @@ fn accounts_differ(same: bool) -> Checked
 // The fields of a trade: accounts, side, hours and quantity.
 fn trade_fields(q: Request, n: Counts) -> Checked
     requires { ⌜ wantedMap (q .kind) ≡ 0x00FF ⌝ }
-    ensures { λ r. ⌜ r ≡ checked (lowest (rangeChecks n q)) ⌝ }
+    ensures { λ r. ⌜ r ≡ checked (firstToApply (rangeChecks n q)) ⌝ }
 {
     let differ = accounts_differ(q.account == q.other);
     let quantity = field(
@@ -58,7 +58,7 @@ fn trade_fields(q: Request, n: Counts) -> Checked
 // The fields of a withdrawal: account and number.
 fn withdrawal_fields(q: Request, n: Counts) -> Checked
     requires { ⌜ wantedMap (q .kind) ≡ 0x0103 ⌝ }
-    ensures { λ r. ⌜ r ≡ checked (lowest (rangeChecks n q)) ⌝ }
+    ensures { λ r. ⌜ r ≡ checked (firstToApply (rangeChecks n q)) ⌝ }
 {
     let number = field((1 <= q.number) & (q.number <= MOST_ROWS), 8, Checked::Clear);
     field((1 <= q.account) & (q.account <= n.accounts), 1, number)
@@ -67,7 +67,7 @@ fn withdrawal_fields(q: Request, n: Counts) -> Checked
 // The fields of a guarantee: operator and amount.
 fn guarantee_fields(q: Request, n: Counts) -> Checked
     requires { ⌜ wantedMap (q .kind) ≡ 0x0601 ⌝ }
-    ensures { λ r. ⌜ r ≡ checked (lowest (rangeChecks n q)) ⌝ }
+    ensures { λ r. ⌜ r ≡ checked (firstToApply (rangeChecks n q)) ⌝ }
 {
     let amount = field(q.guarantee.0 <= MOST_GUARANTEE, 10, Checked::Clear);
     field((1 <= q.operator) & (q.operator <= n.operators), 9, amount)
@@ -76,7 +76,7 @@ fn guarantee_fields(q: Request, n: Counts) -> Checked
 // The fields of a schedule: side, hour, quantity, point and price.
 fn schedule_fields(q: Request, n: Counts) -> Checked
     requires { ⌜ wantedMap (q .kind) ≡ 0x18B1 ⌝ }
-    ensures { λ r. ⌜ r ≡ checked (lowest (rangeChecks n q)) ⌝ }
+    ensures { λ r. ⌜ r ≡ checked (firstToApply (rangeChecks n q)) ⌝ }
 {
     let price = field(q.price.0 <= MOST_PRICE, 12, Checked::Clear);
     let point = field((1 <= q.point) & (q.point <= n.points), 11, price);
@@ -91,7 +91,7 @@ fn schedule_fields(q: Request, n: Counts) -> Checked
 
 // The lowest field out of range of a book with these counts, else both accounts the same.
 pub fn check_ranges(request: Request, counts: Counts) -> Checked
-    ensures { λ r. ⌜ r ≡ checked (lowest (rangeChecks counts request)) ⌝ }
+    ensures { λ r. ⌜ r ≡ checked (firstToApply (rangeChecks counts request)) ⌝ }
 {
     let kind = request.kind;
     match kind {

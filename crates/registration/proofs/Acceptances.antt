@@ -20,16 +20,16 @@ use Rattle.rules.specs.Books.{Book, noRow}
 use Rattle.rules.specs.Registration.{pending, seller, buyer, confirms}
 use Rattle.rules.specs.Requests.{confirm, withdraw, openBatch, undo, keep, closeGate}
 use Rattle.rules.specs.Calls.{confirmedNumber, restored, given}
-use Rattle.rules.proofs.Passed.{passed-13}
-use Rattle.rules.proofs.RowTests.{passed-confirm, passed-withdraw}
-use Rattle.rules.proofs.AccountHours.{pending-inside}
-use Rattle.rules.proofs.Searches.{each-nth}
+use Rattle.rules.proofs.Checks.Passed.{passed-13}
+use Rattle.rules.proofs.Rows.RowTests.{passed-confirm, passed-withdraw}
+use Rattle.rules.proofs.Rows.AccountHours.{pending-inside}
+use Rattle.rules.proofs.Basics.Searches.{each-nth}
 use Rattle.image.specs.Layout.{rowWidth, partSize, phaseAt, flagAt, presentAt, savedAt, rowAt, netAt, statusIn}
 use Rattle.image.specs.Valid.{isBook, bookIn}
 use Rattle.image.specs.Changes.{raised, ended}
-use Rattle.image.proofs.Sizes.{RowFits, row-fits-of, statuses-small}
-use Rattle.image.proofs.BookWrites.{write-confirm, write-withdraw, write-open, write-undo, write-keep, write-close}
-use Rattle.image.proofs.KeepsKinds.{confirm-keeps, withdraw-keeps, open-keeps, undo-keeps, keep-keeps, close-keeps}
+use Rattle.image.proofs.Writing.Sizes.{RowFits, row-fits-of, statuses-small}
+use Rattle.image.proofs.Writing.BookWrites.{write-confirm, write-withdraw, write-open, write-undo, write-keep, write-close}
+use Rattle.image.proofs.Keeping.KeepsKinds.{confirm-keeps, withdraw-keeps, open-keeps, undo-keeps, keep-keeps, close-keeps}
 use Rattle.book.specs.Kinds.{decided}
 use Rattle.book.proofs.StateLaws.{book-image, book-fits, book-is-sound}
 use Rattle.book.proofs.Answers.{decided-clear, Answered, AnsweredAll, accepted-answered, answered-all}

@@ -18,12 +18,12 @@ use Rattle.rules.specs.Basics.{isSome}
 use Rattle.rules.specs.Limits.{mostHours, mostRows, bookSize}
 use Rattle.rules.specs.Books.{Part, Book}
 use Rattle.rules.specs.Calls.{restored}
-use Rattle.rules.proofs.Searches.{some-of}
+use Rattle.rules.proofs.Basics.Searches.{some-of}
 use Rattle.image.specs.Layout.{rowWidth, partWidths, partSize, bookWidths, presentAt, savedAt, rowAt, netsAt}
 use Rattle.image.specs.Image.{rowBytes, partSections, partBytes, savedBytes, sectionsWith, sections, image}
 use Rattle.image.specs.Valid.{isBook, bookIn}
-use Rattle.image.proofs.Sizes.{PartFits, Fits, length-row, wide-part, wide-book}
-use Rattle.image.proofs.ImageReads.{present-read, saved-read}
+use Rattle.image.proofs.Writing.Sizes.{PartFits, Fits, length-row, wide-part, wide-book}
+use Rattle.image.proofs.Reading.ImageReads.{present-read, saved-read}
 use Rattle.book.proofs.StateLaws.{book-image, book-fits, row-count-high, saved-rows-fewer}
 use Rattle.registration.specs.Rooms.{NoRowsPast}
 

@@ -23,16 +23,16 @@ use Rattle.rules.specs.Books.{Setup, Book, noRow, accountAt, operatorOf, accoun
 use Rattle.rules.specs.Requests.{confirm}
 use Rattle.rules.specs.Registration.{pending, seller, buyer, withStatus, mark, alike, confirms, mirrors, accountHour, takes, keepsMargins, brokenHour, exposure, available, covered, exposureWith}
 use Rattle.rules.specs.Calls.{numberFrom, confirmedNumber, next}
-use Rattle.rules.proofs.Searches.{index-first}
-use Rattle.rules.proofs.RowTests.{Alike, alike-true, passed-confirm}
-use Rattle.rules.proofs.Passed.{passed-16-confirm}
-use Rattle.rules.proofs.AccountHours.{pending-inside, hour-takes-confirmed}
+use Rattle.rules.proofs.Basics.Searches.{index-first}
+use Rattle.rules.proofs.Rows.RowTests.{Alike, alike-true, passed-confirm}
+use Rattle.rules.proofs.Checks.Passed.{passed-16-confirm}
+use Rattle.rules.proofs.Rows.AccountHours.{pending-inside, hour-takes-confirmed}
 use Rattle.image.specs.Layout.{presentAt, rowAt, netAt, statusIn}
 use Rattle.image.specs.Changes.{raised}
 use Rattle.image.specs.Valid.{isBook, bookIn}
 use Rattle.image.specs.Tables.{Tabled}
-use Rattle.image.proofs.Soundness.{SoundRow}
-use Rattle.image.proofs.Easing.{sale-eases-operators}
+use Rattle.image.proofs.Sound.Soundness.{SoundRow}
+use Rattle.image.proofs.Keeping.Easing.{sale-eases-operators}
 use Rattle.book.specs.Worth.{saleWorth, Takeable}
 use Rattle.book.specs.Kinds.{decided}
 use Rattle.book.proofs.StateLaws.{book-is-sound}

@@ -19,13 +19,13 @@ use Rattle.rules.specs.Books.{Setup, Part, Book, maintenanceAt, guaranteeAt, op
 use Rattle.rules.specs.Opening.{countsIn, operatorsIn, setupOf}
 use Rattle.rules.specs.Registration.{pending, exposure, available, covered}
 use Rattle.rules.specs.declared.Counts.{Counts}
-use Rattle.rules.proofs.Searches.{each-at}
+use Rattle.rules.proofs.Basics.Searches.{each-at}
 use Rattle.setup.specs.Faults.{noOperator}
 use Rattle.image.specs.Layout.{presentAt}
 use Rattle.image.specs.Valid.{isBook, bookIn}
-use Rattle.image.proofs.Soundness.{SoundRow}
-use Rattle.image.proofs.SetupRanges.{SoundOperator, maintenance-of}
-use Rattle.image.proofs.ImageReads.{guarantee-read}
+use Rattle.image.proofs.Sound.Soundness.{SoundRow}
+use Rattle.image.proofs.Setups.SetupRanges.{SoundOperator, maintenance-of}
+use Rattle.image.proofs.Reading.ImageReads.{guarantee-read}
 use Rattle.book.specs.Worth.{Takeable}
 use Rattle.book.proofs.StateLaws.{book-fits, book-is-sound, number-in-book}
 use Rattle.book.proofs.BookRows.{counts-in, setup-in, values-in, caller-operator}

@@ -18,17 +18,17 @@ use Rattle.rules.specs.declared.Request.{Request}
 use Rattle.rules.specs.declared.Refusal.the-variants.{Uncovered}
 use Rattle.rules.specs.Basics.{bit, put}
 use Rattle.rules.specs.Limits.{mostHours, mostGuarantee, thousand, bookSize}
-use Rattle.rules.specs.Verdicts.{lowest, accepted}
+use Rattle.rules.specs.Verdicts.{firstToApply, accepted}
 use Rattle.rules.specs.Books.{Setup, Book, countsOf, maintenanceAt, guaranteeAt, operatorCount}
 use Rattle.rules.specs.Requests.{guarantee, inRange}
 use Rattle.rules.specs.Registration.{exposure, available, covered}
 use Rattle.rules.specs.Calls.{next, given, stateChecks}
-use Rattle.rules.proofs.Tests.{within-true}
-use Rattle.rules.proofs.Passed.{field-in-range}
+use Rattle.rules.proofs.Basics.Tests.{within-true}
+use Rattle.rules.proofs.Checks.Passed.{field-in-range}
 use Rattle.image.specs.Layout.{presentAt}
 use Rattle.image.specs.Valid.{isBook, bookIn}
-use Rattle.image.proofs.BookWrites.{write-guarantee}
-use Rattle.image.proofs.KeepsKinds.{guarantee-keeps}
+use Rattle.image.proofs.Writing.BookWrites.{write-guarantee}
+use Rattle.image.proofs.Keeping.KeepsKinds.{guarantee-keeps}
 use Rattle.book.specs.Kinds.{decided, Ready}
 use Rattle.book.proofs.StateLaws.{book-image, book-fits, book-is-sound}
 use Rattle.book.proofs.Answers.{decided-clear, Answered, accepted-answered}
@@ -64,13 +64,13 @@ module _ (b : Book) (q : Request) (first : b .phase ≡ 1) (low : 1 ≤ q .opera
   pub too-little-lodged : (t : Bool)
       → t ≡ leb (exposure (b .setup) (b .part .rows) (q .operator)) (q .guarantee .0 * (thousand - maintenanceAt (b .setup) (q .operator)))
       → t ≡ false → decided guarantee b q ≡ some Uncovered
-  unfolding decided stateChecks lowest
+  unfolding decided stateChecks firstToApply
   too-little-lodged t e f = rw (eq-eqb _ 1 first, lodging-covered ∙ sym e ∙ f)
 
   pub enough-lodged : (t : Bool)
       → t ≡ leb (exposure (b .setup) (b .part .rows) (q .operator)) (q .guarantee .0 * (thousand - maintenanceAt (b .setup) (q .operator)))
       → t ≡ true → decided guarantee b q ≡ none
-  unfolding decided stateChecks lowest
+  unfolding decided stateChecks firstToApply
   enough-lodged t e f = rw (eq-eqb _ 1 first, lodging-covered ∙ sym e ∙ f)
 
 -- a guarantee that is no lower than the one in force covers what a book's rows weigh

@@ -16,7 +16,7 @@ use Rattle.rules.specs.Basics.{find, counting}
 use Rattle.rules.specs.Limits.{mostEnergy}
 use Rattle.rules.specs.Books.{Setup, accountAt, accountCount}
 use Rattle.rules.specs.Registration.{pending, confirmed, covers, bought, sold, netOf, pendingSales, pendingPurchases, accountHour, takes, keepsMargins}
-use Rattle.rules.proofs.Tests.{test-same}
+use Rattle.rules.proofs.Basics.Tests.{test-same}
 use Rattle.image.specs.Valid.{isBook, bookIn}
 use Rattle.book.specs.Netted.{netted}
 use Rattle.book.specs.Waits.{waitCell, WaitsOf, nettedHour}

@@ -14,11 +14,11 @@ use Rattle.rules.specs.Basics.{indexOf}
 use Rattle.rules.specs.Books.{noRow}
 use Rattle.rules.specs.Registration.{alike}
 use Rattle.rules.specs.Calls.{numberFrom}
-use Rattle.rules.proofs.Searches.{index-first}
+use Rattle.rules.proofs.Basics.Searches.{index-first}
 use Rattle.image.specs.Image.{rowIn}
 use Rattle.image.specs.Cells.{rowsFrom}
-use Rattle.image.proofs.RowBytes.{row-at}
-use Rattle.image.proofs.RowsFrom.{rows-done, rows-step}
+use Rattle.image.proofs.Reading.RowBytes.{row-at}
+use Rattle.image.proofs.Reading.RowsFrom.{rows-done, rows-step}
 
 -- ---- the tests of a row, of what was read of it
 

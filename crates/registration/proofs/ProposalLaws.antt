@@ -18,20 +18,20 @@ use Rattle.rules.specs.declared.Request.{Request}
 use Rattle.rules.specs.declared.Refusal.the-variants.{AlreadyPending, RowsFull, MarginBroken, Uncovered}
 use Rattle.rules.specs.Basics.{any, counting}
 use Rattle.rules.specs.Limits.{mostHours, mostRows, bookSize}
-use Rattle.rules.specs.Verdicts.{lowest, accepted}
+use Rattle.rules.specs.Verdicts.{firstToApply, accepted}
 use Rattle.rules.specs.Books.{Setup, Book, accountAt, operatorOf}
 use Rattle.rules.specs.Requests.{register}
 use Rattle.rules.specs.Registration.{alike, proposed, accountHour, takes, keepsMargins, brokenHour, available, covered, exposureWith}
 use Rattle.rules.specs.Calls.{next, given, stateChecks}
-use Rattle.rules.proofs.AccountHours.{hour-takes}
-use Rattle.rules.proofs.Passed.{passed-15}
+use Rattle.rules.proofs.Rows.AccountHours.{hour-takes}
+use Rattle.rules.proofs.Checks.Passed.{passed-15}
 use Rattle.image.specs.Layout.{rowWidths, presentAt, rowAt, rowCountAt}
 use Rattle.image.specs.Image.{rowValues, rowBytes}
 use Rattle.image.specs.Valid.{isBook, bookIn}
-use Rattle.image.proofs.Soundness.{SoundRow}
-use Rattle.image.proofs.Sizes.{row-small}
-use Rattle.image.proofs.BookWrites.{write-register}
-use Rattle.image.proofs.KeepsKinds.{proposed-sound, register-keeps}
+use Rattle.image.proofs.Sound.Soundness.{SoundRow}
+use Rattle.image.proofs.Writing.Sizes.{row-small}
+use Rattle.image.proofs.Writing.BookWrites.{write-register}
+use Rattle.image.proofs.Keeping.KeepsKinds.{proposed-sound, register-keeps}
 use Rattle.book.specs.Kinds.{decided, Ready}
 use Rattle.book.proofs.StateLaws.{book-image, book-fits, book-is-sound}
 use Rattle.book.proofs.WorthLaws.{with-proposed}
@@ -65,13 +65,13 @@ broken-proposed u rows trade a =
 module _ (b : Book) (q : Request) (first : b .phase ≡ 1) where
   -- 14
   pub twin-pending : any (alike (q .account) (q .other) (q .code)) (b .part .rows) ≡ true → decided register b q ≡ some AlreadyPending
-  unfolding decided stateChecks lowest
+  unfolding decided stateChecks firstToApply
   twin-pending e = rw (eq-eqb _ 1 first, e)
 
   module _ (alone : any (alike (q .account) (q .other) (q .code)) (b .part .rows) ≡ false) where
     -- 15
     pub no-number-left : mostRows ≤ length (b .part .rows) → decided register b q ≡ some RowsFull
-    unfolding decided stateChecks lowest
+    unfolding decided stateChecks firstToApply
     no-number-left h = rw (eq-eqb _ 1 first, alone, le-leb mostRows (length (b .part .rows)) h)
 
     module _ (few : length (b .part .rows) < mostRows) where
@@ -82,7 +82,7 @@ module _ (b : Book) (q : Request) (first : b .phase ≡ 1) where
       -- 18
       pub margin-breaks : (h : ℕ) → brokenBy (b .setup) (b .part .rows) (proposed q) (q .account) ≡ some h
           → decided register b q ≡ some (MarginBroken h)
-      unfolding decided stateChecks lowest
+      unfolding decided stateChecks firstToApply
       margin-breaks h e = rw (eq-eqb _ 1 first, alone, lt-leb mostRows (length (b .part .rows)) few, broken-next ∙ e)
 
       module _ (kept : brokenBy (b .setup) (b .part .rows) (proposed q) (q .account) ≡ none) where
@@ -99,14 +99,14 @@ module _ (b : Book) (q : Request) (first : b .phase ≡ 1) where
         pub row-uncovered : (t : Bool)
             → t ≡ leb (exposureWith (b .setup) (b .part .rows) (proposed q) (operatorOf (b .setup) (q .account))) (available (b .setup) (b .part) (operatorOf (b .setup) (q .account)))
             → t ≡ false → decided register b q ≡ some Uncovered
-        unfolding decided stateChecks lowest
+        unfolding decided stateChecks firstToApply
         row-uncovered t e f =
             rw (eq-eqb _ 1 first, alone, lt-leb mostRows (length (b .part .rows)) few, broken-next ∙ kept, covered-next ∙ sym e ∙ f)
 
         pub row-covered : (t : Bool)
             → t ≡ leb (exposureWith (b .setup) (b .part .rows) (proposed q) (operatorOf (b .setup) (q .account))) (available (b .setup) (b .part) (operatorOf (b .setup) (q .account)))
             → t ≡ true → decided register b q ≡ none
-        unfolding decided stateChecks lowest
+        unfolding decided stateChecks firstToApply
         row-covered t e f =
             rw (eq-eqb _ 1 first, alone, lt-leb mostRows (length (b .part .rows)) few, broken-next ∙ kept, covered-next ∙ sym e ∙ f)
 

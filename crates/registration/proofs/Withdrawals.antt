@@ -10,8 +10,8 @@ use Rattle.wire.specs.Numbers.{numberAt}
 use Rattle.rules.specs.declared.Row.{Row}
 use Rattle.rules.specs.declared.Request.{Request}
 use Rattle.rules.specs.Registration.{withdraws}
-use Rattle.rules.proofs.Tests.{and-both}
-use Rattle.rules.proofs.AccountHours.{pending-inside}
+use Rattle.rules.proofs.Basics.Tests.{and-both}
+use Rattle.rules.proofs.Rows.AccountHours.{pending-inside}
 use Rattle.image.specs.Layout.{presentAt, rowAt, statusIn}
 use Rattle.image.specs.Valid.{isBook, bookIn}
 use Rattle.book.proofs.StateLaws.{numbered-value-stands}

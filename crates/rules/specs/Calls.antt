@@ -16,7 +16,7 @@ use Rattle.rules.specs.declared.Refusal.{Refusal}
 use Rattle.rules.specs.declared.Refusal.the-variants.{WrongLength, OutOfRange, SameAccount, BufferShort, WrongPhase, BatchOpen, NoBatch, AlreadyPending, RowsFull, NoSuchRow, NotMirrored, MarginBroken, Uncovered, SchedulesFull}
 use Rattle.rules.specs.Basics.{if_then_else_, any, isSome, nth, put}
 use Rattle.rules.specs.Limits.{mostPrice, mostRows, mostSchedules}
-use Rattle.rules.specs.Verdicts.{Check, _⇒_, _⇒↑_, lowest, accepted, refused}
+use Rattle.rules.specs.Verdicts.{Check, _⇒_, _⇒↑_, firstToApply, accepted, refused}
 use Rattle.rules.specs.Books.{Setup, Part, Book, noRow, operatorOf, operatorCount, countsOf}
 use Rattle.rules.specs.Requests.{Kind, register, confirm, withdraw, guarantee, openBatch, undo, keep, closeGate, schedule, settle, kindNumber, kindOf, requestOf, readChecks, faultyBit, sameAccounts, filled}
 use Rattle.rules.specs.Registration.{proposed, alike, confirms, withdraws, mirrors, mark, closed, brokenHour, covered, netOf}
@@ -159,14 +159,14 @@ stateChecks b k q =
     ∷ (k ∈ (schedule ∷ []) && leb mostSchedules (length (b .schedules)) ⇒ SchedulesFull)
     ∷ []
 
--- every check, in the order of the numbers
+-- every check, in rank
 unfoldable pub checks : Book → Call → List Check
 checks b c =
     readChecks (c .bytes) ++ inputChecks b c (kindIn c) (requestIn c) ++ stateChecks b (kindIn c) (requestIn c)
 
 -- what a call is refused for, if anything
 unfoldable pub refusal : Book → Call → Option Refusal
-refusal b c = lowest (checks b c)
+refusal b c = firstToApply (checks b c)
 
 -- ---- the answer
 

@@ -14,7 +14,7 @@ use Rattle.rules.specs.declared.ExposureReading.{ExposureReading}
 use Rattle.rules.specs.declared.Refusal.{Refusal}
 use Rattle.rules.specs.declared.Refusal.the-variants.{OutOfRange}
 use Rattle.rules.specs.Basics.{if_then_else_, within}
-use Rattle.rules.specs.Verdicts.{Check, _⇒_, lowest}
+use Rattle.rules.specs.Verdicts.{Check, _⇒_, firstToApply}
 use Rattle.rules.specs.Books.{Book, accountCount, operatorCount}
 use Rattle.rules.specs.Registration.{netOf, exposure}
 
@@ -40,7 +40,7 @@ netReadingOf (some r) p = NetReading.Unread r
 netReadingOf none p = NetReading.Stands p
 
 unfoldable pub netReading : Book → ℕ → ℕ → NetReading
-netReading b a h = netReadingOf (lowest (netChecks b a h)) (position (netOf (b .part .rows) a h))
+netReading b a h = netReadingOf (firstToApply (netChecks b a h)) (position (netOf (b .part .rows) a h))
 
 -- 6 with bit 9, the operator
 abbrev pub exposureChecks : Book → ℕ → List Check
@@ -51,4 +51,4 @@ exposureReadingOf (some r) e = ExposureReading.Unread r
 exposureReadingOf none e = ExposureReading.Stands (milliCents e)
 
 unfoldable pub exposureReading : Book → ℕ → ExposureReading
-exposureReading b o = exposureReadingOf (lowest (exposureChecks b o)) (exposure (b .setup) (b .part .rows) o)
+exposureReading b o = exposureReadingOf (firstToApply (exposureChecks b o)) (exposure (b .setup) (b .part .rows) o)

@@ -17,13 +17,13 @@ use Rattle.rules.specs.Basics.{if_then_else_, total, Each, nil, cons}
 use Rattle.rules.specs.Limits.{mostEnergy, mostSchedules, mostPoints, mostAccounts}
 use Rattle.rules.specs.Books.{Setup}
 use Rattle.rules.specs.Settlement.{Judged, congruous, used, accountOf}
-use Rattle.rules.proofs.Tests.{test-same, and-both}
-use Rattle.rules.proofs.Totals.{total-same}
-use Rattle.rules.proofs.Searches.{each-map}
-use Rattle.rules.proofs.Differences.{lt-or-ge}
+use Rattle.rules.proofs.Basics.Tests.{test-same, and-both}
+use Rattle.rules.proofs.Basics.Totals.{total-same}
+use Rattle.rules.proofs.Basics.Searches.{each-map}
+use Rattle.rules.proofs.Basics.Differences.{lt-or-ge}
 use Rattle.image.specs.Valid.{scheduleOk}
 use Rattle.image.specs.Tables.{Room}
-use Rattle.image.proofs.Soundness.{sound-schedule}
+use Rattle.image.proofs.Sound.Soundness.{sound-schedule}
 use Rattle.settlement.specs.Tables.{cellFor, pointCells, accountCells, usedUp, fallsTo, UsedBy}
 use Rattle.settlement.specs.Congruity.{InCells, nothingUsed}
 

@@ -19,11 +19,11 @@ use Rattle.rules.specs.Limits.{mostPoints, mostAccounts}
 use Rattle.rules.specs.Books.{Setup, noPoint, accountCount, pointAt}
 use Rattle.rules.specs.Opening.{countsIn, pointsIn, setupOf}
 use Rattle.rules.specs.Settlement.{Judged, used, accountOf, sameHourSide, pointLimit, accountLimit, metPrice, taken, judge, priceCount}
-use Rattle.rules.proofs.Searches.{each-nth, each-map}
+use Rattle.rules.proofs.Basics.Searches.{each-nth, each-map}
 use Rattle.setup.specs.Faults.{Whole}
 use Rattle.image.specs.Valid.{isBook, scheduleOk}
-use Rattle.image.proofs.Soundness.{SoundSchedule, sound-schedule}
-use Rattle.image.proofs.SetupRanges.{SoundPoint}
+use Rattle.image.proofs.Sound.Soundness.{SoundSchedule, sound-schedule}
+use Rattle.image.proofs.Setups.SetupRanges.{SoundPoint}
 use Rattle.book.proofs.StateLaws.{book-is-sound}
 use Rattle.book.proofs.BookRows.{counts-in, setup-in, setup-tabled, values-in, hours-read, hours-few}
 use Rattle.settlement.specs.Tables.{Priced, OnPoint, setupIn, netsIn, pricesOf, cellFor, pointCells, UsedBy}

@@ -7,22 +7,22 @@ use borrow.Author.Tests.{eq-eqb, le-leb, lt-leb}
 use Rattle.rules.specs.declared.Request.{Request}
 use Rattle.rules.specs.declared.Refusal.the-variants.{SchedulesFull}
 use Rattle.rules.specs.Limits.{mostSchedules}
-use Rattle.rules.specs.Verdicts.{lowest}
+use Rattle.rules.specs.Verdicts.{firstToApply}
 use Rattle.rules.specs.Books.{Book}
 use Rattle.rules.specs.Requests.{schedule}
 use Rattle.rules.specs.Calls.{stateChecks}
-use Rattle.rules.proofs.Passed.{passed-20}
+use Rattle.rules.proofs.Checks.Passed.{passed-20}
 use Rattle.book.specs.Kinds.{decided}
 use Rattle.book.proofs.Answers.{decided-clear}
 
 module _ (b : Book) (q : Request) (second : b .phase ≡ 2) where
   -- 20
   pub no-place-left : mostSchedules ≤ length (b .schedules) → decided schedule b q ≡ some SchedulesFull
-  unfolding decided stateChecks lowest
+  unfolding decided stateChecks firstToApply
   no-place-left h = rw (eq-eqb _ 2 second, le-leb mostSchedules (length (b .schedules)) h)
 
   pub place-left : length (b .schedules) < mostSchedules → decided schedule b q ≡ none
-  unfolding decided stateChecks lowest
+  unfolding decided stateChecks firstToApply
   place-left h = rw (eq-eqb _ 2 second, lt-leb mostSchedules (length (b .schedules)) h)
 
 -- an accepted schedule has a place

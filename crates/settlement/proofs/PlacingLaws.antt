@@ -17,13 +17,13 @@ use Rattle.rules.specs.Basics.{if_then_else_, total, Each, nil, cons}
 use Rattle.rules.specs.Limits.{mostHours, mostSchedules, bookSize}
 use Rattle.rules.specs.Books.{Book}
 use Rattle.rules.specs.Settlement.{placed, insert, prioritised}
-use Rattle.rules.proofs.Searches.{each-at, each-map}
-use Rattle.rules.proofs.PriorityLaws.{insert-cases}
+use Rattle.rules.proofs.Basics.Searches.{each-at, each-map}
+use Rattle.rules.proofs.Settling.PriorityLaws.{insert-cases}
 use Rattle.priority.specs.Order.{noPlaced}
 use Rattle.image.specs.Layout.{scheduleWidth, schedulesAt}
 use Rattle.image.specs.Image.{scheduleBytes, scheduleIn}
 use Rattle.image.specs.Valid.{isBook, bookIn}
-use Rattle.image.proofs.ImageReads.{schedule-read}
+use Rattle.image.proofs.Reading.ImageReads.{schedule-read}
 use Rattle.image.proofs.Round.{schedule-back}
 use Rattle.book.proofs.StateLaws.{book-image, book-fits, book-is-sound}
 use Rattle.settlement.specs.Judging.{nonePlaced}

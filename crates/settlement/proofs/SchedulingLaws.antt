@@ -19,9 +19,9 @@ use Rattle.rules.specs.Calls.{scheduled, given}
 use Rattle.image.specs.Layout.{scheduleWidths, scheduleWidth, schedulesAt, scheduleCountAt}
 use Rattle.image.specs.Image.{scheduleValues, scheduleBytes}
 use Rattle.image.specs.Valid.{isBook, bookIn}
-use Rattle.image.proofs.Sizes.{schedule-small}
-use Rattle.image.proofs.BookWrites.{write-schedule}
-use Rattle.image.proofs.KeepsKinds.{scheduled-sound, schedule-keeps}
+use Rattle.image.proofs.Writing.Sizes.{schedule-small}
+use Rattle.image.proofs.Writing.BookWrites.{write-schedule}
+use Rattle.image.proofs.Keeping.KeepsKinds.{scheduled-sound, schedule-keeps}
 use Rattle.book.specs.Kinds.{decided, Ready}
 use Rattle.book.proofs.StateLaws.{book-image, book-fits, book-is-sound}
 use Rattle.book.proofs.Answers.{decided-clear, Answered, accepted-answered}

@@ -12,10 +12,10 @@ use Rattle.rules.specs.declared.Checked.the-variants.{Clear, Fails}
 use Rattle.rules.specs.declared.Refusal.{Refusal}
 use Rattle.rules.specs.declared.Refusal.the-variants.{SetupShape, SetupValue}
 use Rattle.rules.specs.Basics.{find, entries}
-use Rattle.rules.specs.Verdicts.{_⇒_, _⇒↑_, lowest, checked}
+use Rattle.rules.specs.Verdicts.{_⇒_, _⇒↑_, firstToApply, checked}
 use Rattle.rules.specs.Opening.{countsIn, Value, valuesOf, values, misshapen, faultyOffset, setupOf, setupRefusal, operatorsIn}
-use Rattle.rules.proofs.SetupShape.{shape-of, shape-length}
-use Rattle.rules.proofs.SetupEntries.{length-operators, length-accounts, values-done, values-step}
+use Rattle.rules.proofs.Setups.SetupShape.{shape-of, shape-length}
+use Rattle.rules.proofs.Setups.SetupEntries.{length-operators, length-accounts, values-done, values-step}
 use Rattle.setup.specs.Faults.{orElse, orFault, judgedFrom, judged, estimateFaults, operatorFaults, accountFaults, pointFaults, Shaped}
 
 -- ---- one value
@@ -79,8 +79,8 @@ at-counts F from e a = rw (a, e)
 
 -- the first value that is out of range, as `rules` finds it
 pub judged-is-found : (vs : List Value)
-    → checked (lowest ((Option·map (λ v. v .0) (find (λ v. not (v .1)) vs) ⇒↑ SetupValue) ∷ [])) ≡ judged vs
-unfolding lowest find judgedFrom orFault
+    → checked (firstToApply ((Option·map (λ v. v .0) (find (λ v. not (v .1)) vs) ⇒↑ SetupValue) ∷ [])) ≡ judged vs
+unfolding firstToApply find judgedFrom orFault
 judged-is-found [] = refl
 judged-is-found ((at, true) ∷ vs) = judged-is-found vs
 judged-is-found ((at, false) ∷ vs) = sym (judged-fails (SetupValue at) vs)
@@ -99,9 +99,9 @@ module _ (s : List ℕ) where
       record { counted = e; whole = rw e (omega arith); short = omega (arith, shape-length s shape) }
 
   pub refused-shape : misshapen s ≡ true → checked (setupRefusal s) ≡ Fails SetupShape
-  unfolding setupRefusal lowest
+  unfolding setupRefusal firstToApply
   refused-shape e = rw e
 
   pub refused-value : misshapen s ≡ false → checked (setupRefusal s) ≡ judged (values (setupOf s) (operatorsIn s))
-  unfolding setupRefusal lowest faultyOffset
+  unfolding setupRefusal firstToApply faultyOffset
   refused-value e = rw e (judged-is-found (values (setupOf s) (operatorsIn s)))

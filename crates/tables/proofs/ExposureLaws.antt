@@ -18,8 +18,8 @@ use Rattle.rules.specs.Books.{noAccount}
 use Rattle.rules.specs.Limits.{mostPrice}
 use Rattle.rules.specs.Opening.{countsIn, setupOf, estimatesIn, accountsIn, accountIn, accountsFrom}
 use Rattle.rules.specs.Registration.{accountHour, exposed, ofOperator, exposureOf, exposure}
-use Rattle.rules.proofs.Searches.{each-nth}
-use Rattle.rules.proofs.SetupEntries.{length-entries, length-estimates}
+use Rattle.rules.proofs.Basics.Searches.{each-nth}
+use Rattle.rules.proofs.Setups.SetupEntries.{length-entries, length-estimates}
 use Rattle.tables.specs.Sums.{accountExposure, exposureShare}
 
 -- ---- an hour

@@ -9,7 +9,7 @@ use Rattle.rules.specs.Basics.{total, Each, cons}
 use Rattle.rules.specs.Limits.{mostEnergy}
 use Rattle.rules.specs.Registration.{moved, waiting}
 use Rattle.image.specs.Tables.{slots, cellOf, InTable, Tabled, Room}
-use Rattle.image.proofs.SumLaws.{zero-at}
+use Rattle.image.proofs.Tables.SumLaws.{zero-at}
 use Rattle.tables.specs.Sums.{SumsOf, NoSums, Taken, laneSum}
 
 -- ---- the first and the others

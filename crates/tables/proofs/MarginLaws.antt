@@ -10,7 +10,7 @@ use Rattle.rules.specs.Basics.{every, nth, counting, upTo}
 use Rattle.rules.specs.Books.{noAccount}
 use Rattle.rules.specs.Opening.{countsIn, setupOf, accountsIn, accountIn, accountsFrom}
 use Rattle.rules.specs.Registration.{accountHour, keepsMargins}
-use Rattle.rules.proofs.SetupEntries.{length-entries}
+use Rattle.rules.proofs.Setups.SetupEntries.{length-entries}
 use Rattle.image.specs.Valid.{marginsKept}
 
 -- the account keeps its margins in each of so many hours

@@ -12,10 +12,10 @@ use Rattle.rules.specs.declared.Row.{Row}
 use Rattle.rules.specs.Basics.{if_then_else_, total}
 use Rattle.rules.specs.Limits.{mostAccounts}
 use Rattle.rules.specs.Registration.{moved, waiting, buyer, seller}
-use Rattle.rules.proofs.Differences.{lt-or-ge}
+use Rattle.rules.proofs.Basics.Differences.{lt-or-ge}
 use Rattle.image.specs.Tables.{slotOf, cellOf, InTable, Tabled, Raised}
-use Rattle.image.proofs.SumLaws.{stride, hits, raised-cell, raised-most}
-use Rattle.image.proofs.TabledLaws.{buyer-in, seller-in, first-hour}
+use Rattle.image.proofs.Tables.SumLaws.{stride, hits, raised-cell, raised-most}
+use Rattle.image.proofs.Tables.TabledLaws.{buyer-in, seller-in, first-hour}
 use Rattle.tables.specs.Sums.{Taken, laneSum}
 
 -- ---- what one row adds

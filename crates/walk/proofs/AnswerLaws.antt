@@ -20,9 +20,9 @@ use Rattle.rules.specs.Settlement.{results, figuresIn}
 use Rattle.rules.specs.Calls.{Call, kindIn, settles, refusal, answer, resultsAfter, _∈_, step}
 use Rattle.rules.specs.Lists.{isAcceptance, accepts, acceptsAs}
 use Rattle.rules.specs.Replay.{callOf, answered, answerLines, settledLines, lineText, text}
-use Rattle.rules.proofs.Searches.{each-map, counting-length}
-use Rattle.rules.proofs.Passed.{Passed, passed-2, passed-kind, readable}
-use Rattle.rules.proofs.CallLists.{accepts-passed}
+use Rattle.rules.proofs.Basics.Searches.{each-map, counting-length}
+use Rattle.rules.proofs.Checks.Passed.{Passed, passed-2, passed-kind, readable}
+use Rattle.rules.proofs.Lists.CallLists.{accepts-passed}
 use Rattle.records.proofs.ReadingLaws.{kind-third}
 use Rattle.items.specs.Stream.{recordLength}
 use Rattle.items.specs.Written.{Written}

@@ -21,15 +21,15 @@ use Rattle.rules.specs.Limits.{mostHours, bookSize, longestStream}
 use Rattle.rules.specs.Books.{Book}
 use Rattle.rules.specs.Opening.{setupRefusal}
 use Rattle.rules.specs.Replay.{long, callOf, replay, text}
-use Rattle.rules.proofs.Tests.{and-both, and-spared}
+use Rattle.rules.proofs.Basics.Tests.{and-both, and-spared}
 use Rattle.items.specs.declared.Found.{Found}
 use Rattle.items.specs.declared.Found.the-variants.{Whole, Cut, End}
 use Rattle.items.specs.Stream.{recordLength, foundAt}
 use Rattle.items.proofs.StreamLaws.{record-bytes}
 use Rattle.image.specs.Valid.{valid, isBook, bookIn}
 use Rattle.image.proofs.Round.{book-is-image}
-use Rattle.image.proofs.Keeps.{keeps-valid}
-use Rattle.image.proofs.Opened.{opened-valid}
+use Rattle.image.proofs.Keeping.Keeps.{keeps-valid}
+use Rattle.image.proofs.Keeping.Opened.{opened-valid}
 use Rattle.day.proofs.Images.{image-says}
 use Rattle.walk.specs.declared.Walked.{Walked}
 use Rattle.walk.specs.declared.Gathered.{Gathered}

@@ -25,7 +25,7 @@ use Rattle.items.specs.Written.{Written}
 use Rattle.items.proofs.WrittenLaws.{written-as}
 use Rattle.items.proofs.SettledLaws.{text-one}
 use Rattle.image.specs.Valid.{isBook, bookBytes}
-use Rattle.image.proofs.Opened.{opened-is-book}
+use Rattle.image.proofs.Keeping.Opened.{opened-is-book}
 use Rattle.book.specs.Doors.{openBytes}
 use Rattle.book.proofs.OpeningLaws.{setup-decides}
 use Rattle.walk.specs.declared.Walked.{Walked}

@@ -12,7 +12,7 @@ use Rattle.units.specs.declared.Cents.{Cents}
 use Rattle.rules.specs.Basics.{every}
 use Rattle.rules.specs.Limits.{mostGuarantee}
 use Rattle.image.specs.Cells.{guaranteesFrom}
-use Rattle.image.proofs.RowsFrom.{every-done, every-step}
+use Rattle.image.proofs.Reading.RowsFrom.{every-done, every-step}
 use Rattle.audit.proofs.checks.guarantees_ok.Statement.{statement}
 use Rattle.audit.proofs.checks.guarantees_ok.Tie as tie
 

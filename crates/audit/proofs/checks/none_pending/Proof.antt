@@ -9,7 +9,7 @@ use Rattle.rules.specs.Basics.{any, every}
 use Rattle.rules.specs.Registration.{pending}
 use Rattle.image.specs.Image.{rowIn}
 use Rattle.image.specs.Cells.{rowsFrom}
-use Rattle.image.proofs.RowsFrom.{every-done, every-step, not-any}
+use Rattle.image.proofs.Reading.RowsFrom.{every-done, every-step, not-any}
 use Rattle.audit.proofs.checks.none_pending.Statement.{statement}
 use Rattle.audit.proofs.checks.none_pending.Tie as tie
 

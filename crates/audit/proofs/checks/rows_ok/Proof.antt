@@ -10,7 +10,7 @@ use Rattle.rules.specs.Books.{Setup, accountCount}
 use Rattle.image.specs.Image.{rowIn}
 use Rattle.image.specs.Valid.{rowOk}
 use Rattle.image.specs.Cells.{rowsFrom}
-use Rattle.image.proofs.RowsFrom.{every-done, every-step}
+use Rattle.image.proofs.Reading.RowsFrom.{every-done, every-step}
 use Rattle.audit.proofs.checks.rows_ok.Statement.{statement}
 use Rattle.audit.proofs.checks.rows_ok.Tie as tie
 

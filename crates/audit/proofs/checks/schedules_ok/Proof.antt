@@ -10,7 +10,7 @@ use Rattle.rules.specs.Books.{Setup, pointCount}
 use Rattle.image.specs.Image.{scheduleIn}
 use Rattle.image.specs.Valid.{scheduleOk}
 use Rattle.image.specs.Cells.{schedulesFrom}
-use Rattle.image.proofs.RowsFrom.{every-done, every-step}
+use Rattle.image.proofs.Reading.RowsFrom.{every-done, every-step}
 use Rattle.audit.proofs.checks.schedules_ok.Statement.{statement}
 use Rattle.audit.proofs.checks.schedules_ok.Tie as tie
 

@@ -10,8 +10,8 @@ use Rattle.rules.specs.Basics.{every, counting}
 use Rattle.rules.specs.Opening.{countsIn, setupOf}
 use Rattle.rules.specs.Registration.{covered}
 use Rattle.rules.specs.Limits.{mostHours}
-use Rattle.rules.proofs.SetupEntries.{counts-of-setup}
-use Rattle.rules.proofs.CountingLaws.{every-done, every-next, every-fails, every-same}
+use Rattle.rules.proofs.Setups.SetupEntries.{counts-of-setup}
+use Rattle.rules.proofs.Basics.CountingLaws.{every-done, every-next, every-fails, every-same}
 use Rattle.image.specs.Valid.{guaranteesKept}
 use Rattle.tables.specs.Sums.{SumsOf}
 use Rattle.audit.specs.Stands.{partWith}

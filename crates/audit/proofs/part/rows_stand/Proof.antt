@@ -3,7 +3,7 @@ use mathlib.Core.Path.{_∙_, sym, ap}
 use borrow.Author.Needs.{needs}
 use Rattle.rules.specs.declared.Counts.{Counts}
 use Rattle.rules.specs.Opening.{setupOf}
-use Rattle.rules.proofs.SetupEntries.{counts-of-setup}
+use Rattle.rules.proofs.Setups.SetupEntries.{counts-of-setup}
 use Rattle.audit.specs.Stands.{rowsStand}
 use Rattle.audit.proofs.part.rows_stand.Statement.{statement}
 use Rattle.audit.proofs.part.rows_stand.Tie as tie

@@ -6,7 +6,7 @@ use borrow.Author.Needs.{needs}
 use Rattle.rules.specs.declared.Refusal.{Refusal}
 use Rattle.rules.specs.Basics.{isSome}
 use Rattle.rules.specs.Opening.{setupRefusal}
-use Rattle.rules.proofs.Clearing.{checked-same}
+use Rattle.rules.proofs.Checks.Clearing.{checked-same}
 use Rattle.audit.proofs.whole.is_accepted.Statement.{statement}
 use Rattle.audit.proofs.whole.is_accepted.Tie as tie
 

@@ -3,7 +3,7 @@ use mathlib.Core.Path.{sym, ap, _∙_}
 use native.Mathlib.Omega.{arith}
 use Rattle.rules.specs.declared.Counts.{Counts}
 use Rattle.rules.specs.Opening.{setupOf}
-use Rattle.rules.proofs.SetupEntries.{counts-of-setup}
+use Rattle.rules.proofs.Setups.SetupEntries.{counts-of-setup}
 use Rattle.audit.proofs.BookStands.{too-many-schedules, schedules-by-tests}
 use borrow.Author.Needs.{needs}
 use Rattle.audit.proofs.whole.schedules_stand.Statement.{statement}

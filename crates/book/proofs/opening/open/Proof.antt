@@ -1,7 +1,7 @@
 -- The size decides first, then the set-up; where neither is at fault the buffer holds the fresh book.
 use mathlib.Core.Path.{sym, _∙_}
 use mathlib.Core.Option.{none, some}
-use Rattle.rules.proofs.Clearing.{checked-same}
+use Rattle.rules.proofs.Checks.Clearing.{checked-same}
 use Rattle.book.proofs.OpeningLaws.{other-size, setup-decides, refused-unchanged, accepted-fresh}
 use borrow.Author.Needs.{needs}
 use Rattle.book.proofs.opening.open.Statement.{statement}

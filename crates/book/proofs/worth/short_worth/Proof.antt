@@ -8,7 +8,7 @@ use Rattle.rules.specs.Basics.{total, counting}
 use Rattle.rules.specs.Limits.{mostEnergy, mostPrice, mostHours, mostAccounts}
 use Rattle.rules.specs.Books.{accountCount}
 use Rattle.rules.specs.Opening.{countsIn, accountsFrom}
-use Rattle.rules.proofs.CountingLaws.{sum-begins, sum-next, sum-done}
+use Rattle.rules.proofs.Basics.CountingLaws.{sum-begins, sum-next, sum-done}
 use Rattle.image.specs.Valid.{bookIn}
 use Rattle.book.specs.Worth.{shortShare, netWith}
 use Rattle.book.proofs.StateLaws.{book-length, book-is-sound}

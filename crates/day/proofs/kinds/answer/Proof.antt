@@ -3,7 +3,7 @@ use mathlib.Core.Path.{_≡_}
 use mathlib.Core.Option.{none, some}
 use native.Mathlib.Omega.{arith}
 use denote.Ref.{now}
-use Rattle.rules.specs.Verdicts.{lowest}
+use Rattle.rules.specs.Verdicts.{firstToApply}
 use Rattle.rules.specs.Books.{countsOf}
 use Rattle.rules.specs.Requests.{rangeChecks}
 use Rattle.image.specs.Valid.{bookIn}
@@ -14,7 +14,7 @@ use Rattle.day.proofs.kinds.answer.Statement.{statement}
 use Rattle.day.proofs.kinds.answer.Tie as tie
 
 -- past the check nothing is out of range
-in-range : (c : tie.After-enum-told) → lowest (rangeChecks (countsOf (bookIn (now (c .before .before .before .before .before .before .args .book)) .setup)) (c .before .before .before .before .before .before .args .request)) ≡ none
+in-range : (c : tie.After-enum-told) → firstToApply (rangeChecks (countsOf (bookIn (now (c .before .before .before .before .before .before .args .book)) .setup)) (c .before .before .before .before .before .before .args .request)) ≡ none
 in-range c =
     let checks = c .before .before in
     ranges-found _ (c .before .before .before .before .before .before .pre .0) _ _ _ none (checks .before .counts .ensures) (checks .check-ranges .ensures) (c .enum-told .given .1)

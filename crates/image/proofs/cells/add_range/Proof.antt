@@ -5,7 +5,7 @@ use native.Mathlib.Omega.{arith}
 use lib.ListN.{length, length-set}
 use borrow.Author.Needs.{needs}
 use Rattle.image.specs.Tables.{Raised}
-use Rattle.image.proofs.SumLaws.{raised-none, raised-next}
+use Rattle.image.proofs.Tables.SumLaws.{raised-none, raised-next}
 use Rattle.image.proofs.cells.add_range.Statement.{statement}
 use Rattle.image.proofs.cells.add_range.Tie as tie
 

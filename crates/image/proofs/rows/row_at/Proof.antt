@@ -1,5 +1,5 @@
 -- Each number inside the row's bytes is that number of the whole.
-use Rattle.image.proofs.RowBytes.{row-at}
+use Rattle.image.proofs.Reading.RowBytes.{row-at}
 use borrow.Author.Needs.{needs}
 use Rattle.image.proofs.rows.row_at.Statement.{statement}
 use Rattle.image.proofs.rows.row_at.Tie as tie

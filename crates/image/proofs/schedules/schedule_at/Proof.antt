@@ -1,6 +1,6 @@
 -- Each number inside the schedule's bytes is that number of the whole.
 use borrow.Author.Needs.{needs}
-use Rattle.image.proofs.RowBytes.{schedule-at}
+use Rattle.image.proofs.Reading.RowBytes.{schedule-at}
 use Rattle.image.proofs.schedules.schedule_at.Statement.{statement}
 use Rattle.image.proofs.schedules.schedule_at.Tie as tie
 

@@ -7,7 +7,7 @@ use native.Mathlib.Omega.{arith}
 use borrow.Author.Needs.{needs}
 use Rattle.rules.specs.Basics.{total, counting}
 use Rattle.rules.specs.Requests.{fieldCount, mapOf, room, offset, bits, fieldIn}
-use Rattle.rules.proofs.Fields.{offset-step, offset-grows, field-in-room}
+use Rattle.rules.proofs.Records.Fields.{offset-step, offset-grows, field-in-room}
 use Rattle.records.proofs.FieldLaws.{room-small, fill, fill-none, fill-next}
 use Rattle.records.proofs.reader.fields.Statement.{statement}
 use Rattle.records.proofs.reader.fields.Tie as tie

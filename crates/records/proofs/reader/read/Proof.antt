@@ -1,7 +1,7 @@
 -- Refusals 2 and 3 come first; the rest is read by its kind.
 use mathlib.Core.Path.{_∙_, sym}
 use borrow.Author.Tests.{not-true, not-false}
-use Rattle.rules.proofs.Passed.{readable}
+use Rattle.rules.proofs.Checks.Passed.{readable}
 use Rattle.records.proofs.ReadingLaws.{kind-third, reads-nothing, reads-no-kind}
 use borrow.Author.Needs.{needs}
 use Rattle.records.proofs.reader.read.Statement.{statement}

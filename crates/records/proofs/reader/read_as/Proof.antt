@@ -2,10 +2,10 @@
 use mathlib.Core.Path.{_∙_, sym}
 use native.Mathlib.Omega.{arith}
 use Rattle.rules.specs.Requests.{mapOf}
-use Rattle.rules.proofs.Tests.{within-true}
-use Rattle.rules.proofs.Passed.{readable}
-use Rattle.rules.proofs.KindTables.{tables-agree}
-use Rattle.rules.proofs.RoundTrip.{reads, record-ends}
+use Rattle.rules.proofs.Basics.Tests.{within-true}
+use Rattle.rules.proofs.Checks.Passed.{readable}
+use Rattle.rules.proofs.Checks.KindTables.{tables-agree}
+use Rattle.rules.proofs.Records.RoundTrip.{reads, record-ends}
 use Rattle.records.proofs.ReadingLaws.{reads-other-map, reads-other-length, reads-on}
 use Rattle.records.proofs.reader.read_as.Statement.{statement}
 use Rattle.records.proofs.reader.read_as.Tie as tie

@@ -6,7 +6,7 @@ use lib.ListN.{getD}
 use Rattle.wire.proofs.NumberLaws.{bytes-known}
 use Rattle.rules.specs.Basics.{counting}
 use Rattle.rules.specs.Requests.{widthOf, bits, fieldIn, requestOf}
-use Rattle.rules.proofs.Fields.{field-in-fits}
+use Rattle.rules.proofs.Records.Fields.{field-in-fits}
 use borrow.Author.Needs.{needs}
 use Rattle.records.proofs.reader.request.Statement.{statement}
 use Rattle.records.proofs.reader.request.Tie as tie

@@ -8,7 +8,7 @@ use borrow.Author.Needs.{needs}
 use Rattle.wire.specs.Regions.{splice}
 use Rattle.rules.specs.Basics.{total, counting}
 use Rattle.rules.specs.Requests.{fieldCount, offset, fieldBytes}
-use Rattle.rules.proofs.Fields.{offset-step, offset-grows}
+use Rattle.rules.proofs.Records.Fields.{offset-step, offset-grows}
 use Rattle.records.proofs.WritingLaws.{fields-put, fields-next}
 use Rattle.records.proofs.writer.put_fields.Statement.{statement}
 use Rattle.records.proofs.writer.put_fields.Tie as tie

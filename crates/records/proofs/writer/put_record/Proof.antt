@@ -1,8 +1,8 @@
 -- The map, and behind it the fields.
 use native.Mathlib.Omega.{arith}
 use Rattle.rules.specs.Requests.{offset}
-use Rattle.rules.proofs.Tests.{within-true}
-use Rattle.rules.proofs.KindTables.{tables-agree}
+use Rattle.rules.proofs.Basics.Tests.{within-true}
+use Rattle.rules.proofs.Checks.KindTables.{tables-agree}
 use Rattle.records.proofs.WritingLaws.{record-put}
 use borrow.Author.Needs.{needs}
 use Rattle.records.proofs.writer.put_record.Statement.{statement}

@@ -2,7 +2,7 @@
 use mathlib.Core.Path.{_∙_, sym}
 use native.Mathlib.Omega.{arith}
 use borrow.Author.Tests.{not-true, not-false}
-use Rattle.rules.proofs.Tests.{within-true}
+use Rattle.rules.proofs.Basics.Tests.{within-true}
 use Rattle.records.proofs.WritingLaws.{writes-no-kind, writes-no-room, writes-record}
 use borrow.Author.Needs.{needs}
 use Rattle.records.proofs.writer.write.Statement.{statement}

@@ -7,7 +7,7 @@ use denote.Ref.{now}
 use Rattle.rules.specs.declared.Request.{Request}
 use Rattle.rules.specs.Basics.{isSome}
 use Rattle.rules.specs.Requests.{keep, requestOf}
-use Rattle.rules.proofs.Clearing.{checked-same}
+use Rattle.rules.proofs.Checks.Clearing.{checked-same}
 use Rattle.image.specs.Valid.{bookIn}
 use Rattle.book.specs.Kinds.{decided}
 use Rattle.book.proofs.StateLaws.{book-length}

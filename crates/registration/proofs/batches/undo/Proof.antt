@@ -14,7 +14,7 @@ use Rattle.rules.specs.declared.Request.{Request}
 use Rattle.rules.specs.Basics.{isSome}
 use Rattle.rules.specs.Limits.{mostHours}
 use Rattle.rules.specs.Requests.{undo, requestOf}
-use Rattle.rules.proofs.Clearing.{checked-same}
+use Rattle.rules.proofs.Checks.Clearing.{checked-same}
 use Rattle.image.specs.Layout.{flagAt, savedAt, partSize}
 use Rattle.image.specs.Valid.{bookIn}
 use Rattle.book.specs.Kinds.{decided}

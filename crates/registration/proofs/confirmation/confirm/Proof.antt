@@ -3,7 +3,7 @@ use mathlib.Core.Path.{sym, _∙_}
 use mathlib.Core.Option.{none, some}
 use native.Mathlib.Omega.{arith}
 use Rattle.rules.specs.Requests.{confirm}
-use Rattle.rules.proofs.Clearing.{checked-same}
+use Rattle.rules.proofs.Checks.Clearing.{checked-same}
 use Rattle.book.proofs.StateLaws.{book-length, row-count-high}
 use Rattle.book.proofs.Answers.{refused-answered}
 use Rattle.registration.proofs.ConfirmationLaws.{accepted-number, accepted-tabled, accepted-energy, trade-answered}

@@ -9,7 +9,7 @@ use Rattle.wire.specs.Numbers.{le}
 use Rattle.wire.specs.Regions.{splice}
 use Rattle.rules.specs.declared.Request.{Request}
 use Rattle.rules.specs.Requests.{closeGate}
-use Rattle.rules.proofs.Clearing.{checked-same}
+use Rattle.rules.proofs.Checks.Clearing.{checked-same}
 use Rattle.image.specs.Layout.{phaseAt}
 use Rattle.image.specs.Valid.{bookIn}
 use Rattle.book.specs.Kinds.{decided}

@@ -1,7 +1,7 @@
 -- A pending row is withdrawn at its status byte, and any other stands.
 use mathlib.Core.Path.{sym, _∙_}
 use native.Mathlib.Omega.{arith}
-use Rattle.image.proofs.Loops.{ended-pending, ended-other}
+use Rattle.image.proofs.Writing.Loops.{ended-pending, ended-other}
 use borrow.Author.Needs.{needs}
 use Rattle.registration.proofs.gate.end_row.Statement.{statement}
 use Rattle.registration.proofs.gate.end_row.Tie as tie

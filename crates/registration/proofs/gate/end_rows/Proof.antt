@@ -7,7 +7,7 @@ use borrow.Author.Needs.{needs}
 use Rattle.wire.specs.Parts.{sweep}
 use Rattle.image.specs.Layout.{rowWidth}
 use Rattle.image.specs.Changes.{ended}
-use Rattle.image.proofs.Loops.{sweep-on, sweep-done}
+use Rattle.image.proofs.Writing.Loops.{sweep-on, sweep-done}
 use Rattle.registration.proofs.gate.end_rows.Statement.{statement}
 use Rattle.registration.proofs.gate.end_rows.Tie as tie
 

@@ -3,7 +3,7 @@ use mathlib.Core.Path.{refl, sym, _∙_}
 use mathlib.Core.Option.{none, some}
 use native.Mathlib.Omega.{arith}
 use Rattle.rules.specs.Requests.{guarantee}
-use Rattle.rules.proofs.Clearing.{checked-same}
+use Rattle.rules.proofs.Checks.Clearing.{checked-same}
 use Rattle.book.proofs.StateLaws.{book-length}
 use Rattle.book.proofs.Answers.{refused-answered}
 use Rattle.registration.proofs.LodgingLaws.{ready-guarantee, lodged-answered}

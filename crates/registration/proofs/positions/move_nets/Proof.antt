@@ -1,6 +1,6 @@
 -- The seller's nets are swept first and then the buyer's, each from its own place, and what is raised by a turn less the quantity falls by it.
 use native.Mathlib.Omega.{arith}
-use Rattle.image.proofs.TabledLaws.{first-hour, seller-in, buyer-in}
+use Rattle.image.proofs.Tables.TabledLaws.{first-hour, seller-in, buyer-in}
 use Rattle.registration.proofs.PositionLaws.{nets-moved}
 use borrow.Author.Needs.{needs}
 use Rattle.registration.proofs.positions.move_nets.Statement.{statement}

@@ -1,7 +1,7 @@
 -- What is written is the sum but for a whole turn.
 use mathlib.Core.Path.{sym, _∙_}
 use native.Mathlib.Omega.{arith}
-use Rattle.image.proofs.Loops.{raised-step}
+use Rattle.image.proofs.Writing.Loops.{raised-step}
 use borrow.Author.Needs.{needs}
 use Rattle.registration.proofs.positions.raise_net.Statement.{statement}
 use Rattle.registration.proofs.positions.raise_net.Tie as tie

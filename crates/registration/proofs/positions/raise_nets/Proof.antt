@@ -6,7 +6,7 @@ use lib.ListN.{length}
 use borrow.Author.Needs.{needs}
 use Rattle.wire.specs.Parts.{sweep}
 use Rattle.image.specs.Changes.{raised}
-use Rattle.image.proofs.Loops.{sweep-on, sweep-done}
+use Rattle.image.proofs.Writing.Loops.{sweep-on, sweep-done}
 use Rattle.registration.proofs.positions.raise_nets.Statement.{statement}
 use Rattle.registration.proofs.positions.raise_nets.Tie as tie
 

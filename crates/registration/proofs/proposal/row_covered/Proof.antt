@@ -1,7 +1,7 @@
 -- A purchase that waits exposes nobody. Of a sale, what is owed is the exposure of the account's operator with the row taken.
 use mathlib.Core.Path.{_∙_}
 use borrow.Author.Needs.{needs}
-use Rattle.image.proofs.Easing.{purchase-exposes-none}
+use Rattle.image.proofs.Keeping.Easing.{purchase-exposes-none}
 use Rattle.registration.proofs.CoverLaws.{still-covered}
 use Rattle.registration.proofs.proposal.row_covered.Statement.{statement}
 use Rattle.registration.proofs.proposal.row_covered.Tie as tie

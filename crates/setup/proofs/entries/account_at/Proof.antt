@@ -1,5 +1,5 @@
 -- Each number inside the entry is that number of the whole.
-use Rattle.rules.proofs.SetupEntries.{account-at}
+use Rattle.rules.proofs.Setups.SetupEntries.{account-at}
 use borrow.Author.Needs.{needs}
 use Rattle.setup.proofs.entries.account_at.Statement.{statement}
 use Rattle.setup.proofs.entries.account_at.Tie as tie

@@ -1,7 +1,7 @@
 -- The entry that was read at its place is the one of that number.
 use mathlib.Core.Path.{refl}
 use Rattle.rules.specs.Opening.{estimatesIn}
-use Rattle.rules.proofs.SetupEntries.{entry-by-number}
+use Rattle.rules.proofs.Setups.SetupEntries.{entry-by-number}
 use borrow.Author.Needs.{needs}
 use Rattle.setup.proofs.entries.estimate.Statement.{statement}
 use Rattle.setup.proofs.entries.estimate.Tie as tie

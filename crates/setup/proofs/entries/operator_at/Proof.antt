@@ -1,5 +1,5 @@
 -- Each number inside the entry is that number of the whole.
-use Rattle.rules.proofs.SetupEntries.{operator-at}
+use Rattle.rules.proofs.Setups.SetupEntries.{operator-at}
 use borrow.Author.Needs.{needs}
 use Rattle.setup.proofs.entries.operator_at.Statement.{statement}
 use Rattle.setup.proofs.entries.operator_at.Tie as tie

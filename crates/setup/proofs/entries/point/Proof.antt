@@ -2,7 +2,7 @@
 use mathlib.Core.Path.{_∙_, ap}
 use native.Mathlib.Omega.{arith}
 use Rattle.rules.specs.Opening.{pointsIn, pointsFrom}
-use Rattle.rules.proofs.SetupEntries.{entry-by-number}
+use Rattle.rules.proofs.Setups.SetupEntries.{entry-by-number}
 use borrow.Author.Needs.{needs}
 use Rattle.setup.proofs.entries.point.Statement.{statement}
 use Rattle.setup.proofs.entries.point.Tie as tie

@@ -1,5 +1,5 @@
 -- The entry is its one number.
-use Rattle.rules.proofs.SetupEntries.{price-at}
+use Rattle.rules.proofs.Setups.SetupEntries.{price-at}
 use borrow.Author.Needs.{needs}
 use Rattle.setup.proofs.entries.price_at.Statement.{statement}
 use Rattle.setup.proofs.entries.price_at.Tie as tie

@@ -1,6 +1,6 @@
 -- Bytes in shape hold what their counts say, so that their values can be judged.
 use mathlib.Core.Path.{sym, _∙_}
-use Rattle.rules.proofs.SetupShape.{shape-of}
+use Rattle.rules.proofs.Setups.SetupShape.{shape-of}
 use Rattle.setup.proofs.FaultLaws.{shaped, refused-shape, refused-value}
 use borrow.Author.Needs.{needs}
 use Rattle.setup.proofs.fault.fault.Statement.{statement}

@@ -3,7 +3,7 @@ use Rattle.rules.specs.Books.{noAccount}
 use mathlib.Core.Path.{refl, ap, sym}
 use Rattle.rules.specs.declared.Account.{Account}
 use Rattle.rules.specs.Opening.{accountIn}
-use Rattle.rules.proofs.SetupEntries.{entry-by-number, no-entry-zero, no-entry-past}
+use Rattle.rules.proofs.Setups.SetupEntries.{entry-by-number, no-entry-zero, no-entry-past}
 use borrow.Author.Needs.{needs}
 use Rattle.setup.proofs.values.kind_of.Statement.{statement}
 use Rattle.setup.proofs.values.kind_of.Tie as tie

@@ -1,5 +1,5 @@
 -- The values are judged in the order of their offsets, the kind against that of the point's account.
-use Rattle.rules.proofs.SetupEntries.{length-entries}
+use Rattle.rules.proofs.Setups.SetupEntries.{length-entries}
 use native.Mathlib.Omega.{arith}
 use Rattle.rules.specs.Opening.{pointValues}
 use Rattle.setup.specs.Faults.{judgedFrom}

@@ -9,7 +9,7 @@ use Rattle.rules.specs.declared.Row.{Row}
 use Rattle.rules.specs.Basics.{total, counting}
 use Rattle.rules.specs.Limits.{mostPrice, mostHours}
 use Rattle.rules.specs.Opening.{countsIn}
-use Rattle.rules.proofs.CountingLaws.{sum-begins, sum-next, sum-done}
+use Rattle.rules.proofs.Basics.CountingLaws.{sum-begins, sum-next, sum-done}
 use Rattle.tables.specs.Sums.{SumsOf}
 use Rattle.tables.proofs.ExposureLaws.{hourExposure, hour-exposure-read, exposure-by-hour, estimate-small}
 use Rattle.tables.proofs.exposure.account_exposure.Statement.{statement}

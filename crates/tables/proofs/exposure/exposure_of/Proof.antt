@@ -9,7 +9,7 @@ use Rattle.rules.specs.declared.Row.{Row}
 use Rattle.rules.specs.Basics.{total, counting}
 use Rattle.rules.specs.Limits.{mostHours, mostPrice}
 use Rattle.rules.specs.Opening.{countsIn, setupOf}
-use Rattle.rules.proofs.CountingLaws.{sum-begins, sum-next, sum-done}
+use Rattle.rules.proofs.Basics.CountingLaws.{sum-begins, sum-next, sum-done}
 use Rattle.tables.specs.Sums.{SumsOf, exposureShare}
 use Rattle.tables.proofs.ExposureLaws.{exposure-by-account}
 use Rattle.tables.proofs.exposure.exposure_of.Statement.{statement}

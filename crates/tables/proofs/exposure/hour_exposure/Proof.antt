@@ -1,6 +1,6 @@
 -- Both amounts at the price are their sum at the price, and each is bounded by the width of an energy.
 use native.Mathlib.Omega.{arith}
-use Rattle.image.proofs.MoneyLaws.{price-bounded}
+use Rattle.image.proofs.Tables.MoneyLaws.{price-bounded}
 use Rattle.tables.proofs.ExposureLaws.{price-joined}
 use borrow.Author.Needs.{needs}
 use Rattle.tables.proofs.exposure.hour_exposure.Statement.{statement}

@@ -8,7 +8,7 @@ use Rattle.rules.specs.declared.Row.{Row}
 use Rattle.rules.specs.Basics.{every, counting}
 use Rattle.rules.specs.Registration.{accountHour, keepsMargins}
 use Rattle.rules.specs.Limits.{mostHours}
-use Rattle.rules.proofs.CountingLaws.{every-done, every-next, every-fails, every-same}
+use Rattle.rules.proofs.Basics.CountingLaws.{every-done, every-next, every-fails, every-same}
 use Rattle.tables.specs.Sums.{SumsOf}
 use Rattle.tables.proofs.margins.hours_kept.Statement.{statement}
 use Rattle.tables.proofs.margins.hours_kept.Tie as tie

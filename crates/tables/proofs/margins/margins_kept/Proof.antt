@@ -10,7 +10,7 @@ use Rattle.rules.specs.Basics.{every, nth, counting}
 use Rattle.rules.specs.Books.{noAccount}
 use Rattle.rules.specs.Opening.{countsIn, setupOf, accountsIn}
 use Rattle.rules.specs.Limits.{mostHours}
-use Rattle.rules.proofs.CountingLaws.{every-done, every-next, every-fails, every-same}
+use Rattle.rules.proofs.Basics.CountingLaws.{every-done, every-next, every-fails, every-same}
 use Rattle.image.specs.Valid.{marginsKept}
 use Rattle.tables.specs.Sums.{SumsOf}
 use Rattle.tables.proofs.MarginLaws.{accountKeeps, margins-by-account, account-kept}

@@ -4,7 +4,7 @@ use mathlib.Core.Path.{_≡_, _∙_, sym}
 use native.Mathlib.Omega.{arith}
 use borrow.Author.Needs.{needs}
 use Rattle.rules.specs.Basics.{every, counting}
-use Rattle.rules.proofs.CountingLaws.{every-done, every-next, every-fails, every-same}
+use Rattle.rules.proofs.Basics.CountingLaws.{every-done, every-next, every-fails, every-same}
 use Rattle.tables.specs.Sums.{netStored}
 use Rattle.tables.proofs.sums.account_nets_kept.Statement.{statement}
 use Rattle.tables.proofs.sums.account_nets_kept.Tie as tie

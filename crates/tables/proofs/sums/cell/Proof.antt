@@ -1,6 +1,6 @@
 -- The product is that of the slot, and the slot's cells are in the table.
 use native.Mathlib.Omega.{arith}
-use Rattle.image.proofs.SumLaws.{cell-fits}
+use Rattle.image.proofs.Tables.SumLaws.{cell-fits}
 use borrow.Author.Needs.{needs}
 use Rattle.tables.proofs.sums.cell.Statement.{statement}
 use Rattle.tables.proofs.sums.cell.Tie as tie

@@ -8,7 +8,7 @@ use Rattle.rules.specs.Basics.{Each}
 use Rattle.rules.specs.Limits.{mostEnergy}
 use Rattle.image.specs.Cells.{rowsFrom}
 use Rattle.image.specs.Tables.{Tabled}
-use Rattle.image.proofs.RowsFrom.{rows-done, rows-step}
+use Rattle.image.proofs.Reading.RowsFrom.{rows-done, rows-step}
 use Rattle.tables.proofs.FillLaws.{each-first, each-rest, Filling, filling-none, filling-room, filling-next, filling-done}
 use Rattle.tables.proofs.sums.fill.Statement.{statement}
 use Rattle.tables.proofs.sums.fill.Tie as tie

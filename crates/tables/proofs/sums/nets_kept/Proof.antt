@@ -4,7 +4,7 @@ use mathlib.Core.Path.{_≡_, _∙_, sym, refl}
 use native.Mathlib.Omega.{arith}
 use borrow.Author.Needs.{needs}
 use Rattle.rules.specs.Basics.{every, counting, upTo}
-use Rattle.rules.proofs.CountingLaws.{every-done, every-next, every-fails}
+use Rattle.rules.proofs.Basics.CountingLaws.{every-done, every-next, every-fails}
 use Rattle.tables.specs.Sums.{netStored, netsStored}
 use Rattle.tables.proofs.sums.nets_kept.Statement.{statement}
 use Rattle.tables.proofs.sums.nets_kept.Tie as tie

@@ -1,6 +1,6 @@
 -- The product is that of the account, and its places are among those of all accounts.
 use native.Mathlib.Omega.{arith}
-use Rattle.image.proofs.SumLaws.{place-fits}
+use Rattle.image.proofs.Tables.SumLaws.{place-fits}
 use borrow.Author.Needs.{needs}
 use Rattle.tables.proofs.sums.place.Statement.{statement}
 use Rattle.tables.proofs.sums.place.Tie as tie

@@ -2,8 +2,8 @@
 use native.Mathlib.Omega.{arith}
 use Rattle.rules.specs.Limits.{mostAccounts}
 use Rattle.image.specs.Tables.{slotOf}
-use Rattle.image.proofs.SumLaws.{stride, room-past}
-use Rattle.image.proofs.TabledLaws.{buyer-in, seller-in}
+use Rattle.image.proofs.Tables.SumLaws.{stride, room-past}
+use Rattle.image.proofs.Tables.TabledLaws.{buyer-in, seller-in}
 use Rattle.tables.proofs.ShareLaws.{taken-confirmed}
 use borrow.Author.Needs.{needs}
 use Rattle.tables.proofs.sums.take_confirmed.Statement.{statement}

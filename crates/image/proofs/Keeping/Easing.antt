@@ -1,0 +1,246 @@
+-- What eases an account hour: low no lower, high no higher, no more exposed. A confirm eases every account but its caller, for what
+-- the proposer has pending turns into net; a register every account but its caller; a withdrawal and the close of the gate all.
+-- A purchase that waits and a sale that is confirmed expose no operator more.
+use Prim.Native.Nat.{ℕ, _+_, _*_, _≤_}
+use mathlib.Core.Path.{_≡_, refl, sym, ap, _∙_}
+use mathlib.Core.Logic.{_⊎_, inl, inr, ⊎-elim}
+use mathlib.Core.List.{List, [], _∷_, _++_}
+use mathlib.Core.Bool.{Bool, true, false, _&&_, and-false, and-true}
+use native.Mathlib.Nat.{add-zero, mul-le-mul-left}
+use native.Mathlib.Omega.{arith}
+use lib.Dec.{eqb}
+use lib.IntN.{subℕ}
+use lib.Signed.{_≤ℤ_}
+use borrow.Author.Tests.{eqb-true, eqb-false, leb-true, le-leb, eq-eqb, ne-eqb}
+use Rattle.units.specs.declared.Cents.{Cents}
+use Rattle.rules.specs.declared.Account.{Account}
+use Rattle.rules.specs.declared.Row.{Row}
+use Rattle.rules.specs.declared.AccountHour.{AccountHour}
+use Rattle.rules.specs.declared.Request.{Request}
+use Rattle.rules.specs.Basics.{if_then_else_, total, nth, upTo}
+use Rattle.rules.specs.Books.{Setup, noRow, accountCount, estimateAt, operatorOf}
+use Rattle.rules.specs.Registration.{pending, covers, seller, buyer, mark, closed, proposed, bought, sold, pendingSales, pendingPurchases, accountHour, takes, low, high, keepsMargins, exposed, ofOperator, exposureOf, exposure, available, covered, exposureWith}
+use Rattle.rules.proofs.Basics.Tests.{and-both}
+use Rattle.rules.proofs.Basics.Differences.{difference-order, order-by, difference-more, difference-less}
+use Rattle.rules.proofs.Rows.AccountHours.{share, weight, moved-confirm, moved-withdraw, moved-close, waiting-end, waiting-close, weight-of-others, hour-register, hour-confirm}
+use Rattle.image.proofs.Sound.Soundness.{SoundRow}
+
+-- ---- one account hour and the next, in natural numbers
+
+pub record Eased (x y : AccountHour) : Type 0 where
+  pub low-no-lower : y .net .sold .0 + y .sales .0 + x .net .bought .0 ≤ x .net .sold .0 + x .sales .0 + y .net .bought .0
+  pub high-no-higher : y .net .bought .0 + y .purchases .0 + x .net .sold .0 ≤ x .net .bought .0 + x .purchases .0 + y .net .sold .0
+  pub no-more-exposed : exposed y ≤ exposed x
+
+eased-refl : (x : AccountHour) → Eased x x
+eased-refl x = record { low-no-lower = omega arith; high-no-higher = omega arith; no-more-exposed = omega arith }
+
+-- the same of the paper's signed figures
+difference-le : (a b c d : ℕ) → a + d ≤ c + b → subℕ a b ≤ℤ subℕ c d
+difference-le a b c d h = order-by (subℕ a b) (subℕ c d) _ (difference-order a b c d) .0 (le-leb (a + d) (c + b) h)
+
+pub eased-low : (x y : AccountHour) → Eased x y → low x ≤ℤ low y
+eased-low x y e =
+    simp difference-less
+    (difference-le
+    (x .net .bought .0)
+    (x .net .sold .0 + x .sales .0)
+    (y .net .bought .0)
+    (y .net .sold .0 + y .sales .0)
+    (omega (arith, e .low-no-lower)))
+
+pub eased-high : (x y : AccountHour) → Eased x y → high y ≤ℤ high x
+eased-high x y e =
+    simp difference-more
+    (difference-le
+    (y .net .bought .0 + y .purchases .0)
+    (y .net .sold .0)
+    (x .net .bought .0 + x .purchases .0)
+    (x .net .sold .0)
+    (omega (arith, e .high-no-higher)))
+
+margins-true : (account : Account) (x : AccountHour) → keepsMargins account x ≡ true
+    → (x .net .sold .0 + x .sales .0 ≤ x .net .bought .0 + account .lower .0)
+    × (x .net .bought .0 + x .purchases .0 ≤ x .net .sold .0 + account .upper .0)
+unfolding keepsMargins
+margins-true account x h = let w = and-both _ _ .0 h in (leb-true _ _ (w .0), leb-true _ _ (w .1))
+
+-- margins that were kept are kept
+pub eased-margins : (account : Account) (x y : AccountHour) → Eased x y → keepsMargins account x ≡ true → keepsMargins account y ≡ true
+unfolding keepsMargins
+eased-margins account x y e h =
+    let (l, u) = margins-true account x h in
+    rw (
+      le-leb (y .net .sold .0 + y .sales .0) (y .net .bought .0 + account .lower .0) (omega (arith, e .low-no-lower)),
+      le-leb (y .net .bought .0 + y .purchases .0) (y .net .sold .0 + account .upper .0) (omega (arith, e .high-no-higher)),
+    )
+
+-- ---- an operator
+
+total-le : (f g : ℕ → ℕ) (xs : List ℕ) → ((x : ℕ) → f x ≤ g x) → total f xs ≤ total g xs
+unfolding total
+total-le f g [] h = omega arith
+total-le f g (x ∷ xs) h = omega (arith, h x, total-le f g xs h)
+
+-- where an operator's accounts are exposed no more in any hour, neither is it
+no-more-exposure : (u : Setup) (before after : ℕ → ℕ → AccountHour) (o : ℕ)
+    → ((a h : ℕ) → operatorOf u a ≡ o → exposed (after a h) ≤ exposed (before a h))
+    → exposureOf u after o ≤ exposureOf u before o
+unfolding exposureOf ofOperator
+no-more-exposure u before after o no-more = total-le _ _ (upTo (accountCount u)) (λ a. go a (eqb (operatorOf u a) o) refl)
+  where
+    go : (a : ℕ) (t : Bool) → eqb (operatorOf u a) o ≡ t
+        → (if t then total (λ h. estimateAt u h .0 * exposed (after a h)) (upTo (u .hours)) else 0)
+        ≤ (if t then total (λ h. estimateAt u h .0 * exposed (before a h)) (upTo (u .hours)) else 0)
+    go a true w = total-le _ _ (upTo (u .hours)) (λ h. mul-le-mul-left (estimateAt u h .0) (no-more a h (eqb-true _ _ w)))
+    go a false w = omega arith
+
+-- so it is where they are all eased
+eased-exposure : (u : Setup) (rows later : List Row) (o : ℕ)
+    → ((a h : ℕ) → operatorOf u a ≡ o → Eased (accountHour rows a h) (accountHour later a h))
+    → exposure u later o ≤ exposure u rows o
+eased-exposure u rows later o eased =
+    no-more-exposure u (accountHour rows) (accountHour later) o (λ a h owns. eased a h owns .no-more-exposed)
+
+-- and covered if it was
+pub eased-covered : (u : Setup) (gs : List Cents) (rows later : List Row) (o : ℕ)
+    → ((a h : ℕ) → operatorOf u a ≡ o → Eased (accountHour rows a h) (accountHour later a h))
+    → covered u (record { guarantees = gs; rows = rows }) o ≡ true
+    → covered u (record { guarantees = gs; rows = later }) o ≡ true
+unfolding covered available
+eased-covered u gs rows later o eased h =
+    le-leb (exposure u later o) (available u (record { guarantees = gs; rows = later }) o)
+    (omega (arith, leb-true (exposure u rows o) (available u (record { guarantees = gs; rows = rows }) o) h, eased-exposure u rows later o eased))
+
+-- ---- register
+
+-- a register weighs on its caller only
+pub register-leaves-others : (rows : List Row) (q : Request) (a h : ℕ) → (a ≡ q .account → ⊥)
+    → accountHour (rows ++ proposed q ∷ []) a h ≡ accountHour rows a h
+register-leaves-others rows q a h other =
+    let n : eqb (q .account) a ≡ false = ne-eqb _ _ (λ e. other (sym e)) in
+    hour-register rows q a h
+    ∙ rw (weight-of-others 1 a h (proposed q) n, weight-of-others 2 a h (proposed q) n, add-zero (pendingSales rows a h), add-zero (pendingPurchases rows a h))
+
+pub register-eases-others : (rows : List Row) (q : Request) (a h : ℕ) → (a ≡ q .account → ⊥)
+    → Eased (accountHour rows a h) (accountHour (rows ++ proposed q ∷ []) a h)
+register-eases-others rows q a h other = rw (register-leaves-others rows q a h other) (eased-refl (accountHour rows a h))
+
+-- a purchase that waits exposes no operator
+pub purchase-exposes-none : (u : Setup) (rows : List Row) (r : Row) (o : ℕ) → pending r ≡ true → (r .side ≡ 1 → ⊥)
+    → exposureWith u rows r o ≤ exposure u rows o
+unfolding takes
+purchase-exposes-none u rows r o waits buys =
+    no-more-exposure u (accountHour rows) (λ a h. takes a h (accountHour rows a h) r) o
+    (λ a h owns. rw (eqb-true (r .status) 1 waits, ne-eqb (r .side) 1 buys, and-false (covers h r && eqb (r .proposer) a)) (omega arith))
+
+-- ---- withdraw and close gate
+
+pub withdraw-eases : (rows : List Row) (n a h : ℕ) → pending (nth rows n noRow) ≡ true
+    → Eased (accountHour rows a h) (accountHour (mark n 3 rows) a h)
+withdraw-eases rows n a h e =
+    let b = moved-withdraw buyer a h rows n e in
+    let s = moved-withdraw seller a h rows n e in
+    let x = waiting-end 1 a h rows n 3 e refl in
+    let y = waiting-end 2 a h rows n 3 e refl in
+    record { low-no-lower = omega arith; high-no-higher = omega arith; no-more-exposed = omega arith }
+
+pub close-eases : (rows : List Row) (a h : ℕ) → Eased (accountHour rows a h) (accountHour (closed rows) a h)
+close-eases rows a h =
+    let b = moved-close buyer a h rows in
+    let s = moved-close seller a h rows in
+    let x = waiting-close 1 a h rows in
+    let y = waiting-close 2 a h rows in
+    record { low-no-lower = omega arith; high-no-higher = omega arith; no-more-exposed = omega arith }
+
+-- ---- confirm
+
+-- what the proposer comes to hold by a row is what it had pending
+share-of-proposer : (side a h : ℕ) (r : Row) (party : Row → ℕ) → party r ≡ r .proposer → r .side ≡ side
+    → share party a h r ≡ weight side a h r
+share-of-proposer side a h r party e d =
+    rw (e, eq-eqb (r .side) side d, and-true (covers h r && eqb (r .proposer) a))
+
+-- and the counterparty alone comes to hold the other side
+share-of-others : (a h : ℕ) (r : Row) (party : Row → ℕ) → party r ≡ r .counterparty → (a ≡ r .counterparty → ⊥)
+    → share party a h r ≡ 0
+share-of-others a h r party e other = rw (e, ne-eqb (r .counterparty) a (λ f. other (sym f)), and-false (covers h r))
+
+side-cases : (side : ℕ) → 1 ≤ side → side ≤ 2 → (side ≡ 1) ⊎ (side ≡ 2)
+side-cases side l m = go (eqb side 1) refl
+  where
+    go : (t : Bool) → eqb side 1 ≡ t → (side ≡ 1) ⊎ (side ≡ 2)
+    go true e = inl (eqb-true side 1 e)
+    go false e = inr (omega (arith, eqb-false side 1 e))
+
+-- a confirm eases all but the counterparty of the row, which calls it
+pub confirm-eases-others : (rows : List Row) (n a h : ℕ) → pending (nth rows n noRow) ≡ true
+    → 1 ≤ nth rows n noRow .side → nth rows n noRow .side ≤ 2 → (a ≡ nth rows n noRow .counterparty → ⊥)
+    → Eased (accountHour rows a h) (accountHour (mark n 2 rows) a h)
+confirm-eases-others rows n a h e l m other =
+    let r : Row = nth rows n noRow in
+    let b = moved-confirm buyer a h (λ status r. refl) rows n e in
+    let s = moved-confirm seller a h (λ status r. refl) rows n e in
+    let x = waiting-end 1 a h rows n 2 e refl in
+    let y = waiting-end 2 a h rows n 2 e refl in
+    ⊎-elim
+    (λ (sells : r .side ≡ 1).
+    let v = share-of-others a h r buyer (rw sells) other in
+    let w = share-of-proposer 1 a h r seller (rw sells) sells in
+    record { low-no-lower = omega arith; high-no-higher = omega arith; no-more-exposed = omega arith })
+    (λ (buys : r .side ≡ 2).
+    let v = share-of-others a h r seller (rw buys) other in
+    let w = share-of-proposer 2 a h r buyer (rw buys) buys in
+    record { low-no-lower = omega arith; high-no-higher = omega arith; no-more-exposed = omega arith })
+    (side-cases (r .side) l m)
+
+-- the key fact: a confirm eases the other party, the proposer, in each hour
+module _ (u : Setup) (rows : List Row) (n p h : ℕ)
+    (sound : SoundRow u (nth rows n noRow)) (waits : pending (nth rows n noRow) ≡ true) (proposes : nth rows n noRow .proposer ≡ p) where
+  eases-proposer : Eased (accountHour rows p h) (accountHour (mark n 2 rows) p h)
+  eases-proposer =
+      confirm-eases-others rows n p h waits (sound .side-low) (sound .side-high) (λ e. sound .two-accounts (proposes ∙ e))
+
+  -- its low is no lower and its high no higher
+  pub confirm-eases-proposer : (low (accountHour rows p h) ≤ℤ low (accountHour (mark n 2 rows) p h))
+      × (high (accountHour (mark n 2 rows) p h) ≤ℤ high (accountHour rows p h))
+  confirm-eases-proposer = (eased-low _ _ eases-proposer, eased-high _ _ eases-proposer)
+
+  -- it is exposed no more
+  pub confirm-eases-exposure : exposed (accountHour (mark n 2 rows) p h) ≤ exposed (accountHour rows p h)
+  confirm-eases-exposure = eases-proposer .no-more-exposed
+
+-- so no operator but the caller's is exposed more
+pub confirm-eases-operators : (u : Setup) (rows : List Row) (n o : ℕ) → SoundRow u (nth rows n noRow)
+    → pending (nth rows n noRow) ≡ true → (operatorOf u (nth rows n noRow .counterparty) ≡ o → ⊥)
+    → exposure u (mark n 2 rows) o ≤ exposure u rows o
+confirm-eases-operators u rows n o sound waits other =
+    eased-exposure u rows (mark n 2 rows) o
+    (λ a h owns. confirm-eases-others rows n a h waits (sound .side-low) (sound .side-high) (λ same. other (ap (operatorOf u) (sym same) ∙ owns)))
+
+-- nor is any where the row is a sale: what the proposer has pending turns into net, and the caller buys
+pub sale-eases-operators : (u : Setup) (rows : List Row) (n o : ℕ) → pending (nth rows n noRow) ≡ true → nth rows n noRow .side ≡ 1
+    → exposure u (mark n 2 rows) o ≤ exposure u rows o
+sale-eases-operators u rows n o waits sells =
+    no-more-exposure u (accountHour rows) (accountHour (mark n 2 rows)) o (λ a h owns.
+    let b = moved-confirm buyer a h (λ status r. refl) rows n waits in
+    let s = moved-confirm seller a h (λ status r. refl) rows n waits in
+    let x = waiting-end 1 a h rows n 2 waits refl in
+    let w = share-of-proposer 1 a h (nth rows n noRow) seller (rw sells) sells in
+    omega arith)
+
+share-of-neither : (a h : ℕ) (r : Row) (party : Row → ℕ) → (party r ≡ a → ⊥) → share party a h r ≡ 0
+share-of-neither a h r party other = rw (ne-eqb (party r) a other, and-false (covers h r))
+
+-- an account that is no party of the row holds what it held
+pub confirm-leaves-others : (rows : List Row) (n a h : ℕ) → pending (nth rows n noRow) ≡ true
+    → (nth rows n noRow .proposer ≡ a → ⊥) → (nth rows n noRow .counterparty ≡ a → ⊥)
+    → accountHour (mark n 2 rows) a h ≡ accountHour rows a h
+confirm-leaves-others rows n a h waits p c =
+    let r : Row = nth rows n noRow in
+    hour-confirm rows n a h waits (ne-eqb (r .proposer) a p)
+    ∙ rw (share-of-neither a h r buyer (go (eqb (r .side) 1) c p), share-of-neither a h r seller (go (eqb (r .side) 1) p c), add-zero (bought rows a h), add-zero (sold rows a h))
+  where
+    go : {x y : ℕ} (t : Bool) → (x ≡ a → ⊥) → (y ≡ a → ⊥) → (if t then x else y) ≡ a → ⊥
+    go true f g e = f e
+    go false f g e = g e

@@ -1,0 +1,103 @@
+-- Every call leaves a valid book valid: a refused one leaves the book, an accepted one passed the checks of its kind.
+use Prim.Native.Nat.{ℕ, _^_, _<_}
+use mathlib.Core.Path.{_≡_, refl, ap, _∙_}
+use mathlib.Core.Logic.{_⊎_, inl, inr}
+use mathlib.Core.List.{[], _∷_}
+use mathlib.Core.Option.{Option, none, some}
+use mathlib.Core.Bool.{true, false}
+use native.Mathlib.Omega.{arith}
+use Rattle.wire.specs.Numbers.{Bytes}
+use Rattle.rules.specs.declared.Request.{Request}
+use Rattle.rules.specs.Books.{Part, Book}
+use Rattle.rules.specs.Requests.{Kind, register, confirm, withdraw, guarantee, openBatch, undo, keep, closeGate, schedule, settle, kindNumber, requestOf}
+use Rattle.rules.specs.Calls.{Call, requestIn, kindIn, next, _∈_, inputChecks, stateChecks, step}
+use Rattle.rules.proofs.Checks.Clearing.{Clear}
+use Rattle.rules.proofs.Checks.Passed.{Passed, Kept, passed-kind, step-cases}
+use Rattle.rules.proofs.Records.Fields.{field-in-fits}
+use Rattle.image.specs.Valid.{follows, valid}
+use Rattle.image.proofs.Sound.SoundBooks.{SavedSound, SoundBook, sound, book-sound}
+use Rattle.image.proofs.Keeping.KeepsKinds.{register-keeps, confirm-keeps, withdraw-keeps, guarantee-keeps, open-keeps, undo-keeps, keep-keeps, close-keeps, schedule-keeps, settle-keeps}
+
+-- an accepted call of any kind keeps a book sound
+pub next-keeps : (k : Kind) (b : Book) (c : Call) (q : Request) → kindNumber k ≡ q .kind → q .code < 256 ^ 8 → SoundBook b
+    → Clear (inputChecks b c k q) → Clear (stateChecks b k q) → SoundBook (next k b q)
+next-keeps register b c q named code s input state = register-keeps b q s c named code input state
+next-keeps confirm b c q named code s input state = confirm-keeps b q s state
+next-keeps withdraw b c q named code s input state = withdraw-keeps b q s state
+next-keeps guarantee b c q named code s input state = guarantee-keeps b q s c named input state
+next-keeps openBatch b c q named code s input state = open-keeps b q s state
+next-keeps undo b c q named code s input state = undo-keeps b q s state
+next-keeps keep b c q named code s input state = keep-keeps b q s state
+next-keeps closeGate b c q named code s input state = close-keeps b q s state
+next-keeps schedule b c q named code s input state = schedule-keeps b q s c named input state
+next-keeps settle b c q named code s input state = settle-keeps b q s state
+
+-- the code of a record of bytes fits its 8
+code-fits : (c : Call) → Bytes (c .bytes) → requestIn c .code < 256 ^ 8
+unfolding requestOf
+code-fits c bytes = field-in-fits bytes 3
+
+keeps-go : (b : Book) (c : Call) → Bytes (c .bytes) → SoundBook b → Kept b c ⊎ Passed b c → SoundBook (step b c .book)
+keeps-go b c bytes s (inl w) = rw (w .book) s
+keeps-go b c bytes s (inr w) =
+    rw (w .book) (next-keeps (kindIn c) b c (requestIn c) (passed-kind w) (code-fits c bytes) s (w .input) (w .state))
+
+pub keeps-sound : (b : Book) (c : Call) → Bytes (c .bytes) → SoundBook b → SoundBook (step b c .book)
+keeps-sound b c bytes s = keeps-go b c bytes s (step-cases b c)
+
+-- every call, accepted or refused, leaves a valid book valid
+pub keeps-valid : (b : Book) (c : Call) → Bytes (c .bytes) → valid b ≡ true → valid (step b c .book) ≡ true
+keeps-valid b c bytes v = book-sound (step b c .book) (keeps-sound b c bytes (sound b v))
+
+-- ---- what no call changes
+
+next-setup : (k : Kind) (b : Book) (q : Request) → next k b q .setup ≡ b .setup
+unfolding next
+next-setup register b q = refl
+next-setup confirm b q = refl
+next-setup withdraw b q = refl
+next-setup guarantee b q = refl
+next-setup openBatch b q = refl
+next-setup undo b q = refl
+next-setup keep b q = refl
+next-setup closeGate b q = refl
+next-setup schedule b q = refl
+next-setup settle b q = refl
+
+setup-go : (b : Book) (c : Call) → Kept b c ⊎ Passed b c → step b c .book .setup ≡ b .setup
+setup-go b c (inl w) = ap (λ (x : Book). x .setup) (w .book)
+setup-go b c (inr w) = ap (λ (x : Book). x .setup) (w .book) ∙ next-setup (kindIn c) b (requestIn c)
+
+pub no-call-changes-setup : (b : Book) (c : Call) → step b c .book .setup ≡ b .setup
+no-call-changes-setup b c = setup-go b c (step-cases b c)
+
+-- no kind but open, undo and keep changes what is saved
+pub next-saved : (k : Kind) (b : Book) (q : Request) → k ∈ (openBatch ∷ undo ∷ keep ∷ []) ≡ false → next k b q .saved ≡ b .saved
+unfolding next
+next-saved register b q e = refl
+next-saved confirm b q e = refl
+next-saved withdraw b q e = refl
+next-saved guarantee b q e = refl
+next-saved openBatch b q e = cc
+next-saved undo b q e = cc
+next-saved keep b q e = cc
+next-saved closeGate b q e = refl
+next-saved schedule b q e = refl
+next-saved settle b q e = refl
+
+saved-go : (b : Book) (c : Call) → kindIn c ∈ (openBatch ∷ undo ∷ keep ∷ []) ≡ false → Kept b c ⊎ Passed b c
+    → step b c .book .saved ≡ b .saved
+saved-go b c e (inl w) = ap (λ (x : Book). x .saved) (w .book)
+saved-go b c e (inr w) = ap (λ (x : Book). x .saved) (w .book) ∙ next-saved (kindIn c) b (requestIn c) e
+
+pub batch-calls-alone-change-saved : (b : Book) (c : Call) → kindIn c ∈ (openBatch ∷ undo ∷ keep ∷ []) ≡ false
+    → step b c .book .saved ≡ b .saved
+batch-calls-alone-change-saved b c e = saved-go b c e (step-cases b c)
+
+-- while a batch is open the saved rows are the first of the present ones but for their status
+pub batch-follows : (b : Book) (p : Part) → valid b ≡ true → b .saved ≡ some p → follows (p .rows) (b .part .rows) ≡ true
+batch-follows b p v e = follows-go (b .saved) e (sound b v .saved-sound)
+  where
+    follows-go : (saved : Option Part) → saved ≡ some p → SavedSound (b .setup) (b .part .rows) saved → follows (p .rows) (b .part .rows) ≡ true
+    follows-go none e h = let z : _≡_ {A = ℕ} 0 1 = cc in absurd (omega arith)
+    follows-go (some old) e h = let same : old ≡ p = cc in rw (← same) (h .1)

@@ -1,0 +1,44 @@
+-- The book that bytes say, each field read at its own place: a section is what stands after those before it.
+use Prim.Native.Nat.{ℕ, _*_}
+use mathlib.Core.Path.{_≡_, ap, _∙_}
+use mathlib.Core.List.{List, [], map}
+use native.Mathlib.Omega.{arith}
+use lib.ListN.{getD, take, drop}
+use Rattle.wire.specs.Numbers.{number, numberAt}
+use Rattle.wire.specs.Parts.{cut, chunks, startOf}
+use Rattle.wire.proofs.NumberLaws.{number-at-one}
+use Rattle.wire.proofs.PartLaws.{cut-at}
+use Rattle.rules.specs.declared.Counts.{Counts}
+use Rattle.rules.specs.Limits.{mostSchedules}
+use Rattle.rules.specs.Books.{Book, operatorCount}
+use Rattle.rules.specs.Opening.{countsIn, setupOf}
+use Rattle.rules.proofs.Setups.SetupEntries.{counts-of-setup}
+use Rattle.image.specs.Layout.{setupRoom, scheduleWidth, partSize, bookWidths, phaseAt, flagAt, scheduleCountAt, schedulesAt, presentAt, savedAt}
+use Rattle.image.specs.Image.{scheduleIn, savedIn, bookOf, decode}
+use Rattle.image.specs.Cells.{partAt}
+use Rattle.image.proofs.Setups.SetupAgain.{counts-first-bytes}
+
+-- each field at its place
+abbrev pub bookAt : ℕ → List ℕ → Book
+bookAt top s =
+    record {
+      setup = setupOf (take setupRoom s);
+      phase = getD s phaseAt 0;
+      part = partAt top (countsIn s .operators) s presentAt;
+      schedules = map scheduleIn (chunks scheduleWidth (numberAt s scheduleCountAt 2) (take (scheduleWidth * mostSchedules) (drop schedulesAt s)));
+      saved = savedIn (getD s flagAt 0) top (countsIn s .operators) (take (partSize top) (drop (savedAt top) s));
+    }
+
+-- the counts stand at the front
+pub counts-at : (s : List ℕ) → operatorCount (setupOf (take setupRoom s)) ≡ countsIn s .operators
+counts-at s = ap (λ (c : Counts). c .operators) (counts-of-setup (take setupRoom s) ∙ counts-first-bytes setupRoom s (omega arith))
+
+pub decode-places : (top size : ℕ) (s : List ℕ) → decode top size s ≡ bookAt top s
+unfolding decode bookOf numberAt
+decode-places top size s =
+    let ws : List ℕ = bookWidths top size in
+    let at : startOf ws 6 ≡ savedAt top = omega arith in
+    let phase : number (getD (cut ws s) 1 []) ≡ getD s phaseAt 0 = ap number (cut-at ws s 1) ∙ number-at-one s phaseAt in
+    let flag : number (getD (cut ws s) 2 []) ≡ getD s flagAt 0 = ap number (cut-at ws s 2) ∙ number-at-one s flagAt in
+    let saved : getD (cut ws s) 6 [] ≡ take (partSize top) (drop (savedAt top) s) = cut-at ws s 6 ∙ ap (λ (k : ℕ). take (partSize top) (drop k s)) at in
+    rw (phase, flag, cut-at ws s 0, cut-at ws s 3, cut-at ws s 4, cut-at ws s 5, saved, counts-at s)

@@ -1,0 +1,142 @@
+-- What the tests of a sound part and of a valid book say, each by its name, and that they say no more.
+use Prim.Native.Nat.{ℕ, _≤_}
+use mathlib.Core.Path.{_≡_, refl}
+use mathlib.Core.List.{List}
+use mathlib.Core.Option.{Option, none, some}
+use mathlib.Core.Bool.{true, false, not}
+use lib.ListN.{length}
+use lib.Dec.{eqb}
+use borrow.Author.Tests.{eqb-true, eqb-false, leb-true, eq-eqb, ne-eqb, le-leb, not-false, not-true}
+use Rattle.rules.specs.declared.Row.{Row}
+use Rattle.rules.specs.Basics.{any, Each}
+use Rattle.rules.specs.Limits.{mostGuarantee, mostRows, mostSchedules}
+use Rattle.rules.specs.Books.{Setup, Part, Book, accountAt, operatorCount, accountCount}
+use Rattle.rules.specs.Registration.{pending, accountHour, keepsMargins, covered}
+use Rattle.rules.proofs.Basics.Tests.{and-both, within-true}
+use Rattle.rules.proofs.Basics.Searches.{every-each, each-every, each-map}
+use Rattle.image.specs.Valid.{rowOk, noTwins, marginsKept, guaranteesKept, partTests, partOk, follows, savedOk, bookTests, valid}
+use Rattle.image.proofs.Sound.Soundness.{all-holds, holds-all, or-else, or-by, every-upTo, upTo-every, SoundSetup, sound-setup, setup-sound, not-some, SoundRow, sound-row, row-sound, SoundSchedule, sound-schedule, schedule-sound}
+
+-- ---- a part
+
+pub record SoundPart (u : Setup) (p : Part) : Type 0 where
+  pub guarantees-all : length (p .guarantees) ≡ operatorCount u
+  pub guarantees-high : Each (λ g. g .0 ≤ mostGuarantee) (p .guarantees)
+  pub rows-high : length (p .rows) ≤ mostRows
+  pub rows-sound : Each (SoundRow u) (p .rows)
+  pub no-twins : noTwins (p .rows) ≡ true
+  pub keeps-margins : (a h : ℕ) → 1 ≤ a → a ≤ accountCount u → 1 ≤ h → h ≤ u .hours
+      → keepsMargins (accountAt u a) (accountHour (p .rows) a h) ≡ true
+  pub is-covered : (o : ℕ) → 1 ≤ o → o ≤ operatorCount u → covered u p o ≡ true
+
+pub sound-part : (u : Setup) (p : Part) → partOk u p ≡ true → SoundPart u p
+unfolding partOk marginsKept guaranteesKept
+sound-part u p h =
+    let t = all-holds (partTests u p) h in
+    record {
+      guarantees-all = eqb-true _ _ (t .0);
+      guarantees-high = each-map (λ g e. leb-true (g .0) mostGuarantee e) (every-each _ (p .guarantees) (t .1 .0));
+      rows-high = leb-true _ _ (t .1 .1 .0);
+      rows-sound = each-map (sound-row u) (every-each (rowOk u) (p .rows) (t .1 .1 .1 .0));
+      no-twins = t .1 .1 .1 .1 .0;
+      keeps-margins = λ a h al ah hl hh. every-upTo _ (u .hours) (every-upTo _ (accountCount u) (t .1 .1 .1 .1 .1 .0) a al ah) h hl hh;
+      is-covered = every-upTo (covered u p) (operatorCount u) (t .1 .1 .1 .1 .1 .1 .0);
+    }
+
+pub part-sound : (u : Setup) (p : Part) → SoundPart u p → partOk u p ≡ true
+unfolding partOk marginsKept guaranteesKept
+part-sound u p s =
+    holds-all (partTests u p) (
+      eq-eqb _ _ (s .guarantees-all),
+      (
+        each-every _ (each-map (λ g e. le-leb (g .0) mostGuarantee e) (s .guarantees-high)),
+        (
+          le-leb _ _ (s .rows-high),
+          (
+            each-every (rowOk u) (each-map (row-sound u) (s .rows-sound)),
+            (
+              s .no-twins,
+              (
+                upTo-every _ (accountCount u) (λ a al ah. upTo-every _ (u .hours) (λ h hl hh. s .keeps-margins a h al ah hl hh)),
+                (upTo-every (covered u p) (operatorCount u) (s .is-covered), tt),
+              ),
+            ),
+          ),
+        ),
+      ),
+    )
+
+-- ---- a book
+
+abbrev pub SavedSound : Setup → List Row → Option Part → Type 0
+SavedSound u rows none = Unit {0}
+SavedSound u rows (some p) = SoundPart u p × (follows (p .rows) rows ≡ true)
+
+pub record SoundBook (b : Book) : Type 0 where
+  pub setup-sound : SoundSetup (b .setup)
+  pub phase-low : 1 ≤ b .phase
+  pub phase-high : b .phase ≤ 3
+  pub part-sound : SoundPart (b .setup) (b .part)
+  pub saved-sound : SavedSound (b .setup) (b .part .rows) (b .saved)
+  pub schedules-high : length (b .schedules) ≤ mostSchedules
+  pub schedules-sound : Each (SoundSchedule (b .setup)) (b .schedules)
+  pub none-pending : (b .phase ≡ 1 → ⊥) → any pending (b .part .rows) ≡ false
+  pub no-schedules : b .phase ≡ 1 → length (b .schedules) ≡ 0
+  pub no-batch : (b .phase ≡ 1 → ⊥) → b .saved ≡ none
+
+sound-saved : (u : Setup) (rows : List Row) (o : Option Part) → savedOk u rows o ≡ true → SavedSound u rows o
+unfolding savedOk
+sound-saved u rows none h = tt
+sound-saved u rows (some p) h = let w = and-both (partOk u p) (follows (p .rows) rows) .0 h in (sound-part u p (w .0), w .1)
+
+saved-sound : (u : Setup) (rows : List Row) (o : Option Part) → SavedSound u rows o → savedOk u rows o ≡ true
+unfolding savedOk
+saved-sound u rows none h = refl
+saved-sound u rows (some p) h = and-both (partOk u p) (follows (p .rows) rows) .1 (part-sound u p (h .0), h .1)
+
+pub sound : (b : Book) → valid b ≡ true → SoundBook b
+unfolding valid
+sound b h =
+    let t = all-holds (bookTests b) h in
+    let f = within-true 1 (b .phase) 3 .0 (t .1 .0) in
+    record {
+      setup-sound = sound-setup (b .setup) (t .0);
+      phase-low = f .0;
+      phase-high = f .1;
+      part-sound = sound-part (b .setup) (b .part) (t .1 .1 .0);
+      saved-sound = sound-saved (b .setup) (b .part .rows) (b .saved) (t .1 .1 .1 .0);
+      schedules-high = leb-true _ _ (t .1 .1 .1 .1 .0);
+      schedules-sound = each-map (sound-schedule (b .setup)) (every-each _ (b .schedules) (t .1 .1 .1 .1 .1 .0));
+      none-pending = λ n. not-true _ (or-else _ _ (t .1 .1 .1 .1 .1 .1 .0) (ne-eqb _ _ n));
+      no-schedules = λ e. eqb-true _ _ (or-else (not (eqb (b .phase) 1)) _ (t .1 .1 .1 .1 .1 .1 .1 .0) (rw (eq-eqb (b .phase) 1 e)));
+      no-batch = λ n. not-some _ (or-else _ _ (t .1 .1 .1 .1 .1 .1 .1 .1 .0) (ne-eqb _ _ n));
+    }
+
+pub book-sound : (b : Book) → SoundBook b → valid b ≡ true
+unfolding valid
+book-sound b s =
+    holds-all (bookTests b) (
+      setup-sound (b .setup) (s .setup-sound),
+      (
+        within-true 1 (b .phase) 3 .1 (s .phase-low, s .phase-high),
+        (
+          part-sound (b .setup) (b .part) (s .part-sound),
+          (
+            saved-sound (b .setup) (b .part .rows) (b .saved) (s .saved-sound),
+            (
+              le-leb _ _ (s .schedules-high),
+              (
+                each-every _ (each-map (schedule-sound (b .setup)) (s .schedules-sound)),
+                (
+                  or-by _ _ (λ e. rw (s .none-pending (eqb-false _ _ e))),
+                  (
+                    or-by _ _ (λ e. eq-eqb _ _ (s .no-schedules (eqb-true _ _ (not-false _ e)))),
+                    (or-by _ _ (λ e. rw (s .no-batch (eqb-false _ _ e))), tt),
+                  ),
+                ),
+              ),
+            ),
+          ),
+        ),
+      ),
+    )

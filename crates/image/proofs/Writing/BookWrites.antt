@@ -1,0 +1,271 @@
+-- What an accepted call writes: bytes of the image replaced, copied or looped over are the image of the next book. Each write lies in
+-- one section, and the others stand.
+use Prim.Native.Nat.{ℕ, suc, _+_, _-_, _*_, _^_, _≤_, _<_}
+use mathlib.Core.Path.{_≡_, refl, ap, _∙_}
+use mathlib.Core.List.{List, [], _∷_, _++_}
+use mathlib.Core.Option.{some}
+use mathlib.Core.Bool.{true}
+use native.Mathlib.Omega.{arith}
+use lib.ListN.{length, set, drop, length-append, length-drop}
+use Rattle.wire.specs.Numbers.{le}
+use Rattle.wire.specs.Regions.{splice, pasted}
+use Rattle.wire.specs.Parts.{zeros, flat, slots, sweep}
+use Rattle.wire.proofs.NumberLaws.{length-le}
+use Rattle.wire.proofs.RegionLaws.{length-splice, pasted-splice}
+use Rattle.wire.proofs.ZeroLaws.{length-zeros}
+use Rattle.wire.proofs.PartLaws.{write-part, write-whole, read-whole, wide-set}
+use Rattle.wire.proofs.SlotLaws.{length-slots, slots-snoc}
+use Rattle.wire.proofs.SweepLaws.{sweep-part, length-sweep}
+use Rattle.rules.specs.declared.Row.{Row}
+use Rattle.rules.specs.declared.Schedule.{Schedule}
+use Rattle.rules.specs.declared.Request.{Request}
+use Rattle.rules.specs.Basics.{nth, Each}
+use Rattle.rules.specs.Limits.{mostRows, mostSchedules}
+use Rattle.rules.specs.Books.{Part, Book, noRow}
+use Rattle.rules.specs.Requests.{register, confirm, withdraw, guarantee, openBatch, undo, keep, closeGate, schedule, settle}
+use Rattle.rules.specs.Registration.{pending, seller, buyer, closed, proposed}
+use Rattle.rules.specs.Calls.{withRows, withBatch, withPhase, confirmedNumber, restored, scheduled, next}
+use Rattle.rules.proofs.Rows.RowChanges.{length-closed}
+use Rattle.rules.proofs.Rows.AccountHours.{pending-inside}
+use Rattle.image.specs.Layout.{rowWidth, scheduleWidth, partSize, usedSize, bookWidths, phaseAt, flagAt, scheduleCountAt, schedulesAt, presentAt, savedAt, guaranteesAt, rowCountAt, rowAt, netAt, statusIn}
+use Rattle.image.specs.Image.{rowBytes, scheduleBytes, partBytes, savedBytes, sectionsWith, sections, image}
+use Rattle.image.specs.Changes.{raised, ended}
+use Rattle.image.proofs.Writing.Sizes.{RowFits, Fits, length-row, length-schedule, length-part, length-saved, wide-with, wide-book, length-image}
+use Rattle.image.proofs.Writing.Nets.{length-raised, nets-end, party-fits}
+use Rattle.image.proofs.Writing.Writes.{length-ended, part-register, part-withdraw, part-confirm, part-guarantee, part-close}
+
+-- the phase replaced
+write-phase : (top size : ℕ) (b : Book) → Fits b → (phase : ℕ) → splice (image top size b) phaseAt (le 1 phase) ≡ image top size (withPhase b phase)
+unfolding image sections sectionsWith
+write-phase top size b f phase =
+    write-whole (bookWidths top size) (sections top size b) (wide-book top size b f) 1 phaseAt (le 1 phase) (omega arith) (length-le 1 phase) (omega arith)
+
+-- the image with these bytes for the present part
+unfoldable framed : ℕ → ℕ → Book → List ℕ → List ℕ
+framed top size b x = flat (sectionsWith top size b x)
+
+module _ (top size : ℕ) (b : Book) (f : Fits b) where
+  -- ---- the present part
+
+  framed-image : image top size b ≡ framed top size b (partBytes top (b .part))
+  unfolding image sections framed
+  framed-image = refl
+
+  image-framed : (p : Part) → framed top size b (partBytes top p) ≡ image top size (withBatch b p (b .saved))
+  unfolding image sections sectionsWith framed
+  image-framed p = refl
+
+  framed-splice : (x : List ℕ) (j at : ℕ) (y : List ℕ) → length x ≡ partSize top → j + length y ≤ partSize top → at ≡ presentAt + j
+      → splice (framed top size b x) at y ≡ framed top size b (splice x j y)
+  unfolding framed sectionsWith
+  framed-splice x j at y h l e =
+      write-part (bookWidths top size) (sectionsWith top size b x) (wide-with top size b x f h) 5 j at y (omega arith) l (omega arith)
+
+  framed-sweep : (x : List ℕ) (g : List ℕ → List ℕ) (w : ℕ) → ((c : List ℕ) → length c ≡ w → length (g c) ≡ w)
+      → (j n at : ℕ) → length x ≡ partSize top → j + w * n ≤ partSize top → at ≡ presentAt + j
+      → sweep g w (framed top size b x) at n ≡ framed top size b (sweep g w x j n)
+  unfolding framed sectionsWith
+  framed-sweep x g w k j n at h l e =
+      sweep-part g w k (bookWidths top size) (sectionsWith top size b x) (wide-with top size b x f h) 5 j n at (omega arith) l (omega arith)
+
+  -- ---- 1 register: the row and the count
+
+  pub write-register : (q : Request) (n at : ℕ) → n ≡ length (b .part .rows) → n < mostRows → at ≡ presentAt + rowAt n
+      → splice (splice (image top size b) at (rowBytes (proposed q))) (presentAt + rowCountAt) (le 2 (n + 1))
+      ≡ image top size (next register b q)
+  unfolding next
+  write-register q n at e h a =
+      let p : Part = b .part in
+      let x : List ℕ = partBytes top p in
+      let r : List ℕ = rowBytes (proposed q) in
+      let lr = length-row (proposed q) in
+      let l : length x ≡ partSize top = length-part top p (f .part-fits) in
+      let y : List ℕ = splice x (rowAt n) r in
+      let ly : length y ≡ partSize top = length-splice x (rowAt n) r (omega arith) ∙ l in
+      let one = framed-splice x (rowAt n) at r l (omega arith) a in
+      let two = framed-splice y rowCountAt (presentAt + rowCountAt) (le 2 (n + 1)) ly (omega (arith, length-le 2 (n + 1))) refl in
+      ap (λ (s : List ℕ). splice (splice s at r) (presentAt + rowCountAt) (le 2 (n + 1))) framed-image
+      ∙ ap (λ (s : List ℕ). splice s (presentAt + rowCountAt) (le 2 (n + 1))) one
+      ∙ two
+      ∙ ap (framed top size b) (part-register top p (f .part-fits) q n (rowAt n) e h refl)
+      ∙ image-framed _
+
+  -- ---- 2 confirm: the row's status, then the hours of its seller, then those of its buyer
+
+  pub write-confirm : (q : Request) (i n at low high : ℕ) (r : Row) → confirmedNumber b q ≡ suc i
+      → r ≡ nth (b .part .rows) (confirmedNumber b q) noRow → pending r ≡ true → RowFits top r → r .first + n ≡ suc (r .last)
+      → at ≡ presentAt + rowAt i + statusIn
+      → low ≡ presentAt + netAt top (seller r) (r .first) → high ≡ presentAt + netAt top (buyer r) (r .first)
+      → sweep (raised 4 (r .quantity .0)) 4 (sweep (raised 4 (256 ^ 4 - r .quantity .0)) 4 (splice (image top size b) at (le 1 2)) low n) high n
+      ≡ image top size (next confirm b q)
+  unfolding next
+  write-confirm q i n at low high r e er pend fit count a el eh =
+      let p : Part = b .part in
+      let inside = pending-inside (p .rows) (confirmedNumber b q) (rw (← er) pend) in
+      let rf = f .part-fits .rows-fit in
+      let l2 = length-le 1 2 in
+      let x : List ℕ = partBytes top p in
+      let l : length x ≡ partSize top = length-part top p (f .part-fits) in
+      let down : List ℕ → List ℕ = raised 4 (256 ^ 4 - r .quantity .0) in
+      let up : List ℕ → List ℕ = raised 4 (r .quantity .0) in
+      let both = party-fits top r fit in
+      let fl = fit .first-low in
+      let lh = fit .last-high in
+      let jl : ℕ = netAt top (seller r) (r .first) in
+      let jh : ℕ = netAt top (buyer r) (r .first) in
+      let hl = nets-end top (seller r) (r .first) n (both .0 .0) (both .0 .1) fl (omega arith) in
+      let hh = nets-end top (buyer r) (r .first) n (both .1 .0) (both .1 .1) fl (omega arith) in
+      let x1 : List ℕ = splice x (rowAt i + statusIn) (le 1 2) in
+      let l1 : length x1 ≡ partSize top = length-splice x (rowAt i + statusIn) (le 1 2) (omega arith) ∙ l in
+      let x2 : List ℕ = sweep down 4 x1 jl n in
+      let l2 : length x2 ≡ partSize top = length-sweep down 4 (length-raised 4 _) n x1 jl (omega arith) ∙ l1 in
+      let one = framed-splice x (rowAt i + statusIn) at (le 1 2) l (omega (arith, length-le 1 2)) (omega arith) in
+      let two = framed-sweep x1 down 4 (length-raised 4 _) jl n low l1 (omega arith) el in
+      let three = framed-sweep x2 up 4 (length-raised 4 _) jh n high l2 (omega arith) eh in
+      ap (λ (s : List ℕ). sweep up 4 (sweep down 4 (splice s at (le 1 2)) low n) high n) framed-image
+      ∙ ap (λ (s : List ℕ). sweep up 4 (sweep down 4 s low n) high n) one
+      ∙ ap (λ (s : List ℕ). sweep up 4 s high n) two
+      ∙ three
+      ∙ ap (framed top size b) (part-confirm top p (f .part-fits) (confirmedNumber b q) i n (rowAt i + statusIn) jl jh r e er pend fit count refl refl refl)
+      ∙ image-framed _
+
+  -- ---- 3 withdraw: the row's status
+
+  pub write-withdraw : (q : Request) (i at : ℕ) → q .number ≡ suc i → pending (nth (b .part .rows) (q .number) noRow) ≡ true
+      → at ≡ presentAt + rowAt i + statusIn
+      → splice (image top size b) at (le 1 3) ≡ image top size (next withdraw b q)
+  unfolding next
+  write-withdraw q i at e pend a =
+      let p : Part = b .part in
+      let inside = pending-inside (p .rows) (q .number) pend in
+      let rf = f .part-fits .rows-fit in
+      ap (λ (s : List ℕ). splice s at (le 1 3)) framed-image
+      ∙ framed-splice (partBytes top p) (rowAt i + statusIn) at (le 1 3) (length-part top p (f .part-fits)) (omega (arith, length-le 1 3)) (omega arith)
+      ∙ ap (framed top size b) (part-withdraw top p (f .part-fits) (q .number) i (rowAt i + statusIn) e pend refl)
+      ∙ image-framed _
+
+  -- ---- 4 guarantee
+
+  pub write-guarantee : (q : Request) (i at : ℕ) → q .operator ≡ suc i → q .operator ≤ length (b .part .guarantees)
+      → at ≡ presentAt + guaranteesAt + 8 * i
+      → splice (image top size b) at (le 8 (q .guarantee .0)) ≡ image top size (next guarantee b q)
+  unfolding next
+  write-guarantee q i at e h a =
+      let p : Part = b .part in
+      let gf = f .part-fits .guarantees-fit in
+      let g : List ℕ = le 8 (q .guarantee .0) in
+      ap (λ (s : List ℕ). splice s at g) framed-image
+      ∙ framed-splice (partBytes top p) (8 * i) at g (length-part top p (f .part-fits)) (omega (arith, length-le 8 (q .guarantee .0))) (omega arith)
+      ∙ ap (framed top size b) (part-guarantee top p (f .part-fits) (q .operator) i (8 * i) (q .guarantee) e h refl)
+      ∙ image-framed _
+
+  -- ---- 5 open a batch: the present part copied over the saved one, then the flag
+
+  pub write-open : (q : Request) → usedSize top ≤ size
+      → splice (pasted (image top size b) (savedAt top) (drop presentAt (image top size b)) (partSize top)) flagAt (le 1 1)
+      ≡ image top size (next openBatch b q)
+  unfolding next image sections sectionsWith savedBytes
+  write-open q g =
+      let ws : List ℕ = bookWidths top size in
+      let ss : List (List ℕ) = sections top size b in
+      let w = wide-book top size b f in
+      let y : List ℕ = partBytes top (b .part) in
+      let ly : length y ≡ partSize top = length-part top (b .part) (f .part-fits) in
+      let l : length (flat ss) ≡ size = length-image top size b f g in
+      let copy = pasted-splice (flat ss) (savedAt top) (drop presentAt (flat ss)) (partSize top) (omega (arith, length-drop presentAt (flat ss))) in
+      let read = read-whole ws ss w 5 presentAt (partSize top) (omega arith) refl (omega arith) in
+      let one = write-whole ws ss w 6 (savedAt top) y (omega arith) ly (omega arith) in
+      let two = write-whole ws (set ss 6 y) (wide-set ws ss 6 y w ly) 2 flagAt (le 1 1) (omega arith) (length-le 1 1) (omega arith) in
+      ap (λ (s : List ℕ). splice s flagAt (le 1 1)) (copy ∙ ap (splice (flat ss) (savedAt top)) read ∙ one) ∙ two
+
+  -- ---- 6 undo: the saved part copied over the present one and cleared, then the flag
+
+  pub write-undo : (q : Request) (p : Part) → usedSize top ≤ size → b .saved ≡ some p
+      → splice (splice (pasted (image top size b) presentAt (drop (savedAt top) (image top size b)) (partSize top)) (savedAt top) (zeros (partSize top))) flagAt (le 1 0)
+      ≡ image top size (next undo b q)
+  unfolding next image sections sectionsWith savedBytes
+  write-undo q p g e =
+      let ws : List ℕ = bookWidths top size in
+      let ss : List (List ℕ) = sections top size b in
+      let w = wide-book top size b f in
+      let y : List ℕ = savedBytes top (b .saved) in
+      let ly : length y ≡ partSize top = length-saved top (b .saved) (f .saved-fits) in
+      let z : List ℕ = zeros (partSize top) in
+      let lz : length z ≡ partSize top = length-zeros (partSize top) in
+      let l : length (flat ss) ≡ size = length-image top size b f g in
+      let copy = pasted-splice (flat ss) presentAt (drop (savedAt top) (flat ss)) (partSize top) (omega (arith, length-drop (savedAt top) (flat ss))) in
+      let read = read-whole ws ss w 6 (savedAt top) (partSize top) (omega arith) refl (omega arith) in
+      let one = write-whole ws ss w 5 presentAt y (omega arith) ly (omega arith) in
+      let w1 = wide-set ws ss 5 y w ly in
+      let two = write-whole ws (set ss 5 y) w1 6 (savedAt top) z (omega arith) lz (omega arith) in
+      let w2 = wide-set ws (set ss 5 y) 6 z w1 lz in
+      let three = write-whole ws (set (set ss 5 y) 6 z) w2 2 flagAt (le 1 0) (omega arith) (length-le 1 0) (omega arith) in
+      let back : y ≡ partBytes top (restored (b .saved) (b .part)) = rw e in
+      ap (λ (s : List ℕ). splice (splice s (savedAt top) z) flagAt (le 1 0)) (copy ∙ ap (splice (flat ss) presentAt) read ∙ one)
+      ∙ ap (λ (s : List ℕ). splice s flagAt (le 1 0)) two
+      ∙ three
+      ∙ rw back
+
+  -- ---- 7 keep: the saved part cleared, then the flag
+
+  pub write-keep : (q : Request)
+      → splice (splice (image top size b) (savedAt top) (zeros (partSize top))) flagAt (le 1 0) ≡ image top size (next keep b q)
+  unfolding next image sections sectionsWith savedBytes
+  write-keep q =
+      let ws : List ℕ = bookWidths top size in
+      let ss : List (List ℕ) = sections top size b in
+      let w = wide-book top size b f in
+      let z : List ℕ = zeros (partSize top) in
+      let lz : length z ≡ partSize top = length-zeros (partSize top) in
+      let one = write-whole ws ss w 6 (savedAt top) z (omega arith) lz (omega arith) in
+      let two = write-whole ws (set ss 6 z) (wide-set ws ss 6 z w lz) 2 flagAt (le 1 0) (omega arith) (length-le 1 0) (omega arith) in
+      ap (λ (s : List ℕ). splice s flagAt (le 1 0)) one ∙ two
+
+  -- ---- 8 close gate: a loop over the rows, then the phase
+
+  pub write-close : (q : Request) (n at : ℕ) → n ≡ length (b .part .rows) → Each (λ r. r .status < 256) (b .part .rows)
+      → at ≡ presentAt + rowAt 0
+      → splice (sweep ended rowWidth (image top size b) at n) phaseAt (le 1 2) ≡ image top size (next closeGate b q)
+  unfolding next
+  write-close q n at e small a =
+      let p : Part = b .part in
+      let rf = f .part-fits .rows-fit in
+      let after : Fits (withRows b (closed (p .rows))) =
+      record {
+        setup-fits = f .setup-fits;
+        schedules-fit = f .schedules-fit;
+        part-fits =
+            record { guarantees-fit = f .part-fits .guarantees-fit; rows-fit = omega (arith, length-closed (p .rows)) };
+        saved-fits = f .saved-fits;
+      } in
+      let loop = framed-sweep (partBytes top p) ended rowWidth length-ended (rowAt 0) n at (length-part top p (f .part-fits)) (omega arith) a in
+      ap (λ (s : List ℕ). splice (sweep ended rowWidth s at n) phaseAt (le 1 2)) framed-image
+      ∙ ap (λ (s : List ℕ). splice s phaseAt (le 1 2)) (loop
+      ∙ ap (framed top size b) (part-close top p (f .part-fits) n (rowAt 0) e small refl)
+      ∙ image-framed (record { guarantees = p .guarantees; rows = closed (p .rows) }))
+      ∙ write-phase top size (withRows b (closed (p .rows))) after 2
+
+  -- ---- 9 schedule: the schedule and the count
+
+  pub write-schedule : (q : Request) (n at : ℕ) → n ≡ length (b .schedules) → n < mostSchedules → at ≡ schedulesAt + scheduleWidth * n
+      → splice (splice (image top size b) at (scheduleBytes (scheduled q))) scheduleCountAt (le 2 (n + 1)) ≡ image top size (next schedule b q)
+  unfolding next image sections sectionsWith
+  write-schedule q n at e h a =
+      let x : Schedule = scheduled q in
+      let xs : List Schedule = b .schedules ++ x ∷ [] in
+      let ws : List ℕ = bookWidths top size in
+      let ss : List (List ℕ) = sections top size b in
+      let w = wide-book top size b f in
+      let m : length xs ≡ n + 1 = length-append (b .schedules) (x ∷ []) ∙ omega arith in
+      let y : List ℕ = slots scheduleWidth mostSchedules scheduleBytes xs in
+      let ly : length y ≡ scheduleWidth * mostSchedules = length-slots scheduleWidth mostSchedules scheduleBytes length-schedule xs (omega arith) in
+      let more = slots-snoc scheduleWidth mostSchedules scheduleBytes length-schedule (b .schedules) (scheduleWidth * n) x (omega arith) (omega arith) in
+      let one = write-part ws ss w 4 (scheduleWidth * n) at (scheduleBytes x) (omega arith) (omega (arith, length-schedule x)) (omega arith) in
+      let two = write-whole ws (set ss 4 y) (wide-set ws ss 4 y w ly) 3 scheduleCountAt (le 2 (n + 1)) (omega arith) (length-le 2 _) (omega arith) in
+      ap (λ (s : List ℕ). splice s scheduleCountAt (le 2 (n + 1))) (one ∙ rw more) ∙ two ∙ rw m
+
+  -- ---- 10 settle: the phase
+
+  pub write-settle : (q : Request) → splice (image top size b) phaseAt (le 1 3) ≡ image top size (next settle b q)
+  unfolding next
+  write-settle q = write-phase top size b f 3

@@ -1,0 +1,147 @@
+-- What a search over a list says of its elements, by recursion on the list and cases on the test of its first element.
+use Prim.Native.Nat.{ℕ, zero, suc, _+_, _-_, _≤_, _<_}
+use mathlib.Core.Path.{_≡_, refl, ap, _∙_}
+use mathlib.Core.List.{List, [], _∷_, _++_, map}
+use mathlib.Core.Option.{Option, none, some}
+use mathlib.Core.Bool.{Bool, true, false}
+use native.Mathlib.Omega.{arith}
+use lib.ListN.{length, getD}
+use Rattle.rules.proofs.Basics.Tests.{and-both}
+use Rattle.rules.specs.Basics.{any, every, find, indexOf, isSome, nth, counting, Each, nil, cons}
+
+-- an option that holds something
+pub some-of {ℓ} : {A : Type ℓ} (o : Option A) → isSome o ≡ true → (x : A) × (o ≡ some x)
+some-of none e = let z : _≡_ {A = ℕ} 0 1 = cc in absurd (omega arith)
+some-of (some x) e = (x, refl)
+
+pub none-of {ℓ} : {A : Type ℓ} (o : Option A) → isSome o ≡ false → o ≡ none
+none-of none e = refl
+none-of (some x) e = let z : _≡_ {A = ℕ} 0 1 = cc in absurd (omega arith)
+
+-- the numbers counted, by index
+pub counting-at : (n from d i : ℕ) → i < n → getD (counting n from) i d ≡ from + i
+unfolding counting
+counting-at zero from d i h = absurd (omega arith)
+counting-at (suc n) from d zero h = omega arith
+counting-at (suc n) from d (suc i) h = counting-at n (suc from) d i (omega arith) ∙ omega arith
+
+pub counting-length : (n from : ℕ) → length (counting n from) ≡ n
+unfolding counting
+counting-length zero from = refl
+counting-length (suc n) from = ap suc (counting-length n (suc from))
+
+-- what each element has, the element at an index has
+pub each-at {ℓ κ} : {A : Type ℓ} {P : A → Type κ} {xs : List A} (d : A) (i : ℕ) → Each P xs → i < length xs → P (getD xs i d)
+each-at d i nil h = absurd (omega arith)
+each-at d zero (cons p e) h = p
+each-at d (suc i) (cons p e) h = each-at d i e (omega arith)
+
+-- the same counted from 1
+pub each-nth {ℓ κ} : {A : Type ℓ} {P : A → Type κ} {xs : List A} (d : A) (n : ℕ) → Each P xs → 1 ≤ n → n ≤ length xs → P (nth xs n d)
+each-nth d zero e l h = absurd (omega arith)
+each-nth d (suc i) e l h = each-at d i e (omega arith)
+
+-- one element more
+pub each-snoc {ℓ κ} : {A : Type ℓ} {P : A → Type κ} {xs : List A} {x : A} → Each P xs → P x → Each P (xs ++ x ∷ [])
+each-snoc nil p = cons p nil
+each-snoc (cons q e) p = cons q (each-snoc e p)
+
+-- each element changed
+pub each-mapped {ℓ κ} : {A : Type ℓ} {P : A → Type κ} {xs : List A} (f : A → A) → ((x : A) → P x → P (f x)) → Each P xs → Each P (map f xs)
+each-mapped f h nil = nil
+each-mapped f h (cons {x = x} q e) = cons (h x q) (each-mapped f h e)
+
+-- what follows for each element
+pub each-map {ℓ κ μ} : {A : Type ℓ} {P : A → Type κ} {Q : A → Type μ} {xs : List A} → ((x : A) → P x → Q x) → Each P xs → Each Q xs
+each-map f nil = nil
+each-map f (cons {x = x} p e) = cons (f x p) (each-map f e)
+
+-- what follows for each element from two facts
+pub each-both {ℓ κ μ ν} : {A : Type ℓ} {P : A → Type κ} {Q : A → Type μ} {R : A → Type ν} {xs : List A} → ((x : A) → P x → Q x → R x) → Each P xs → Each Q xs → Each R xs
+each-both f nil nil = nil
+each-both f (cons {x = x} p e) (cons q d) = cons (f x p q) (each-both f e d)
+
+-- what everything has, each element has
+pub each-any {ℓ κ} : {A : Type ℓ} {P : A → Type κ} (xs : List A) → ((x : A) → P x) → Each P xs
+each-any [] h = nil
+each-any (x ∷ xs) h = cons (h x) (each-any xs h)
+
+-- a number counted, and what each number counted has
+pub counted-has {κ} : {P : ℕ → Type κ} (n from k : ℕ) → Each P (counting n from) → from ≤ k → k < from + n → P k
+counted-has n from k e low high =
+    let i : from + (k - from) ≡ k = omega arith in
+    rw (counting-at n from 0 (k - from) (omega arith), i) at (each-at 0 (k - from) e (rw counting-length (omega arith)))
+
+-- the first that passes stands at that index
+pub record First {ℓ} {A : Type ℓ} (p : A → Bool) (xs : List A) (d : A) (i : ℕ) : Type 0 where
+  pub inside : i < length xs
+  pub passes : p (getD xs i d) ≡ true
+  pub before : (j : ℕ) → j < i → p (getD xs j d) ≡ false
+
+module _ {ℓ} {A : Type ℓ} (p : A → Bool) where
+  any-go : (x : A) (xs : List A) (t : Bool) → p x ≡ t → any p (x ∷ xs) ≡ false → (p x ≡ false) × (any p xs ≡ false)
+  unfolding any
+  any-go x xs true e h = let z : true ≡ false = rw (e, any) at h in (cc, cc)
+  any-go x xs false e h = (e, rw (e, any) at h)
+
+  -- none passes
+  pub any-none : (xs : List A) → any p xs ≡ false → Each (λ x. p x ≡ false) xs
+  any-none [] h = nil
+  any-none (x ∷ xs) h = let w = any-go x xs (p x) refl h in cons (w .0) (any-none xs (w .1))
+
+  pub none-any : {xs : List A} → Each (λ x. p x ≡ false) xs → any p xs ≡ false
+  unfolding any
+  none-any nil = refl
+  none-any (cons e es) = rw (e, any) (none-any es)
+
+  -- all pass
+  pub every-each : (xs : List A) → every p xs ≡ true → Each (λ x. p x ≡ true) xs
+  unfolding every
+  every-each [] h = nil
+  every-each (x ∷ xs) h = let w = and-both (p x) (every p xs) .0 h in cons (w .0) (every-each xs (w .1))
+
+  pub each-every : {xs : List A} → Each (λ x. p x ≡ true) xs → every p xs ≡ true
+  unfolding every
+  each-every nil = refl
+  each-every (cons {x = x} {xs = xs} e es) = and-both (p x) (every p xs) .1 (e, each-every es)
+
+  find-go : (x : A) (xs : List A) (t : Bool) → p x ≡ t → find p (x ∷ xs) ≡ none → (p x ≡ false) × (find p xs ≡ none)
+  unfolding find
+  find-go x xs true e h = let z : some x ≡ none = rw (e, find) at h in (cc, cc)
+  find-go x xs false e h = (e, rw (e, find) at h)
+
+  pub find-none : (xs : List A) → find p xs ≡ none → Each (λ x. p x ≡ false) xs
+  find-none [] h = nil
+  find-none (x ∷ xs) h = let w = find-go x xs (p x) refl h in cons (w .0) (find-none xs (w .1))
+
+  pub none-find : {xs : List A} → Each (λ x. p x ≡ false) xs → find p xs ≡ none
+  unfolding find
+  none-find nil = refl
+  none-find (cons e es) = rw (e, find) (none-find es)
+
+  first-next : (d x : A) (xs : List A) (i : ℕ) → p x ≡ false → First p xs d i → First p (x ∷ xs) d (suc i)
+  first-next d x xs i e f = record { inside = omega (arith, f .inside); passes = f .passes; before = before }
+    where
+      before : (j : ℕ) → j < suc i → p (getD (x ∷ xs) j d) ≡ false
+      before zero h = e
+      before (suc j) h = f .before j (omega arith)
+
+  index-go : (d x : A) (xs : List A) (i : ℕ) (t : Bool) → p x ≡ t → (o : Option ℕ) → indexOf p xs ≡ o
+      → ((j : ℕ) → indexOf p xs ≡ some j → First p xs d j) → indexOf p (x ∷ xs) ≡ some i → First p (x ∷ xs) d i
+  unfolding indexOf
+  index-go d x xs i true e o f ih h =
+      let z : some 0 ≡ some i = rw (e, indexOf) at h in
+      let y : 0 ≡ i = cc in
+      rw (← y) (record { inside = omega arith; passes = e; before = λ j l. absurd (omega arith) })
+  index-go d x xs i false e none f ih h =
+      let z : none ≡ some i = rw (e, indexOf, f) at h in let y : _≡_ {A = ℕ} 0 1 = cc in absurd (omega arith)
+  index-go d x xs i false e (some j) f ih h =
+      let z : some (suc j) ≡ some i = rw (e, indexOf, f) at h in
+      let y : suc j ≡ i = cc in
+      rw (← y) (first-next d x xs j e (ih j f))
+
+  -- the index found is that of the first that passes
+  pub index-first : (d : A) (xs : List A) (i : ℕ) → indexOf p xs ≡ some i → First p xs d i
+  unfolding indexOf
+  index-first d [] i h = let y : _≡_ {A = ℕ} 0 1 = cc in absurd (omega arith)
+  index-first d (x ∷ xs) i h = index-go d x xs i (p x) refl (indexOf p xs) refl (index-first d xs) h

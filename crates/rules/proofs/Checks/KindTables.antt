@@ -1,0 +1,53 @@
+-- The tables by kind agree: one test, computed at each of the ten kinds.
+use Prim.Native.Nat.{ℕ, _^_, _<_}
+use mathlib.Core.Path.{_≡_, refl, sym, ap, _∙_}
+use mathlib.Core.Bool.{Bool, true, _&&_}
+use native.Mathlib.Omega.{arith}
+use lib.Dec.{eqb, ltb}
+use borrow.Author.Tests.{eqb-true, ltb-true}
+use Rattle.rules.specs.Basics.{total, every, counting, upTo, bit}
+use Rattle.rules.specs.Requests.{Kind, register, confirm, withdraw, guarantee, openBatch, undo, keep, closeGate, schedule, settle, kindNumber, kindOf, isKind, wantedMap, wantedLength, fieldCount, room, offset}
+use Rattle.rules.proofs.Basics.Tests.{and-both, within-true}
+use Rattle.rules.proofs.Basics.Searches.{every-each, counted-has}
+
+kind-again : (k : Kind) → kindOf (kindNumber k) ≡ k
+kind-again register = refl
+kind-again confirm = refl
+kind-again withdraw = refl
+kind-again guarantee = refl
+kind-again openBatch = refl
+kind-again undo = refl
+kind-again keep = refl
+kind-again closeGate = refl
+kind-again schedule = refl
+kind-again settle = refl
+
+-- no two kinds have one number
+pub same-kind : (k j : Kind) → eqb (kindNumber k) (kindNumber j) ≡ true → k ≡ j
+same-kind k j e = sym (kind-again k) ∙ ap kindOf (eqb-true (kindNumber k) (kindNumber j) e) ∙ kind-again j
+
+-- what ties the map and the length that a kind wants
+pub record Agree (kind : ℕ) : Type 0 where
+  -- a record ends with its last field
+  pub ends : wantedLength kind ≡ offset (wantedMap kind) fieldCount
+  -- the kind itself stands
+  pub named : bit (wantedMap kind) 0 ≡ true
+  -- no bit past the fields stands
+  pub small : wantedMap kind < 2 ^ 13
+
+agrees : ℕ → Bool
+agrees kind =
+    eqb (wantedLength kind) (offset (wantedMap kind) fieldCount) && bit (wantedMap kind) 0 && ltb (wantedMap kind) (2 ^ 13)
+
+each-agrees : every agrees (upTo 10) ≡ true
+unfolding agrees offset room total counting bit every
+each-agrees = refl
+
+pub tables-agree : (kind : ℕ) → isKind kind ≡ true → Agree kind
+unfolding agrees
+tables-agree kind h =
+    let k = within-true 1 kind 10 .0 h in
+    let holds : agrees kind ≡ true = counted-has 10 1 kind (every-each agrees (upTo 10) each-agrees) (k .0) (omega arith) in
+    let small = and-both _ (ltb (wantedMap kind) (2 ^ 13)) .0 holds in
+    let ends = and-both (eqb (wantedLength kind) (offset (wantedMap kind) fieldCount)) (bit (wantedMap kind) 0) .0 (small .0) in
+    record { ends = eqb-true _ _ (ends .0); named = ends .1; small = ltb-true _ _ (small .1) }

@@ -1,0 +1,149 @@
+-- The ledger agrees with the book after any list of calls: an accepted call changes both alike, a refused one neither. The copy that undo
+-- puts back is the part that the book saved, and no schedule comes while a batch is open.
+use Prim.Native.Nat.{ℕ}
+use mathlib.Core.Path.{_≡_, refl, ap}
+use mathlib.Core.Logic.{_⊎_, inl, inr}
+use mathlib.Core.List.{List, [], _∷_, _++_}
+use mathlib.Core.Option.{Option, none, some}
+use native.Mathlib.Omega.{arith}
+use Rattle.rules.specs.declared.Schedule.{Schedule}
+use Rattle.rules.specs.declared.Request.{Request}
+use Rattle.rules.specs.Basics.{total, nth}
+use Rattle.rules.specs.Books.{Part, Book, noRow}
+use Rattle.rules.specs.Opening.{opened}
+use Rattle.rules.specs.Requests.{Kind, register, confirm, withdraw, guarantee, openBatch, undo, keep, closeGate, schedule, settle, kindNumber}
+use Rattle.rules.specs.Registration.{moved}
+use Rattle.rules.specs.Calls.{Call, kindIn, requestIn, next, confirmedNumber, scheduled, inputChecks, stateChecks, step}
+use Rattle.rules.specs.Lists.{accepts, after}
+use Rattle.rules.specs.Ledger.{Page, Ledger, blank, newLedger, tradeOf, turn, feed, fed, heard, fedAll, traded}
+use Rattle.rules.proofs.Basics.Searches.{each-nth}
+use Rattle.rules.proofs.Checks.Clearing.{Clear}
+use Rattle.rules.proofs.Checks.Passed.{Passed, Kept, passed-kind, step-cases, passed-11, passed-12, passed-13}
+use Rattle.rules.proofs.Rows.RowTests.{passed-confirm}
+use Rattle.rules.proofs.Ledgers.Entries.{entriesFrom}
+use Rattle.rules.proofs.Ledgers.Ranged.{Ranged, confirm-side, opened-ranged, step-ranged}
+use Rattle.rules.proofs.Ledgers.PageAgreement.{SameTrade, same-trade, PartAgrees, register-agrees, confirm-agrees, withdraw-agrees, guarantee-agrees, close-agrees, schedule-agrees}
+
+-- ---- what agrees
+
+-- while a batch is open, in phase 1, the copy is the saved part with the schedules that stand
+pub record CopyAgrees (now : ℕ) (xs : List Schedule) (p : Part) (g : Page) : Type 0 where
+  pub phase : now ≡ 1
+  pub schedules : xs ≡ g .schedules
+  pub part : PartAgrees p g
+
+abbrev pub SavedAgrees : ℕ → List Schedule → Option Part → Page → Type 0
+SavedAgrees phase xs none g = Unit {0}
+SavedAgrees phase xs (some p) g = CopyAgrees phase xs p g
+
+pub record Agrees (b : Book) (l : Ledger) : Type 0 where
+  pub setup : b .setup ≡ l .setup
+  pub part : PartAgrees (b .part) (l .page)
+  pub schedules : b .schedules ≡ l .page .schedules
+  pub saved : SavedAgrees (b .phase) (b .schedules) (b .saved) (l .copy)
+
+pub opened-agrees : (s : List ℕ) → Agrees (opened s) (newLedger s)
+unfolding opened newLedger blank moved traded total entriesFrom
+opened-agrees s =
+    record {
+      setup = refl;
+      part =
+          record { guarantees = refl; pending = refl; nextNumber = refl; bought = λ a h. refl; sold = λ a h. refl };
+      schedules = refl;
+      saved = tt;
+    }
+
+-- ---- each kind
+
+-- in phase 2 no batch is open
+saved-later : (phase : ℕ) (xs ys : List Schedule) (o : Option Part) (g : Page) (after : ℕ) → phase ≡ 2
+    → SavedAgrees phase xs o g → SavedAgrees after ys o g
+saved-later phase xs ys none g after e s = tt
+saved-later phase xs ys (some p) g after e s = absurd (omega (arith, s .phase))
+
+-- nor when the gate closes
+saved-none : (phase : ℕ) (xs : List Schedule) (o : Option Part) (g : Page) → o ≡ none → SavedAgrees phase xs o g
+saved-none phase xs none g e = tt
+saved-none phase xs (some p) g e = let z : _≡_ {A = ℕ} 0 1 = cc in absurd (omega arith)
+
+confirmed-trade : (b : Book) (c : Call) (q : Request) → kindNumber confirm ≡ q .kind → Clear (inputChecks b c confirm q)
+    → Clear (stateChecks b confirm q) → Ranged b → SameTrade (nth (b .part .rows) (confirmedNumber b q) noRow) (tradeOf q)
+confirmed-trade b c q e i h r =
+    let x = passed-confirm b q h in
+    let p = each-nth noRow (confirmedNumber b q) (r .rows) (x .low) (x .high) in
+    same-trade q _ (x .row) (x .terms) (p .side-low) (p .side-high) (confirm-side b c q e i)
+
+undone : (phase : ℕ) (xs : List Schedule) (o : Option Part) (p : Part) (g : Page) → o ≡ some p → SavedAgrees phase xs o g
+    → CopyAgrees phase xs p g
+undone phase xs o p g e s = rw e at s
+
+next-agrees : (k : Kind) (b : Book) (c : Call) (q : Request) (l : Ledger) → kindNumber k ≡ q .kind → Clear (inputChecks b c k q)
+    → Clear (stateChecks b k q) → Ranged b → Agrees b l → Agrees (next k b q) (feed k q l)
+unfolding next feed turn
+next-agrees register b c q l e i h r g =
+    record { setup = g .setup; part = register-agrees b q (l .copy) (l .page) (g .part); schedules = g .schedules; saved = g .saved }
+next-agrees confirm b c q l e i h r g =
+    record {
+      setup = g .setup;
+      part = confirm-agrees b q (l .copy) (l .page) (g .part) h (confirmed-trade b c q e i h r);
+      schedules = g .schedules;
+      saved = g .saved;
+    }
+next-agrees withdraw b c q l e i h r g =
+    record { setup = g .setup; part = withdraw-agrees b q (l .copy) (l .page) (g .part) h; schedules = g .schedules; saved = g .saved }
+next-agrees guarantee b c q l e i h r g =
+    record { setup = g .setup; part = guarantee-agrees b q (l .copy) (l .page) (g .part); schedules = g .schedules; saved = g .saved }
+next-agrees openBatch b c q l e i h r g =
+    record {
+      setup = g .setup;
+      part = g .part;
+      schedules = g .schedules;
+      saved = record { phase = passed-11 b q openBatch h; schedules = g .schedules; part = g .part };
+    }
+next-agrees undo b c q l e i h r g =
+    let (p, o) = passed-13 b q undo refl h in
+    let s = undone (b .phase) (b .schedules) (b .saved) p (l .copy) o (g .saved) in
+    record { setup = g .setup; part = rw o (s .part); schedules = s .schedules; saved = tt }
+next-agrees keep b c q l e i h r g = record { setup = g .setup; part = g .part; schedules = g .schedules; saved = tt }
+next-agrees closeGate b c q l e i h r g =
+    record {
+      setup = g .setup;
+      part = close-agrees b q (l .copy) (l .page) (g .part);
+      schedules = g .schedules;
+      saved = saved-none 2 (b .schedules) (b .saved) (l .copy) (passed-12 b q closeGate refl h);
+    }
+next-agrees schedule b c q l e i h r g =
+    record {
+      setup = g .setup;
+      part = schedule-agrees b q (l .copy) (l .page) (g .part);
+      schedules = ap (λ (xs : List Schedule). xs ++ scheduled q ∷ []) (g .schedules);
+      saved = saved-later (b .phase) (b .schedules) _ (b .saved) (l .copy) (b .phase) (passed-11 b q schedule h) (g .saved);
+    }
+next-agrees settle b c q l e i h r g =
+    record {
+      setup = g .setup;
+      part = g .part;
+      schedules = g .schedules;
+      saved = saved-later (b .phase) (b .schedules) _ (b .saved) (l .copy) 3 (passed-11 b q settle h) (g .saved);
+    }
+
+-- ---- a call, and a list of calls
+
+pub step-agrees : (b : Book) (c : Call) (l : Ledger) → Ranged b → Agrees b l
+    → Agrees (step b c .book) (fed (c .bytes) (accepts b c) l)
+unfolding fed
+step-agrees b c l r g = go (step-cases b c)
+  where
+    go : Kept b c ⊎ Passed b c → Agrees (step b c .book) (fed (c .bytes) (accepts b c) l)
+    go (inl kept) = rw (kept .book, kept .outcome) g
+    go (inr p) =
+        rw (p .book, p .outcome) (next-agrees (kindIn c) b c (requestIn c) l (passed-kind p) (p .input) (p .state) r g)
+
+pub list-agrees : (b : Book) (l : Ledger) (cs : List Call) → Ranged b → Agrees b l → Agrees (after b cs) (fedAll l (heard b cs))
+unfolding after fedAll heard
+list-agrees b l [] r g = g
+list-agrees b l (c ∷ cs) r g = list-agrees (step b c .book) _ cs (step-ranged b c r) (step-agrees b c l r g)
+
+-- a day's ledger, fed only the set-up, the records and whether each was accepted, agrees with its book after any list of calls
+pub day-agrees : (s : List ℕ) (cs : List Call) → Agrees (after (opened s) cs) (fedAll (newLedger s) (heard (opened s) cs))
+day-agrees s cs = list-agrees (opened s) (newLedger s) cs (opened-ranged s) (opened-agrees s)

@@ -1,0 +1,142 @@
+-- Every book that calls make has rows between its accounts and schedules on its points: a call adds only what passed the test of ranges,
+-- and no other call changes a row's parties or side.
+use Prim.Native.Nat.{ℕ, _≤_}
+use mathlib.Core.Path.{_≡_, refl}
+use mathlib.Core.Logic.{_⊎_, inl, inr}
+use mathlib.Core.List.{List, [], _∷_}
+use mathlib.Core.Option.{Option, none, some}
+use mathlib.Core.Bool.{true}
+use native.Mathlib.Omega.{arith}
+use Rattle.rules.specs.declared.Counts.{Counts}
+use Rattle.rules.specs.declared.Row.{Row}
+use Rattle.rules.specs.declared.Schedule.{Schedule}
+use Rattle.rules.specs.declared.Request.{Request}
+use Rattle.rules.specs.Basics.{bit, Each, nil}
+use Rattle.rules.specs.Books.{Part, Book, accountCount, pointCount, countsOf}
+use Rattle.rules.specs.Opening.{opened}
+use Rattle.rules.specs.Requests.{Kind, register, confirm, withdraw, guarantee, openBatch, undo, keep, closeGate, schedule, settle, kindNumber, wantedMap, inRange, faultyBit}
+use Rattle.rules.specs.Registration.{withStatus, proposed}
+use Rattle.rules.specs.Calls.{Call, kindIn, requestIn, next, restored, scheduled, inputChecks, step}
+use Rattle.rules.specs.Lists.{after}
+use Rattle.rules.proofs.Basics.Tests.{within-true}
+use Rattle.rules.proofs.Basics.Searches.{each-snoc}
+use Rattle.rules.proofs.Rows.RowChanges.{each-mark, each-closed}
+use Rattle.rules.proofs.Checks.Clearing.{Clear}
+use Rattle.rules.proofs.Checks.Passed.{field-in-range, passed-6, Passed, Kept, passed-kind, step-cases}
+use Rattle.rules.proofs.Rows.Balanced.{Parties, parties}
+
+-- ---- rows between accounts
+
+parties-status : (n status : ℕ) (r : Row) → Parties n r → Parties n (withStatus status r)
+parties-status n status r p =
+    record {
+      buyer-low = p .buyer-low;
+      buyer-high = p .buyer-high;
+      seller-low = p .seller-low;
+      seller-high = p .seller-high;
+      side-low = p .side-low;
+      side-high = p .side-high;
+    }
+
+-- ---- what a request in range names
+
+module _ (n : Counts) (q : Request) (f : faultyBit n q ≡ none) where
+  pub account-in-range : bit (wantedMap (q .kind)) 1 ≡ true → (1 ≤ q .account) × (q .account ≤ n .accounts)
+  unfolding inRange
+  account-in-range e = within-true 1 (q .account) (n .accounts) .0 (field-in-range n q 1 f (omega arith) e)
+
+  pub other-in-range : bit (wantedMap (q .kind)) 2 ≡ true → (1 ≤ q .other) × (q .other ≤ n .accounts)
+  unfolding inRange
+  other-in-range e = within-true 1 (q .other) (n .accounts) .0 (field-in-range n q 2 f (omega arith) e)
+
+  pub side-in-range : bit (wantedMap (q .kind)) 4 ≡ true → (1 ≤ q .side) × (q .side ≤ 2)
+  unfolding inRange
+  side-in-range e = within-true 1 (q .side) 2 .0 (field-in-range n q 4 f (omega arith) e)
+
+  pub point-in-range : bit (wantedMap (q .kind)) 11 ≡ true → (1 ≤ q .point) × (q .point ≤ n .points)
+  unfolding inRange
+  point-in-range e = within-true 1 (q .point) (n .points) .0 (field-in-range n q 11 f (omega arith) e)
+
+-- the field of a bit stands in a request of the kind
+bit-stands : (k : Kind) (q : Request) (i : ℕ) → kindNumber k ≡ q .kind → bit (wantedMap (kindNumber k)) i ≡ true
+    → bit (wantedMap (q .kind)) i ≡ true
+bit-stands k q i e h = rw e at h
+
+proposed-parties : (b : Book) (c : Call) (q : Request) → kindNumber register ≡ q .kind → Clear (inputChecks b c register q)
+    → Parties (accountCount (b .setup)) (proposed q)
+unfolding bit
+proposed-parties b c q e i =
+    let n = countsOf (b .setup) in
+    let f = passed-6 b c q register i in
+    parties (accountCount (b .setup)) (proposed q)
+    (account-in-range n q f (bit-stands register q 1 e refl))
+    (other-in-range n q f (bit-stands register q 2 e refl))
+    (side-in-range n q f (bit-stands register q 4 e refl))
+
+-- an accepted confirm has a side
+pub confirm-side : (b : Book) (c : Call) (q : Request) → kindNumber confirm ≡ q .kind → Clear (inputChecks b c confirm q)
+    → (1 ≤ q .side) × (q .side ≤ 2)
+unfolding bit
+confirm-side b c q e i = side-in-range (countsOf (b .setup)) q (passed-6 b c q confirm i) (bit-stands confirm q 4 e refl)
+
+-- ---- books
+
+-- the schedule is on a point 1 to n
+pub record OnPoint (n : ℕ) (x : Schedule) : Type 0 where
+  pub low : 1 ≤ x .point
+  pub high : x .point ≤ n
+
+scheduled-on-point : (b : Book) (c : Call) (q : Request) → kindNumber schedule ≡ q .kind → Clear (inputChecks b c schedule q)
+    → OnPoint (pointCount (b .setup)) (scheduled q)
+unfolding bit
+scheduled-on-point b c q e i =
+    let p = point-in-range (countsOf (b .setup)) q (passed-6 b c q schedule i) (bit-stands schedule q 11 e refl) in
+    record { low = p .0; high = p .1 }
+
+abbrev pub SavedParties : ℕ → Option Part → Type 0
+SavedParties n none = Unit {0}
+SavedParties n (some p) = Each (Parties n) (p .rows)
+
+-- rows and saved rows are between the book's accounts, schedules on its points
+pub record Ranged (b : Book) : Type 0 where
+  pub rows : Each (Parties (accountCount (b .setup))) (b .part .rows)
+  pub saved : SavedParties (accountCount (b .setup)) (b .saved)
+  pub schedules : Each (OnPoint (pointCount (b .setup))) (b .schedules)
+
+restored-parties : (n : ℕ) (o : Option Part) (p : Part) → SavedParties n o → Each (Parties n) (p .rows)
+    → Each (Parties n) (restored o p .rows)
+restored-parties n none p s e = e
+restored-parties n (some x) p s e = s
+
+next-ranged : (k : Kind) (b : Book) (c : Call) (q : Request) → kindNumber k ≡ q .kind → Clear (inputChecks b c k q)
+    → Ranged b → Ranged (next k b q)
+unfolding next
+next-ranged register b c q e i g =
+    record { rows = each-snoc (g .rows) (proposed-parties b c q e i); saved = g .saved; schedules = g .schedules }
+next-ranged confirm b c q e i g = record { rows = each-mark _ 2 (parties-status _ 2) (g .rows); saved = g .saved; schedules = g .schedules }
+next-ranged withdraw b c q e i g = record { rows = each-mark _ 3 (parties-status _ 3) (g .rows); saved = g .saved; schedules = g .schedules }
+next-ranged guarantee b c q e i g = record { rows = g .rows; saved = g .saved; schedules = g .schedules }
+next-ranged openBatch b c q e i g = record { rows = g .rows; saved = g .rows; schedules = g .schedules }
+next-ranged undo b c q e i g =
+    record { rows = restored-parties _ (b .saved) (b .part) (g .saved) (g .rows); saved = tt; schedules = g .schedules }
+next-ranged keep b c q e i g = record { rows = g .rows; saved = tt; schedules = g .schedules }
+next-ranged closeGate b c q e i g = record { rows = each-closed (parties-status _ 3) (g .rows); saved = g .saved; schedules = g .schedules }
+next-ranged schedule b c q e i g =
+    record { rows = g .rows; saved = g .saved; schedules = each-snoc (g .schedules) (scheduled-on-point b c q e i) }
+next-ranged settle b c q e i g = record { rows = g .rows; saved = g .saved; schedules = g .schedules }
+
+pub opened-ranged : (s : List ℕ) → Ranged (opened s)
+unfolding opened
+opened-ranged s = record { rows = nil; saved = tt; schedules = nil }
+
+pub step-ranged : (b : Book) (c : Call) → Ranged b → Ranged (step b c .book)
+step-ranged b c g = go (step-cases b c)
+  where
+    go : Kept b c ⊎ Passed b c → Ranged (step b c .book)
+    go (inl kept) = rw (kept .book) g
+    go (inr p) = rw (p .book) (next-ranged (kindIn c) b c (requestIn c) (passed-kind p) (p .input) g)
+
+pub last-ranged : (b : Book) (cs : List Call) → Ranged b → Ranged (after b cs)
+unfolding after
+last-ranged b [] g = g
+last-ranged b (c ∷ cs) g = last-ranged (step b c .book) cs (step-ranged b c g)

@@ -1,0 +1,5 @@
+-- Lists of calls, and batches cut out of them.
+-- CallLists: lists of calls put together, refused calls and others cut out of them.
+pub mod CallLists
+-- Batches: an undone batch gives back the book of its open, so that a list without it says the same.
+pub mod Batches

@@ -1,0 +1,158 @@
+-- An accepted undo gives back the whole book of its open: while the batch is open only rows and guarantees change, and the part
+-- that was saved at the open stays as it is. So a list without that batch says the same.
+use Prim.Native.Nat.{ℕ, _+_, _-_}
+use mathlib.Core.Path.{_≡_, refl, sym, ap, _∙_}
+use mathlib.Core.Logic.{_⊎_, inl, inr}
+use mathlib.Core.List.{List, [], _∷_, _++_}
+use mathlib.Core.Option.{Option, none, some}
+use mathlib.Core.Bool.{Bool, true, false, or-false}
+use native.Mathlib.Nat.{zero-add, add-zero, add-comm, add-assoc}
+use native.Mathlib.Omega.{arith}
+use lib.ListN.{length, length-append}
+use borrow.Author.Tests.{not-true}
+use Rattle.rules.specs.declared.Row.{Row}
+use Rattle.rules.specs.declared.Request.{Request}
+use Rattle.rules.specs.Basics.{if_then_else_}
+use Rattle.rules.specs.Verdicts.{accepted}
+use Rattle.rules.specs.Books.{Part, Book}
+use Rattle.rules.specs.Requests.{Kind, register, confirm, withdraw, guarantee, openBatch, undo, keep, closeGate, schedule, settle}
+use Rattle.rules.specs.Calls.{Call, requestIn, kindIn, withRows, restored, confirmedNumber, next, given, _∈_, stateChecks, step}
+use Rattle.rules.specs.Lists.{after, acceptsAs, rowsRegistered, endsNoBatch, UndoneBatch, CutOut}
+use Rattle.rules.proofs.Basics.Tests.{and-both, and-spared}
+use Rattle.rules.proofs.Checks.Clearing.{Clear}
+use Rattle.rules.proofs.Checks.Passed.{Passed, Kept, step-cases, passed-11, passed-12}
+use Rattle.rules.proofs.Checks.KindTables.{same-kind}
+use Rattle.rules.proofs.Rows.RowChanges.{length-mark}
+use Rattle.rules.proofs.Lists.CallLists.{after-append, cut-out, kept-refused, passed-accepted, accepts-passed}
+
+-- ---- kinds
+
+-- a kind that is among one kind is that one
+pub the-kind : (k j : Kind) → k ∈ (j ∷ []) ≡ true → k ≡ j
+the-kind k j h = same-kind k j (sym (or-false _) ∙ h)
+
+passed-as : (b : Book) (c : Call) (k : Kind) → acceptsAs (k ∷ []) b c ≡ true → Passed b c × (kindIn c ≡ k)
+passed-as b c k h = let w = and-both _ _ .0 h in (accepts-passed b c (w .0), the-kind (kindIn c) k (w .1))
+
+-- ---- while a batch is open
+
+-- a book b in the batch that was opened at o, since when n rows were registered
+record Within (o : Book) (n : ℕ) (b : Book) : Type 0 where
+  setup : b .setup ≡ o .setup
+  phase : b .phase ≡ 1
+  schedules : b .schedules ≡ o .schedules
+  saved : b .saved ≡ some (o .part)
+  numbers : length (b .part .rows) ≡ n + length (o .part .rows)
+
+-- the rows that an accepted call of a kind registers
+abbrev registers : Kind → ℕ
+registers k = if k ∈ (register ∷ []) then 1 else 0
+
+module _ {o b : Book} {n : ℕ} (w : Within o n b) (q : Request) where
+  with-rows : (m : ℕ) (rows : List Row) → length rows ≡ m + length (b .part .rows) → Within o (m + n) (withRows b rows)
+  with-rows m rows e =
+      record { setup = w .setup; phase = w .phase; schedules = w .schedules; saved = w .saved; numbers = omega (arith, e, w .numbers) }
+
+  -- a batch is open
+  saved-never : b .saved ≡ none → ⊥
+  saved-never e = let s = w .saved in let z : _≡_ {A = ℕ} 0 1 = cc in omega arith
+
+  within-next : (k : Kind) → k ∈ (undo ∷ keep ∷ []) ≡ false → Clear (stateChecks b k q) → Within o (registers k + n) (next k b q)
+  unfolding next
+  within-next register e h = with-rows 1 _ (length-append (b .part .rows) _ ∙ omega arith)
+  within-next confirm e h = with-rows 0 _ (length-mark (confirmedNumber b q) 2 (b .part .rows) ∙ sym (zero-add _))
+  within-next withdraw e h = with-rows 0 _ (length-mark (q .number) 3 (b .part .rows) ∙ sym (zero-add _))
+  within-next guarantee e h =
+      record { setup = w .setup; phase = w .phase; schedules = w .schedules; saved = w .saved; numbers = omega (arith, w .numbers) }
+  within-next openBatch e h = absurd (saved-never (passed-12 b q openBatch refl h))
+  within-next undo e h = let z : _≡_ {A = ℕ} 0 1 = cc in absurd (omega arith)
+  within-next keep e h = let z : _≡_ {A = ℕ} 0 1 = cc in absurd (omega arith)
+  within-next closeGate e h = absurd (saved-never (passed-12 b q closeGate refl h))
+  within-next schedule e h = absurd (omega (arith, passed-11 b q schedule h, w .phase))
+  within-next settle e h = absurd (omega (arith, passed-11 b q settle h, w .phase))
+
+-- the rows that one call registers
+abbrev rowsOf : Book → Call → ℕ
+rowsOf b c = if acceptsAs (register ∷ []) b c then 1 else 0
+
+within-go : {o : Book} {n : ℕ} (b : Book) (c : Call) → acceptsAs (undo ∷ keep ∷ []) b c ≡ false → Within o n b → Kept b c ⊎ Passed b c
+    → Within o (rowsOf b c + n) (step b c .book)
+within-go b c e w (inl kept) = rw (kept-refused kept, kept .book, zero-add) w
+within-go b c e w (inr p) =
+    rw (passed-accepted p, p .book) (within-next w (requestIn c) (kindIn c) (and-spared _ _ (passed-accepted p) e) (p .state))
+
+within-after : {o : Book} {n : ℕ} (b : Book) (cs : List Call) → endsNoBatch b cs ≡ true → Within o n b
+    → Within o (rowsRegistered b cs + n) (after b cs)
+unfolding endsNoBatch after rowsRegistered
+within-after b [] e w = rw zero-add w
+within-after {n} b (c ∷ cs) e w =
+    let t = and-both _ _ .0 e in
+    rw (add-comm (rowsOf b c), add-assoc) (within-after (step b c .book) cs (t .1) (within-go b c (not-true _ (t .0)) w (step-cases b c)))
+
+within-open : (b : Book) (q : Request) → b .phase ≡ 1 → Within b 0 (next openBatch b q)
+unfolding next
+within-open b q e = record { setup = refl; phase = e; schedules = refl; saved = refl; numbers = omega arith }
+
+-- ---- an undone batch
+
+module _ (b : Book) (opening : Call) (between : List Call) (undoing : Call) (batch : UndoneBatch b opening between undoing) where
+  opened-batch : Passed b opening × (kindIn opening ≡ openBatch)
+  opened-batch = passed-as b opening openBatch (batch .opens)
+
+  undone-batch : Passed (after b (opening ∷ between)) undoing × (kindIn undoing ≡ undo)
+  undone-batch = passed-as (after b (opening ∷ between)) undoing undo (batch .undoes)
+
+  step-open : step b opening .book ≡ next openBatch b (requestIn opening)
+  step-open = opened-batch .0 .book ∙ ap (λ (k : Kind). next k b (requestIn opening)) (opened-batch .1)
+
+  phase-open : b .phase ≡ 1
+  phase-open = passed-11 b (requestIn opening) openBatch (rw (opened-batch .1) at (opened-batch .0 .state))
+
+  saved-none : b .saved ≡ none
+  saved-none = passed-12 b (requestIn opening) openBatch refl (rw (opened-batch .1) at (opened-batch .0 .state))
+
+  within-batch : Within b (rowsRegistered (after b (opening ∷ [])) between) (after b (opening ∷ between))
+  unfolding after
+  within-batch =
+      let start : Within b 0 (step b opening .book) = rw step-open (within-open b (requestIn opening) phase-open) in
+      rw add-zero at (within-after (step b opening .book) between (batch .goes-on) start)
+
+  undo-within : (m : ℕ) (x : Book) (q : Request) → Within b m x → next undo x q ≡ b
+  unfolding next
+  undo-within m x q w =
+      let p = w .phase ∙ sym phase-open in
+      let s = sym saved-none in
+      λ i. record {
+        setup = w .setup i;
+        phase = p i;
+        part = restored (w .saved i) (x .part);
+        schedules = w .schedules i;
+        saved = s i;
+      }
+
+  -- undo gives back the book as it was before the open, whole, whatever was called in between
+  pub undo-restores : after b (opening ∷ between ++ undoing ∷ []) ≡ b
+  unfolding after
+  undo-restores =
+      after-append b (opening ∷ between) (undoing ∷ [])
+      ∙ undone-batch .0 .book
+      ∙ ap (λ (k : Kind). next k (after b (opening ∷ between)) (requestIn undoing)) (undone-batch .1)
+      ∙ undo-within _ _ (requestIn undoing) within-batch
+
+  -- and gives the number of rows registered since
+  pub undo-counts : step (after b (opening ∷ between)) undoing .outcome ≡ accepted (rowsRegistered (after b (opening ∷ [])) between)
+  unfolding given
+  undo-counts =
+      let x = after b (opening ∷ between) in
+      let saved : restored (x .saved) (x .part) ≡ b .part = ap (λ (o : Option Part). restored o (x .part)) (within-batch .saved) in
+      let count : length (x .part .rows) - length (restored (x .saved) (x .part) .rows) ≡ rowsRegistered (after b (opening ∷ [])) between
+      = rw saved (omega (arith, within-batch .numbers)) in
+      undone-batch .0 .outcome
+      ∙ ap (λ (k : Kind). accepted (given k x (requestIn undoing))) (undone-batch .1)
+      ∙ ap accepted count
+
+-- the undone batch cut out of a list, whatever stands before and after it
+pub undone-batch-cut-out : (b : Book) (before : List Call) (opening : Call) (between : List Call) (undoing : Call) (rest : List Call)
+    → UndoneBatch (after b before) opening between undoing → CutOut b before (opening ∷ between ++ undoing ∷ []) rest
+undone-batch-cut-out b before opening between undoing rest batch =
+    cut-out b before (opening ∷ between ++ undoing ∷ []) rest (undo-restores (after b before) opening between undoing batch)

@@ -1,0 +1,216 @@
+-- What a change of rows does to an account hour: sums over rows change by the share of the one row that is added or marked, and a
+-- pending row has no share in what is moved.
+use Prim.Native.Nat.{ℕ, zero, suc, _+_, _≤_}
+use mathlib.Core.Path.{_≡_, refl, sym, _∙_}
+use mathlib.Core.List.{List, [], _∷_, _++_}
+use mathlib.Core.Bool.{Bool, true, false, _&&_}
+use native.Mathlib.Nat.{add-zero}
+use native.Mathlib.Omega.{arith}
+use lib.ListN.{length, getD}
+use lib.Dec.{eqb}
+use borrow.Author.Tests.{eqb-true}
+use Rattle.units.specs.Units.{kwh}
+use Rattle.rules.specs.declared.Row.{Row}
+use Rattle.rules.specs.declared.Request.{Request}
+use Rattle.rules.specs.Basics.{if_then_else_, total, nth}
+use Rattle.rules.specs.Books.{noRow}
+use Rattle.rules.specs.Registration.{pending, confirmed, covers, counted, withStatus, mark, closed, proposed, moved, waiting, buyer, seller, bought, sold, netOf, pendingSales, pendingPurchases, accountHour, takes}
+use Rattle.rules.proofs.Basics.Totals.{total-zero, total-cong, total-snoc, total-set, total-map}
+
+-- ---- shares of a row
+
+-- what a confirmed row adds to what the account, as that party, moved in the hour
+abbrev pub share : (Row → ℕ) → ℕ → ℕ → Row → ℕ
+share party a h = counted (λ r. covers h r && eqb (party r) a)
+
+-- what a pending row of that side adds to what waits on the account in the hour
+abbrev pub weight : ℕ → ℕ → ℕ → Row → ℕ
+weight side a h = counted (λ r. covers h r && eqb (r .proposer) a && eqb (r .side) side)
+
+-- the same, of any status
+unfoldable movedShare : (Row → ℕ) → ℕ → ℕ → Row → ℕ
+movedShare party a h = counted (λ r. confirmed r && covers h r && eqb (party r) a)
+
+unfoldable waitingShare : ℕ → ℕ → ℕ → Row → ℕ
+waitingShare side a h = counted (λ r. pending r && covers h r && eqb (r .proposer) a && eqb (r .side) side)
+
+-- ---- sums over rows of which one is marked
+
+-- no row stands at a number that the list has not
+pub pending-inside : (rows : List Row) (n : ℕ) → pending (nth rows n noRow) ≡ true → (1 ≤ n) × (n ≤ length rows)
+pending-inside rows zero e = let z : _≡_ {A = ℕ} 0 1 = cc in absurd (omega arith)
+pending-inside [] (suc i) e = let z : _≡_ {A = ℕ} 0 1 = cc in absurd (omega arith)
+pending-inside (r ∷ rs) (suc zero) e = omega arith
+pending-inside (r ∷ rs) (suc (suc i)) e = let ih = pending-inside rs (suc i) e in omega arith
+
+-- the share of the row as it was goes, its share with the new status comes
+pub total-mark : (f : Row → ℕ) (n status : ℕ) (rows : List Row) → 1 ≤ n → n ≤ length rows
+    → total f (mark n status rows) + f (nth rows n noRow) ≡ total f rows + f (withStatus status (nth rows n noRow))
+unfolding mark
+total-mark f zero status rows l h = absurd (omega arith)
+total-mark f (suc i) status rows l h = total-set f noRow i rows (withStatus status (getD rows i noRow)) (omega arith)
+
+-- ---- what is moved
+
+module _ (party : Row → ℕ) (a h : ℕ) where
+  moved-idle : (r : Row) → pending r ≡ true → movedShare party a h r ≡ 0
+  unfolding movedShare
+  moved-idle r e = rw (eqb-true (r .status) 1 e)
+
+  moved-ended : (r : Row) → movedShare party a h (withStatus 3 r) ≡ 0
+  unfolding movedShare
+  moved-ended r = refl
+
+  moved-closed : (r : Row) (t : Bool) → pending r ≡ t → movedShare party a h (if t then withStatus 3 r else r) ≡ movedShare party a h r
+  moved-closed r true e = moved-ended r ∙ sym (moved-idle r e)
+  moved-closed r false e = refl
+
+  pub moved-snoc : (rows : List Row) (r : Row)
+      → moved party (rows ++ r ∷ []) a h ≡ moved party rows a h + counted (λ r. confirmed r && covers h r && eqb (party r) a) r
+  unfolding moved
+  moved-snoc rows r = total-snoc (counted (λ r. confirmed r && covers h r && eqb (party r) a)) rows r
+
+  -- register moves nothing
+  pub moved-register : (rows : List Row) (q : Request) → moved party (rows ++ proposed q ∷ []) a h ≡ moved party rows a h
+  moved-register rows q = moved-snoc rows (proposed q) ∙ add-zero (moved party rows a h)
+
+  -- confirm moves the row's quantity
+  pub moved-confirm : ((status : ℕ) (r : Row) → party (withStatus status r) ≡ party r)
+      → (rows : List Row) (n : ℕ) → pending (nth rows n noRow) ≡ true
+      → moved party (mark n 2 rows) a h ≡ moved party rows a h + share party a h (nth rows n noRow)
+  unfolding moved movedShare
+  moved-confirm kept rows n e =
+      let i = pending-inside rows n e in
+      let t = total-mark (movedShare party a h) n 2 rows (i .0) (i .1) in
+      let f = moved-idle (nth rows n noRow) e in
+      let g : movedShare party a h (withStatus 2 (nth rows n noRow)) ≡ share party a h (nth rows n noRow) = rw kept in
+      omega arith
+
+  -- withdraw moves nothing
+  pub moved-withdraw : (rows : List Row) (n : ℕ) → pending (nth rows n noRow) ≡ true
+      → moved party (mark n 3 rows) a h ≡ moved party rows a h
+  unfolding moved movedShare
+  moved-withdraw rows n e =
+      let i = pending-inside rows n e in
+      let t = total-mark (movedShare party a h) n 3 rows (i .0) (i .1) in
+      let f = moved-idle (nth rows n noRow) e in
+      let g = moved-ended (nth rows n noRow) in
+      omega arith
+
+  -- nor does the close of the gate
+  pub moved-close : (rows : List Row) → moved party (closed rows) a h ≡ moved party rows a h
+  unfolding moved movedShare closed
+  moved-close rows =
+      total-map (movedShare party a h) (λ r. if pending r then withStatus 3 r else r) rows
+      ∙ total-cong _ _ rows (λ r. moved-closed r (pending r) refl)
+
+-- ---- what waits
+
+module _ (side a h : ℕ) where
+  waiting-held : (r : Row) → pending r ≡ true → waitingShare side a h r ≡ weight side a h r
+  unfolding waitingShare
+  waiting-held r e = rw e
+
+  waiting-ended : (status : ℕ) (r : Row) → eqb status 1 ≡ false → waitingShare side a h (withStatus status r) ≡ 0
+  unfolding waitingShare
+  waiting-ended status r e = rw e
+
+  waiting-closed : (r : Row) (t : Bool) → pending r ≡ t → waitingShare side a h (if t then withStatus 3 r else r) ≡ 0
+  unfolding waitingShare
+  waiting-closed r true e = refl
+  waiting-closed r false e = rw e
+
+  pub waiting-snoc : (rows : List Row) (r : Row)
+      → waiting side (rows ++ r ∷ []) a h
+      ≡ waiting side rows a h + counted (λ r. pending r && covers h r && eqb (r .proposer) a && eqb (r .side) side) r
+  unfolding waiting
+  waiting-snoc rows r = total-snoc (counted (λ r. pending r && covers h r && eqb (r .proposer) a && eqb (r .side) side)) rows r
+
+  -- register adds the row's quantity
+  pub waiting-register : (rows : List Row) (q : Request)
+      → waiting side (rows ++ proposed q ∷ []) a h ≡ waiting side rows a h + weight side a h (proposed q)
+  waiting-register rows q = waiting-snoc rows (proposed q)
+
+  -- a pending row that is confirmed or withdrawn no longer waits
+  pub waiting-end : (rows : List Row) (n status : ℕ) → pending (nth rows n noRow) ≡ true → eqb status 1 ≡ false
+      → waiting side (mark n status rows) a h + weight side a h (nth rows n noRow) ≡ waiting side rows a h
+  unfolding waiting waitingShare
+  waiting-end rows n status e d =
+      let i = pending-inside rows n e in
+      let t = total-mark (waitingShare side a h) n status rows (i .0) (i .1) in
+      let f = waiting-held (nth rows n noRow) e in
+      let g = waiting-ended status (nth rows n noRow) d in
+      omega arith
+
+  -- after the close of the gate nothing waits
+  pub waiting-close : (rows : List Row) → waiting side (closed rows) a h ≡ 0
+  unfolding waiting waitingShare closed
+  waiting-close rows =
+      total-map (waitingShare side a h) (λ r. if pending r then withStatus 3 r else r) rows
+      ∙ total-cong _ (λ r. 0) rows (λ r. waiting-closed r (pending r) refl)
+      ∙ total-zero rows
+
+  -- a row weighs on its proposer only
+  pub weight-of-others : (r : Row) → eqb (r .proposer) a ≡ false → weight side a h r ≡ 0
+  weight-of-others r e = rw e (go (covers h r))
+    where
+      go : (t : Bool) → (if t && false && eqb (r .side) side then r .quantity .0 else 0) ≡ 0
+      go true = refl
+      go false = refl
+
+  -- what waits on another account than the proposer stands
+  pub waiting-of-others : (rows : List Row) (n status : ℕ) → pending (nth rows n noRow) ≡ true → eqb status 1 ≡ false
+      → eqb (nth rows n noRow .proposer) a ≡ false → waiting side (mark n status rows) a h ≡ waiting side rows a h
+  waiting-of-others rows n status e d o =
+      let w = waiting-end rows n status e d in let z = weight-of-others (nth rows n noRow) o in omega arith
+
+-- ---- an account hour
+
+-- register: net stands, the row is one more of the pending sales or purchases
+pub hour-register : (rows : List Row) (q : Request) (a h : ℕ)
+    → accountHour (rows ++ proposed q ∷ []) a h
+    ≡ record {
+      net = netOf rows a h;
+      sales = kwh (pendingSales rows a h + weight 1 a h (proposed q));
+      purchases = kwh (pendingPurchases rows a h + weight 2 a h (proposed q));
+    }
+hour-register rows q a h =
+    let b = moved-register buyer a h rows q in
+    let s = moved-register seller a h rows q in
+    rw (b, s, waiting-register 1 a h rows q, waiting-register 2 a h rows q)
+
+-- confirm, for another account than the proposer: the row's quantity is bought or sold, what waits stands
+pub hour-confirm : (rows : List Row) (n a h : ℕ) → pending (nth rows n noRow) ≡ true → eqb (nth rows n noRow .proposer) a ≡ false
+    → accountHour (mark n 2 rows) a h
+    ≡ record {
+      net =
+          record {
+            bought = kwh (bought rows a h + share buyer a h (nth rows n noRow));
+            sold = kwh (sold rows a h + share seller a h (nth rows n noRow));
+          };
+      sales = kwh (pendingSales rows a h);
+      purchases = kwh (pendingPurchases rows a h);
+    }
+hour-confirm rows n a h e o =
+    let b = moved-confirm buyer a h (λ status r. refl) rows n e in
+    let s = moved-confirm seller a h (λ status r. refl) rows n e in
+    rw (b, s, waiting-of-others 1 a h rows n 2 e refl o, waiting-of-others 2 a h rows n 2 e refl o)
+
+-- with one row more it is the hour after that trade
+pub hour-takes : (rows : List Row) (r : Row) (a h : ℕ) → accountHour (rows ++ r ∷ []) a h ≡ takes a h (accountHour rows a h) r
+unfolding takes
+hour-takes rows r a h =
+    rw (moved-snoc buyer a h rows r, moved-snoc seller a h rows r, waiting-snoc 1 a h rows r, waiting-snoc 2 a h rows r)
+
+-- confirm, for another account than the proposer: it takes the row as one that is confirmed
+pub hour-takes-confirmed : (rows : List Row) (n a h : ℕ) → pending (nth rows n noRow) ≡ true → eqb (nth rows n noRow .proposer) a ≡ false
+    → accountHour (mark n 2 rows) a h ≡ takes a h (accountHour rows a h) (withStatus 2 (nth rows n noRow))
+unfolding takes
+hour-takes-confirmed rows n a h e o =
+    hour-confirm rows n a h e o ∙ rw (add-zero (waiting 1 rows a h), add-zero (waiting 2 rows a h))
+
+-- close gate: net stands, nothing waits
+pub hour-close : (rows : List Row) (a h : ℕ)
+    → accountHour (closed rows) a h ≡ record { net = netOf rows a h; sales = kwh 0; purchases = kwh 0 }
+hour-close rows a h =
+    rw (moved-close buyer a h rows, moved-close seller a h rows, waiting-close 1 a h rows, waiting-close 2 a h rows)

@@ -1,0 +1,95 @@
+-- What the tests on rows say: each is a conjunction, taken apart into named facts.
+use Prim.Native.Nat.{ℕ, _≤_}
+use mathlib.Core.Path.{_≡_}
+use mathlib.Core.Bool.{true, false}
+use native.Mathlib.Omega.{arith}
+use lib.ListN.{length}
+use borrow.Author.Tests.{eqb-true, eqb-false, eq-eqb, not-true}
+use Rattle.rules.specs.declared.Row.{Row}
+use Rattle.rules.specs.declared.Request.{Request}
+use Rattle.rules.specs.Basics.{nth}
+use Rattle.rules.specs.Books.{Book, noRow}
+use Rattle.rules.specs.Requests.{confirm, withdraw}
+use Rattle.rules.specs.Registration.{pending, alike, confirms, withdraws, mirrors}
+use Rattle.rules.specs.Calls.{confirmedNumber, stateChecks}
+use Rattle.rules.proofs.Basics.Tests.{and-both}
+use Rattle.rules.proofs.Basics.Searches.{index-first}
+use Rattle.rules.proofs.Checks.Clearing.{Clear}
+use Rattle.rules.proofs.Checks.Passed.{passed-16-confirm, passed-16-withdraw, passed-17}
+
+-- a pending row with this proposer, counterparty and code
+pub record Alike (p c k : ℕ) (r : Row) : Type 0 where
+  pub is-pending : pending r ≡ true
+  pub proposer : r .proposer ≡ p
+  pub counterparty : r .counterparty ≡ c
+  pub code : r .code ≡ k
+
+pub alike-by : (p c k : ℕ) (r : Row) → Alike p c k r → alike p c k r ≡ true
+unfolding alike
+alike-by p c k r h =
+    and-both _ _ .1 (and-both _ _ .1 (and-both _ _ .1 (h .is-pending, eq-eqb _ _ (h .proposer)), eq-eqb _ _ (h .counterparty)), eq-eqb _ _ (h .code))
+
+-- a row that is not pending is like no other
+pub alike-ended : (p c k : ℕ) (r : Row) → pending r ≡ false → alike p c k r ≡ false
+unfolding alike
+alike-ended p c k r e = rw e
+
+pub alike-true : (p c k : ℕ) (r : Row) → alike p c k r ≡ true → Alike p c k r
+unfolding alike
+alike-true p c k r h =
+    let x = and-both _ _ .0 h in
+    let y = and-both _ _ .0 (x .0) in
+    let z = and-both _ _ .0 (y .0) in
+    record {
+      is-pending = z .0;
+      proposer = eqb-true _ _ (z .1);
+      counterparty = eqb-true _ _ (y .1);
+      code = eqb-true _ _ (x .1);
+    }
+
+-- side opposite, hours and quantity equal
+pub record Mirrored (q : Request) (r : Row) : Type 0 where
+  pub side : r .side ≡ q .side → ⊥
+  pub first : r .first ≡ q .first
+  pub last : r .last ≡ q .last
+  pub quantity : r .quantity .0 ≡ q .quantity .0
+
+pub mirrors-true : (q : Request) (r : Row) → mirrors q r ≡ true → Mirrored q r
+unfolding mirrors
+mirrors-true q r h =
+    let x = and-both _ _ .0 h in
+    let y = and-both _ _ .0 (x .0) in
+    let z = and-both _ _ .0 (y .0) in
+    record {
+      side = eqb-false _ _ (not-true _ (z .0));
+      first = eqb-true _ _ (z .1);
+      last = eqb-true _ _ (y .1);
+      quantity = eqb-true _ _ (x .1);
+    }
+
+-- the row that an accepted confirm names: its number, its parties and code, its terms
+pub record Confirmed (b : Book) (q : Request) : Type 0 where
+  pub low : 1 ≤ confirmedNumber b q
+  pub high : confirmedNumber b q ≤ length (b .part .rows)
+  pub row : Alike (q .other) (q .account) (q .code) (nth (b .part .rows) (confirmedNumber b q) noRow)
+  pub terms : Mirrored q (nth (b .part .rows) (confirmedNumber b q) noRow)
+
+pub passed-confirm : (b : Book) (q : Request) → Clear (stateChecks b confirm q) → Confirmed b q
+unfolding confirms
+passed-confirm b q h =
+    let (i, e) = passed-16-confirm b q h in
+    let f = index-first (alike (q .other) (q .account) (q .code)) noRow (b .part .rows) i e in
+    record {
+      low = rw e (omega arith);
+      high = rw e (f .inside);
+      row = rw e (alike-true _ _ _ _ (f .passes));
+      terms = mirrors-true _ _ (passed-17 b q h);
+    }
+
+-- the row that an accepted withdraw ends
+pub passed-withdraw : (b : Book) (q : Request) → Clear (stateChecks b withdraw q)
+    → (pending (nth (b .part .rows) (q .number) noRow) ≡ true) × (nth (b .part .rows) (q .number) noRow .proposer ≡ q .account)
+unfolding withdraws
+passed-withdraw b q h =
+    let x = and-both _ _ .0 (passed-16-withdraw b q h) in
+    (x .0, eqb-true _ _ (x .1))
