@@ -9,7 +9,7 @@ use Rattle.rules.specs.declared.Row.{Row}
 use Rattle.rules.specs.declared.Schedule.{Schedule}
 use Rattle.rules.specs.Basics.{allOf, within}
 use Rattle.rules.specs.Limits.{mostEnergy, mostPrice}
-use Rattle.rules.specs.Books.{Setup, accountCount, pointCount}
+use Rattle.rules.specs.Books.{Setup, accountCount, pointCount, periods}
 use Rattle.image.specs.Valid.{rowOk, scheduleOk}
 
 -- tests joined onto one that stands before them
@@ -35,7 +35,7 @@ rowRest accounts hours r =
     ∷ []
 
 -- a code in its 8 bytes is in range
-pub row-by-counts : (u : Setup) (r : Row) (accounts hours : ℕ) → accountCount u ≡ accounts → u .hours ≡ hours → r .code < 256 ^ 8
+pub row-by-counts : (u : Setup) (r : Row) (accounts hours : ℕ) → accountCount u ≡ accounts → periods u ≡ hours → r .code < 256 ^ 8
     → joined (within 1 (r .proposer) accounts) (rowRest accounts hours r) ≡ rowOk u r
 unfolding rowOk allOf
 row-by-counts u r accounts hours a h l =
@@ -45,7 +45,7 @@ row-by-counts u r accounts hours a h l =
 abbrev pub scheduleRest : ℕ → Schedule → List Bool
 scheduleRest hours x = within 1 (x .side) 2 ∷ within 1 (x .hour) hours ∷ within 1 (x .quantity .0) mostEnergy ∷ leb (x .price .0) mostPrice ∷ []
 
-pub schedule-by-counts : (u : Setup) (x : Schedule) (points hours : ℕ) → pointCount u ≡ points → u .hours ≡ hours
+pub schedule-by-counts : (u : Setup) (x : Schedule) (points hours : ℕ) → pointCount u ≡ points → periods u ≡ hours
     → joined (within 1 (x .point) points) (scheduleRest hours x) ≡ scheduleOk u x
 unfolding scheduleOk allOf
 schedule-by-counts u x points hours p h = joined-all (within 1 (x .point) points) (scheduleRest hours x) ∙ rw (p, h)

@@ -6,7 +6,7 @@ ghost use lib.ListN.{length};
 ghost use lib.Dec.{leb};
 ghost use Rattle.rules.specs.Basics.{any, every};
 ghost use Rattle.rules.specs.Limits.{mostGuarantee};
-ghost use Rattle.rules.specs.Books.{Setup, accountCount, pointCount};
+ghost use Rattle.rules.specs.Books.{Setup, accountCount, pointCount, periods};
 ghost use Rattle.rules.specs.Registration.{pending};
 ghost use Rattle.image.specs.Valid.{rowOk, scheduleOk};
 ghost use Rattle.image.specs.Cells.{rowsFrom, schedulesFrom, guaranteesFrom};
@@ -24,7 +24,7 @@ use wire::numbers::get_u64;
 
 // Every field of the row is in range, and its two accounts differ.
 pub fn row_ok(r: Row, accounts: u8, hours: u8) -> bool
-    ensures { λ b. ⌜ ((u : Setup) → accountCount u ≡ accounts → u .hours ≡ hours → b ≡ rowOk u r) ⌝ }
+    ensures { λ b. ⌜ ((u : Setup) → accountCount u ≡ accounts → periods u ≡ hours → b ≡ rowOk u r) ⌝ }
 {
     ((1 <= r.proposer) & (r.proposer <= accounts))
         & ((1 <= r.counterparty) & (r.counterparty <= accounts))
@@ -38,7 +38,7 @@ pub fn row_ok(r: Row, accounts: u8, hours: u8) -> bool
 
 // Every field of the schedule is in range.
 pub fn schedule_ok(x: Schedule, points: u8, hours: u8) -> bool
-    ensures { λ b. ⌜ ((u : Setup) → pointCount u ≡ points → u .hours ≡ hours → b ≡ scheduleOk u x) ⌝ }
+    ensures { λ b. ⌜ ((u : Setup) → pointCount u ≡ points → periods u ≡ hours → b ≡ scheduleOk u x) ⌝ }
 {
     ((1 <= x.point) & (x.point <= points))
         & ((1 <= x.side) & (x.side <= 2))
@@ -50,7 +50,7 @@ pub fn schedule_ok(x: Schedule, points: u8, hours: u8) -> bool
 // Each of the `n` rows from `at` on is in range.
 pub fn rows_ok(s: &[u8], at: usize, n: usize, accounts: u8, hours: u8) -> bool
     requires { ⌜ at + 18 * n ≤ length (now s) ⌝ }
-    ensures { λ b. ⌜ ((u : Setup) → accountCount u ≡ accounts → u .hours ≡ hours → b ≡ every (rowOk u) (rowsFrom (now (s .entry)) at n)) ⌝ }
+    ensures { λ b. ⌜ ((u : Setup) → accountCount u ≡ accounts → periods u ≡ hours → b ≡ every (rowOk u) (rowsFrom (now (s .entry)) at n)) ⌝ }
 {
     let mut ok = true;
     let mut k = at;
@@ -66,7 +66,7 @@ pub fn rows_ok(s: &[u8], at: usize, n: usize, accounts: u8, hours: u8) -> bool
 // Each of the `n` schedules from `at` on is in range.
 pub fn schedules_ok(s: &[u8], at: usize, n: usize, points: u8, hours: u8) -> bool
     requires { ⌜ at + 11 * n ≤ length (now s) ⌝ }
-    ensures { λ b. ⌜ ((u : Setup) → pointCount u ≡ points → u .hours ≡ hours → b ≡ every (scheduleOk u) (schedulesFrom (now (s .entry)) at n)) ⌝ }
+    ensures { λ b. ⌜ ((u : Setup) → pointCount u ≡ points → periods u ≡ hours → b ≡ every (scheduleOk u) (schedulesFrom (now (s .entry)) at n)) ⌝ }
 {
     let mut ok = true;
     let mut k = at;

@@ -1,7 +1,7 @@
 -- The set-up and the rows of bytes that are a book stand at their places, and what they say is in range: all that the sums, the margins and
 -- the exposure ask of such bytes.
 use Prim.Native.Nat.{ℕ, zero, suc, _+_, _-_, _*_, _≤_}
-use mathlib.Core.Path.{_≡_, sym, ap, _∙_}
+use mathlib.Core.Path.{_≡_, refl, sym, ap, _∙_}
 use mathlib.Core.List.{List, []}
 use mathlib.Core.Bool.{true}
 use native.Mathlib.Omega.{arith}
@@ -12,11 +12,12 @@ use Rattle.wire.proofs.PartLaws.{cut-at, inner}
 use Rattle.wire.proofs.SlotLaws.{chunks-front}
 use Rattle.units.specs.Units.{cents}
 use Rattle.rules.specs.declared.Account.{Account}
+use Rattle.rules.specs.declared.Margins.{Margins}
 use Rattle.rules.specs.declared.Counts.{Counts}
 use Rattle.rules.specs.declared.Row.{Row}
 use Rattle.rules.specs.Basics.{nth, Each}
 use Rattle.rules.specs.Limits.{mostPrice, mostRows, mostHours, mostAccounts, bookSize}
-use Rattle.rules.specs.Books.{Setup, Book, noAccount, noRow, accountAt, operatorOf, countsOf, operatorCount, accountCount}
+use Rattle.rules.specs.Books.{Setup, Book, noAccount, noRow, accountAt, operatorOf, countsOf, operatorCount, accountCount, periods, marginsOf}
 use Rattle.rules.specs.Opening.{countsIn, accountsIn, accountIn, accountsFrom, estimatesIn, setupOf, operatorsOf}
 use Rattle.rules.proofs.Basics.Searches.{each-map, each-nth, each-at}
 use Rattle.rules.proofs.Setups.SetupEntries.{nth-entry, account-at, counts-of-setup}
@@ -99,18 +100,21 @@ module _ (s : List ℕ) (h : isBook s ≡ true) where
   rows-tabled = each-map (sound-tabled (bookIn s .setup) (book-is-sound s h .setup-sound)) (book-is-sound s h .part-sound .rows-sound)
 
   -- the counts and an account, as they were read
-  pub hours-read : (n : Counts) → n ≡ countsIn s → n .hours ≡ bookIn s .setup .hours
+  pub hours-read : (n : Counts) → n ≡ countsIn s → n .hours ≡ periods (bookIn s .setup)
   hours-read n e = ap (λ (m : Counts). m .hours) (e ∙ sym (counts-in))
 
   pub account-read : (x : Account) (a : ℕ) → x ≡ nth (accountsIn s) a noAccount → x ≡ accountAt (bookIn s .setup) a
   unfolding setupOf
   account-read x a e = e ∙ ap (λ (u : Setup). accountAt u a) (sym (setup-in))
 
+  pub margins-read : (x : Margins) (a : ℕ) → x ≡ marginsOf (nth (accountsIn s) a noAccount) → x ≡ marginsOf (accountAt (bookIn s .setup) a)
+  margins-read x a e = e ∙ ap marginsOf (account-read (nth (accountsIn s) a noAccount) a refl)
+
   pub accounts-read : (a : ℕ) → a ≤ accountCount (bookIn s .setup) → (a ≤ countsIn s .accounts) × (a ≤ mostAccounts)
   accounts-read a l =
       (omega (arith, ap (λ (m : Counts). m .accounts) (counts-in)), omega (arith, book-is-sound s h .setup-sound .accounts-high))
 
-  pub hours-few : bookIn s .setup .hours ≤ mostHours
+  pub hours-few : periods (bookIn s .setup) ≤ mostHours
   hours-few = book-is-sound s h .setup-sound .hours-high
 
   -- the operator of an account stands in the account's first byte

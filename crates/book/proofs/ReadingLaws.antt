@@ -23,7 +23,7 @@ use Rattle.rules.specs.declared.Refusal.{Refusal}
 use Rattle.rules.specs.declared.Refusal.the-variants.{OutOfRange}
 use Rattle.rules.specs.Basics.{if_then_else_, within}
 use Rattle.rules.specs.Limits.{mostEnergy, mostHours, bookSize}
-use Rattle.rules.specs.Books.{Setup, noAccount, accountAt, operatorCount, accountCount}
+use Rattle.rules.specs.Books.{Setup, noAccount, accountAt, operatorCount, accountCount, periods, marginsOf}
 use Rattle.rules.specs.Opening.{countsIn, setupOf}
 use Rattle.rules.specs.Registration.{bought, sold, netOf, accountHour, keepsMargins, exposure}
 use Rattle.rules.specs.Verdicts.{Check, _⇒_, firstToApply}
@@ -76,7 +76,7 @@ account-in-range u os zero k low high = absurd (omega arith)
 account-in-range u os (suc i) k low high = each-at noAccount i (k .accounts-sound) (omega arith)
 
 -- margins in range keep the two sums of a net near each other
-margins-near : (account : Account) (x : AccountHour) (operators : ℕ) → SoundAccount operators account → keepsMargins account x ≡ true
+margins-near : (account : Account) (x : AccountHour) (operators : ℕ) → SoundAccount operators account → keepsMargins (marginsOf account) x ≡ true
     → (x .net .sold .0 ≤ x .net .bought .0 + mostEnergy) × (x .net .bought .0 ≤ x .net .sold .0 + mostEnergy)
 unfolding keepsMargins
 margins-near account x operators k h =
@@ -89,7 +89,7 @@ margins-near account x operators k h =
 
 -- ---- the net of an account hour of a book
 
-module _ (s : List ℕ) (h : isBook s ≡ true) (a t : ℕ) (i : (1 ≤ a) × (a ≤ accountCount (bookIn s .setup))) (j : (1 ≤ t) × (t ≤ bookIn s .setup .hours))
+module _ (s : List ℕ) (h : isBook s ≡ true) (a t : ℕ) (i : (1 ≤ a) × (a ≤ accountCount (bookIn s .setup))) (j : (1 ≤ t) × (t ≤ periods (bookIn s .setup)))
   where
     -- it is within the margins
     pub net-near : (sold (bookIn s .part .rows) a t ≤ bought (bookIn s .part .rows) a t + mostEnergy) × (bought (bookIn s .part .rows) a t ≤ sold (bookIn s .part .rows) a t + mostEnergy)
@@ -128,7 +128,7 @@ module _ (s : List ℕ) (h : isBook s ≡ true) (n : Counts) (e : n ≡ countsIn
   accounts-counted : accountCount u ≡ n .accounts
   accounts-counted = ap (λ (c : Counts). c .accounts) (counts-in s h ∙ sym e)
 
-  hours-counted : u .hours ≡ n .hours
+  hours-counted : periods u ≡ n .hours
   hours-counted = ap (λ (c : Counts). c .hours) (counts-in s h ∙ sym e)
 
   operators-counted : operatorCount u ≡ n .operators
@@ -141,7 +141,7 @@ module _ (s : List ℕ) (h : isBook s ≡ true) (n : Counts) (e : n ≡ countsIn
     by-account : {o : Bool} → not (within 1 a (n .accounts)) ≡ o → not (within 1 a (accountCount u)) ≡ o
     by-account x = ap (λ (m : ℕ). not (within 1 a m)) accounts-counted ∙ x
 
-    by-hour : {o : Bool} → not (within 1 t (n .hours)) ≡ o → not (within 1 t (u .hours)) ≡ o
+    by-hour : {o : Bool} → not (within 1 t (n .hours)) ≡ o → not (within 1 t (periods u)) ≡ o
     by-hour x = ap (λ (m : ℕ). not (within 1 t m)) hours-counted ∙ x
 
     pub net-no-account : not (within 1 a (n .accounts)) ≡ true → netReading (bookIn s) a t ≡ NetReading.Unread (OutOfRange 1)
@@ -156,8 +156,8 @@ module _ (s : List ℕ) (h : isBook s ≡ true) (n : Counts) (e : n ≡ countsIn
       account-inside : (1 ≤ a) × (a ≤ accountCount u)
       account-inside = within-true 1 a (accountCount u) .0 (not-false _ (by-account x))
 
-      hour-inside : (1 ≤ t) × (t ≤ u .hours)
-      hour-inside = within-true 1 t (u .hours) .0 (not-false _ (by-hour y))
+      hour-inside : (1 ≤ t) × (t ≤ periods u)
+      hour-inside = within-true 1 t (periods u) .0 (not-false _ (by-hour y))
 
       pub net-in-table : InTable mostHours a t
       net-in-table = net-has-place s h a t account-inside hour-inside

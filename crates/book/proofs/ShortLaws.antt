@@ -1,25 +1,24 @@
 -- What lies below zero of the net positions: off the bytes of a book, in an hour, for an account and for an operator.
 use Prim.Native.Nat.{ℕ, _-_, _*_, _≤_}
 use mathlib.Core.Path.{_≡_, refl, sym, ap, _∙_}
-use mathlib.Core.List.{List}
+use mathlib.Core.List.{List, [], _∷_}
 use mathlib.Core.Bool.{Bool, true, false, _&&_, _||_, and-false}
 use native.Mathlib.Nat.{mul-comm, mul-le-mul}
 use native.Mathlib.Omega.{arith}
 use lib.Dec.{eqb}
 use borrow.Author.Tests.{eq-eqb, ne-eqb}
 use Rattle.units.specs.declared.CentsPerMwh.{CentsPerMwh}
-use Rattle.units.specs.Units.{kwh}
 use Rattle.rules.specs.declared.Row.{Row}
 use Rattle.rules.specs.declared.Net.{Net}
 use Rattle.rules.specs.Basics.{if_then_else_, total, counting}
 use Rattle.rules.specs.Limits.{mostEnergy, mostPrice}
-use Rattle.rules.specs.Books.{Setup, estimateAt, operatorOf, accountCount}
+use Rattle.rules.specs.Books.{Setup, estimateAt, operatorOf, accountCount, periods}
 use Rattle.rules.specs.Registration.{confirmed, covers, seller, netOf, takes, ofOperator}
 use Rattle.rules.proofs.Basics.Tests.{or-neither}
 use Rattle.image.specs.Valid.{isBook, bookIn}
 use Rattle.image.proofs.Tables.MoneyLaws.{where-most}
 use Rattle.book.specs.Netted.{netted}
-use Rattle.book.specs.Worth.{shortWorth, accountShort, shortShare, netWith}
+use Rattle.book.specs.Worth.{shortTaken, shortWorth, accountShort, shortShare, netWith}
 use Rattle.book.proofs.ReadingLaws.{net-near}
 
 -- ---- an hour
@@ -38,36 +37,43 @@ neither : (x y z : Bool) → x && (y || z) ≡ false → x ≡ true → (y ≡ f
 neither true y z h e = or-neither y z .0 h
 neither false y z h e = let w : false ≡ true = e in (cc, cc)
 
-module _ (s : List ℕ) (k : isBook s ≡ true) (a h : ℕ) (i : (1 ≤ a) × (a ≤ accountCount (bookIn s .setup))) (j : (1 ≤ h) × (h ≤ bookIn s .setup .hours))
+module _ (s : List ℕ) (k : isBook s ≡ true) (a h : ℕ) (i : (1 ≤ a) × (a ≤ accountCount (bookIn s .setup))) (j : (1 ≤ h) × (h ≤ periods (bookIn s .setup)))
     (net : Net) (e : net ≡ netted (netOf (bookIn s .part .rows) a h)) where
   -- what was read is in range
   pub net-small : (net .bought .0 ≤ mostEnergy) × (net .sold .0 ≤ mostEnergy)
   unfolding netted
   net-small = let near = net-near s k a h i j in rw e (omega arith, omega arith)
 
-  module _ (trade : Row) (small : trade .quantity .0 ≤ mostEnergy) (r : ℕ) where
-    pub short-moved : r ≡ takes a h (record { net = net; sales = kwh 0; purchases = kwh 0 }) trade .net .sold .0
-        - takes a h (record { net = net; sales = kwh 0; purchases = kwh 0 }) trade .net .bought .0
-        → (r ≡ netWith (bookIn s .part .rows) trade a h .sold .0 - netWith (bookIn s .part .rows) trade a h .bought .0) × (r ≤ 2 * mostEnergy)
-    unfolding netted takes
-    short-moved d =
+  module _ (r : ℕ) where
+    -- where nothing is added
+    pub short-alone : r ≡ net .sold .0 - net .bought .0
+        → (r ≡ netWith (bookIn s .part .rows) [] a h .sold .0 - netWith (bookIn s .part .rows) [] a h .bought .0) × (r ≤ 2 * mostEnergy)
+    unfolding netted
+    short-alone d =
+        let b = ap (λ (n : Net). n .bought .0) e in
+        let o = ap (λ (n : Net). n .sold .0) e in
+        let near = net-small in
+        (omega arith, omega arith)
+
+    -- and where a trade is
+    pub short-one : (trade : Row) → trade .quantity .0 ≤ mostEnergy → r ≡ shortTaken net trade a h
+        → (r ≡ netWith (bookIn s .part .rows) (trade ∷ []) a h .sold .0 - netWith (bookIn s .part .rows) (trade ∷ []) a h .bought .0) × (r ≤ 2 * mostEnergy)
+    unfolding netted takes shortTaken
+    short-one trade small d =
         let b = ap (λ (n : Net). n .bought .0) e in
         let o = ap (λ (n : Net). n .sold .0) e in
         let near = net-small in
         let m = where-most (trade .quantity .0) mostEnergy (confirmed trade && covers h trade && eqb (seller trade) a) small in
         (omega arith, omega arith)
 
-    pub short-still : moves a trade ≡ false → r ≡ net .sold .0 - net .bought .0
-        → (r ≡ netWith (bookIn s .part .rows) trade a h .sold .0 - netWith (bookIn s .part .rows) trade a h .bought .0) × (r ≤ 2 * mostEnergy)
-    unfolding netted takes
-    short-still idle d =
-        let b = ap (λ (n : Net). n .bought .0) e in
-        let o = ap (λ (n : Net). n .sold .0) e in
-        let near = net-small in
-        let none = neither (confirmed trade) (eqb (trade .proposer) a) (eqb (trade .counterparty) a) idle in
-        let buys = idle-share (confirmed trade) (covers h trade) (eqb (trade .side) 1) (trade .counterparty) (trade .proposer) a (trade .quantity .0) (λ x. (none x .1, none x .0)) in
-        let sells = idle-share (confirmed trade) (covers h trade) (eqb (trade .side) 1) (trade .proposer) (trade .counterparty) a (trade .quantity .0) none in
-        (omega arith, omega arith)
+-- a trade that moves nothing of the account
+pub short-still : (net : Net) (trade : Row) (a h r : ℕ) → moves a trade ≡ false → r ≡ net .sold .0 - net .bought .0 → r ≡ shortTaken net trade a h
+unfolding takes shortTaken
+short-still net trade a h r idle d =
+    let none = neither (confirmed trade) (eqb (trade .proposer) a) (eqb (trade .counterparty) a) idle in
+    let buys = idle-share (confirmed trade) (covers h trade) (eqb (trade .side) 1) (trade .counterparty) (trade .proposer) a (trade .quantity .0) (λ x. (none x .1, none x .0)) in
+    let sells = idle-share (confirmed trade) (covers h trade) (eqb (trade .side) 1) (trade .proposer) (trade .counterparty) a (trade .quantity .0) none in
+    omega arith
 
 -- at the hour's price
 unfoldable pub hourShort : Setup → (ℕ → ℕ → Net) → ℕ → ℕ → ℕ
@@ -83,7 +89,7 @@ short-most below price a b = mul-le-mul a b
 
 -- ---- an account and an operator
 
-pub short-by-hour : (u : Setup) (net : ℕ → ℕ → Net) (a : ℕ) → accountShort u net a ≡ total (hourShort u net a) (counting (u .hours) 1)
+pub short-by-hour : (u : Setup) (net : ℕ → ℕ → Net) (a : ℕ) → accountShort u net a ≡ total (hourShort u net a) (counting (periods u) 1)
 unfolding accountShort hourShort
 short-by-hour u net a = refl
 

@@ -13,7 +13,7 @@ use Rattle.wire.specs.Numbers.{numberAt}
 use Rattle.rules.specs.declared.Row.{Row}
 use Rattle.rules.specs.Basics.{if_then_else_, total, any, nth}
 use Rattle.rules.specs.Limits.{mostEnergy, mostHours}
-use Rattle.rules.specs.Books.{noRow}
+use Rattle.rules.specs.Books.{noRow, periods}
 use Rattle.rules.specs.Registration.{pending, covers, alike, waiting}
 use Rattle.image.specs.Layout.{presentAt, rowAt}
 use Rattle.image.specs.Valid.{isBook, bookIn}
@@ -175,6 +175,6 @@ module _ (p : Row → Bool) (rows : List Row) where
   told-last k found e h = sym (or-false found) ∙ rw (e, drop-length rows) at h
 
 -- a side and an hour of the set-up have their cell
-pub side-hour : (s : List ℕ) → isBook s ≡ true → (side h : ℕ) → 1 ≤ side → side ≤ 2 → (1 ≤ h) × (h ≤ bookIn s .setup .hours) → Waits side h
+pub side-hour : (s : List ℕ) → isBook s ≡ true → (side h : ℕ) → 1 ≤ side → side ≤ 2 → (1 ≤ h) × (h ≤ periods (bookIn s .setup)) → Waits side h
 side-hour s b side h low high i =
     record { side-low = low; side-high = high; hour-low = i .0; hour-high = omega (arith, i .1, book-is-sound s b .setup-sound .hours-high) }

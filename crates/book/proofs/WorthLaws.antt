@@ -1,5 +1,5 @@
 -- Exposure as the sum of two parts: each pending sale weighs on its proposer's operator by itself, and what lies below zero is the rest.
--- What the exposure is once a trade is taken, for a row that is proposed and for one that is confirmed.
+-- What the exposure is with rows that are to be added, and with one that is confirmed.
 use Prim.Native.Nat.{ℕ, _+_, _-_, _*_, _≤_}
 use mathlib.Core.Path.{_≡_, refl, sym, ap, _∙_}
 use mathlib.Core.List.{List, [], _∷_, _++_}
@@ -10,12 +10,14 @@ use lib.ListN.{length}
 use lib.Dec.{eqb}
 use borrow.Author.Tests.{eqb-true}
 use Rattle.rules.specs.declared.Row.{Row}
+use Rattle.rules.specs.declared.Net.{Net}
 use Rattle.rules.specs.Basics.{if_then_else_, total, nth, upTo, Each, nil, cons}
-use Rattle.rules.specs.Books.{Setup, noRow, estimateAt, operatorOf, accountCount}
-use Rattle.rules.specs.Registration.{pending, covers, buyer, seller, counted, waiting, withStatus, mark, pendingSales, accountHour, takes, exposed, ofOperator, exposureOf, exposure, exposureWith}
-use Rattle.rules.proofs.Basics.Totals.{total-zero, total-add, total-times, total-cong, shared}
-use Rattle.rules.proofs.Rows.AccountHours.{moved-confirm, waiting-end, hour-takes}
-use Rattle.book.specs.Worth.{shortWorth, accountShort, spanPrice, saleWorth}
+use Rattle.rules.specs.Books.{Setup, noRow, estimateAt, operatorOf, accountCount, periods}
+use Rattle.rules.specs.Registration.{pending, covers, buyer, seller, counted, waiting, withStatus, mark, bought, sold, netOf, pendingSales, accountHour, takes, exposed, ofOperator, exposureOf, exposure, exposureWith}
+use Rattle.rules.proofs.Basics.Totals.{total-zero, total-append, total-add, total-times, total-cong, shared}
+use Rattle.rules.proofs.Basics.Searches.{each-append}
+use Rattle.rules.proofs.Rows.AccountHours.{moved-confirm, waiting-end, hour-takes-all, exposure-added}
+use Rattle.book.specs.Worth.{netWith, shortWorth, accountShort, spanPrice, saleWorth}
 
 -- ---- tests
 
@@ -54,7 +56,7 @@ shared-known n x q false d y k = total-zero (upTo n)
 
 module _ (u : Setup) (o : ℕ) where
   unfoldable worthOf : (ℕ → ℕ → ℕ) → ℕ
-  worthOf f = ofOperator u (λ a. total (λ h. estimateAt u h .0 * f a h) (upTo (u .hours))) o
+  worthOf f = ofOperator u (λ a. total (λ h. estimateAt u h .0 * f a h) (upTo (periods u))) o
 
   where-cong : (t : Bool) (x y : ℕ) → x ≡ y → (if t then x else 0) ≡ (if t then y else 0)
   where-cong t x y e = rw e
@@ -63,7 +65,7 @@ module _ (u : Setup) (o : ℕ) where
   unfolding worthOf ofOperator
   worth-cong f g e =
       total-cong _ _ (upTo (accountCount u)) (λ a.
-      where-cong (eqb (operatorOf u a) o) _ _ (total-cong _ _ (upTo (u .hours)) (λ h. ap (λ (x : ℕ). estimateAt u h .0 * x) (e a h))))
+      where-cong (eqb (operatorOf u a) o) _ _ (total-cong _ _ (upTo (periods u)) (λ h. ap (λ (x : ℕ). estimateAt u h .0 * x) (e a h))))
 
   where-add : (t : Bool) (x y : ℕ) → (if t then x + y else 0) ≡ (if t then x else 0) + (if t then y else 0)
   where-add true x y = refl
@@ -74,7 +76,7 @@ module _ (u : Setup) (o : ℕ) where
   worth-add f g =
       total-cong _ _ (upTo (accountCount u)) (λ a.
       where-cong (eqb (operatorOf u a) o) _ _
-      (total-cong _ _ (upTo (u .hours)) (λ h. mul-add (estimateAt u h .0) (f a h) (g a h)) ∙ total-add _ _ (upTo (u .hours)))
+      (total-cong _ _ (upTo (periods u)) (λ h. mul-add (estimateAt u h .0) (f a h) (g a h)) ∙ total-add _ _ (upTo (periods u)))
       ∙ where-add (eqb (operatorOf u a) o) _ _)
       ∙ total-add _ _ (upTo (accountCount u))
 
@@ -82,7 +84,7 @@ module _ (u : Setup) (o : ℕ) where
   unfolding worthOf ofOperator
   worth-none =
       total-cong _ (λ a. 0) (upTo (accountCount u)) (λ a.
-      where-cong (eqb (operatorOf u a) o) _ _ (total-cong _ (λ h. 0) (upTo (u .hours)) (λ h. mul-zero (estimateAt u h .0)) ∙ total-zero (upTo (u .hours)))
+      where-cong (eqb (operatorOf u a) o) _ _ (total-cong _ (λ h. 0) (upTo (periods u)) (λ h. mul-zero (estimateAt u h .0)) ∙ total-zero (upTo (periods u)))
       ∙ idle (eqb (operatorOf u a) o))
       ∙ total-zero (upTo (accountCount u))
 
@@ -94,17 +96,17 @@ module _ (u : Setup) (o : ℕ) where
 
   -- over the hours of an account
   account-sale : (r : Row) (a : ℕ)
-      → total (λ h. estimateAt u h .0 * saleShare r a h) (upTo (u .hours))
+      → total (λ h. estimateAt u h .0 * saleShare r a h) (upTo (periods u))
       ≡ (if pending r && eqb (r .side) 1 && eqb (r .proposer) a then r .quantity .0 * spanPrice u r else 0)
   unfolding spanPrice
   account-sale r a =
-      total-cong _ _ (upTo (u .hours)) (λ h. at-price (estimateAt u h .0) (r .quantity .0) (pending r) (covers h r) (eqb (r .proposer) a) (eqb (r .side) 1))
+      total-cong _ _ (upTo (periods u)) (λ h. at-price (estimateAt u h .0) (r .quantity .0) (pending r) (covers h r) (eqb (r .proposer) a) (eqb (r .side) 1))
       ∙ go (pending r && eqb (r .side) 1 && eqb (r .proposer) a)
     where
-      go : (t : Bool) → total (λ h. if t then (if covers h r then estimateAt u h .0 else 0) * r .quantity .0 else 0) (upTo (u .hours))
-          ≡ (if t then r .quantity .0 * total (λ h. if covers h r then estimateAt u h .0 else 0) (upTo (u .hours)) else 0)
-      go true = total-times (λ h. if covers h r then estimateAt u h .0 else 0) (r .quantity .0) (upTo (u .hours)) ∙ mul-comm _ (r .quantity .0)
-      go false = total-zero (upTo (u .hours))
+      go : (t : Bool) → total (λ h. if t then (if covers h r then estimateAt u h .0 else 0) * r .quantity .0 else 0) (upTo (periods u))
+          ≡ (if t then r .quantity .0 * total (λ h. if covers h r then estimateAt u h .0 else 0) (upTo (periods u)) else 0)
+      go true = total-times (λ h. if covers h r then estimateAt u h .0 else 0) (r .quantity .0) (upTo (periods u)) ∙ mul-comm _ (r .quantity .0)
+      go false = total-zero (upTo (periods u))
 
   -- over the operator's accounts it is what the row weighs
   sale-worth : (r : Row) → (pending r ≡ true → (1 ≤ r .proposer) × (r .proposer ≤ accountCount u)) → worthOf (saleShare r) ≡ saleWorth u o r
@@ -116,34 +118,32 @@ module _ (u : Setup) (o : ℕ) where
       (λ e. ap (λ (x : ℕ). eqb (operatorOf u x) o) (sym (eqb-true (r .proposer) a e))))
       ∙ shared-known (accountCount u) (r .proposer) (r .quantity .0 * spanPrice u r) (pending r) (eqb (r .side) 1) (eqb (operatorOf u (r .proposer)) o) known
 
+  -- where it waits, a row's proposer is an account of the set-up
+  abbrev Known : Row → Type 0
+  Known r = pending r ≡ true → (1 ≤ r .proposer) × (r .proposer ≤ accountCount u)
+
   -- what waits is the sum of what each row weighs
-  sales-worth : {rows : List Row} → Each (λ r. (1 ≤ r .proposer) × (r .proposer ≤ accountCount u)) rows
-      → worthOf (pendingSales rows) ≡ total (saleWorth u o) rows
+  sales-worth : {rows : List Row} → Each Known rows → worthOf (pendingSales rows) ≡ total (saleWorth u o) rows
   unfolding waiting total
   sales-worth nil = worth-none
   sales-worth (cons {x = r} {xs = rows} known e) =
-      worth-add (saleShare r) (pendingSales rows) ∙ omega (arith, sale-worth r (λ p. known), sales-worth e)
+      worth-add (saleShare r) (pendingSales rows) ∙ omega (arith, sale-worth r known, sales-worth e)
 
-  -- ---- the exposure once a trade is taken
+  -- ---- the exposure with rows that are to be added
 
-  pub with-none : (rows : List Row) → exposureWith u rows noRow o ≡ exposure u rows o
-  unfolding exposureOf takes worthOf
-  with-none rows = worth-cong (λ a h. exposed (takes a h (accountHour rows a h) noRow)) (λ a h. exposed (accountHour rows a h)) (λ a h. omega arith)
+  -- an exposure is what lies below zero, and what each row weighs
+  exposure-parts : {rows : List Row} → Each Known rows → exposure u rows o ≡ shortWorth u (netOf rows) o + total (saleWorth u o) rows
+  unfolding exposureOf worthOf shortWorth accountShort
+  exposure-parts {rows} known =
+      let below : ℕ → ℕ → ℕ = λ a h. sold rows a h - bought rows a h in
+      omega (arith, worth-add below (pendingSales rows), sales-worth known)
 
-  pub with-proposed : (rows : List Row) (trade : Row) → exposureWith u rows trade o ≡ exposure u (rows ++ trade ∷ []) o
-  unfolding exposureOf worthOf
-  with-proposed rows trade =
-      worth-cong (λ a h. exposed (takes a h (accountHour rows a h) trade)) (λ a h. exposed (accountHour (rows ++ trade ∷ []) a h)) (λ a h. ap exposed (sym (hour-takes rows trade a h)))
-
-  -- it is what lies below zero, what waits, and what the trade weighs
-  pub exposure-split : (rows : List Row) (trade : Row) → Each (λ r. (1 ≤ r .proposer) × (r .proposer ≤ accountCount u)) rows
-      → (pending trade ≡ true → (1 ≤ trade .proposer) × (trade .proposer ≤ accountCount u))
-      → exposureWith u rows trade o ≡ shortWorth u (λ a h. takes a h (accountHour rows a h) trade .net) o + total (saleWorth u o) rows + saleWorth u o trade
-  unfolding exposureOf takes worthOf shortWorth accountShort
-  exposure-split rows trade known one =
-      let below : ℕ → ℕ → ℕ = λ a h. takes a h (accountHour rows a h) trade .net .sold .0 - takes a h (accountHour rows a h) trade .net .bought .0 in
-      let waits : ℕ → ℕ → ℕ = λ a h. pendingSales rows a h + saleShare trade a h in
-      omega (arith, worth-add below waits, worth-add (pendingSales rows) (saleShare trade), sales-worth known, sale-worth trade one)
+  pub exposure-split : (rows added : List Row) → Each Known rows → Each Known added
+      → exposureWith u rows added o ≡ shortWorth u (netWith rows added) o + total (saleWorth u o) rows + total (saleWorth u o) added
+  exposure-split rows added known new =
+      let nets : shortWorth u (netOf (rows ++ added)) o ≡ shortWorth u (netWith rows added) o =
+      ap (λ (net : ℕ → ℕ → Net). shortWorth u net o) (λ i a h. hour-takes-all rows added a h i .net) in
+      omega (arith, exposure-added u rows added o, exposure-parts (each-append known new), nets, total-append (saleWorth u o) rows added)
 
   -- an hour that takes a pending row as one that is confirmed still has it waiting too
   confirmed-hour : (rows : List Row) (n a h : ℕ) → pending (nth rows n noRow) ≡ true
@@ -154,7 +154,7 @@ module _ (u : Setup) (o : ℕ) where
 
   pub with-confirmed : (rows : List Row) (row : Row) (n : ℕ) → 1 ≤ n → n ≤ length rows → row ≡ nth rows n noRow → pending row ≡ true
       → (1 ≤ row .proposer) × (row .proposer ≤ accountCount u)
-      → exposureWith u rows (withStatus 2 row) o ≡ exposure u (mark n 2 rows) o + saleWorth u o row
+      → exposureWith u rows (withStatus 2 row ∷ []) o ≡ exposure u (mark n 2 rows) o + saleWorth u o row
   unfolding exposureOf worthOf
   with-confirmed rows row n low high e p known =
       worth-cong (λ a h. exposed (takes a h (accountHour rows a h) (withStatus 2 row))) (λ a h. exposed (accountHour (mark n 2 rows) a h) + saleShare row a h)

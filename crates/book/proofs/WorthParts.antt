@@ -16,7 +16,7 @@ use Rattle.rules.specs.declared.Counts.{Counts}
 use Rattle.rules.specs.declared.Row.{Row}
 use Rattle.rules.specs.Basics.{if_then_else_, total, nth, counting, upTo, within, Each}
 use Rattle.rules.specs.Limits.{mostEnergy, mostPrice, mostHours}
-use Rattle.rules.specs.Books.{Setup, noRow, estimateAt, operatorOf, accountCount}
+use Rattle.rules.specs.Books.{Setup, noRow, estimateAt, operatorOf, accountCount, periods}
 use Rattle.rules.specs.Opening.{countsIn, estimatesIn, setupOf}
 use Rattle.rules.specs.Registration.{pending, exposure, exposureWith}
 use Rattle.rules.proofs.Basics.Searches.{each-map}
@@ -29,12 +29,12 @@ use Rattle.image.proofs.Tables.MoneyLaws.{price-most}
 use Rattle.book.specs.Worth.{shortWorth, spanPrice, saleWorth, PriceSums, Takeable, netWith}
 use Rattle.book.proofs.BookRows.{counts-in, setup-in, estimates-in, values-in}
 use Rattle.book.proofs.StateLaws.{book-is-sound}
-use Rattle.book.proofs.WorthLaws.{with-none, exposure-split}
+use Rattle.book.proofs.WorthLaws.{exposure-split}
 
 -- ---- prices
 
 module _ (s : List ℕ) (k : isBook s ≡ true) where
-  pub hours-in : countsIn s .hours ≡ bookIn s .setup .hours
+  pub hours-in : countsIn s .hours ≡ periods (bookIn s .setup)
   hours-in = sym (ap (λ (n : Counts). n .hours) (counts-in s k))
 
   pub accounts-in : countsIn s .accounts ≡ accountCount (bookIn s .setup)
@@ -92,7 +92,7 @@ summed-next u sums (suc i) v low high e t =
           (lt-or-ge k (suc i));
     }
 
-pub summed-done : (u : Setup) (sums : List ℕ) (n : ℕ) → u .hours < n → SummedTo u sums n → PriceSums u sums
+pub summed-done : (u : Setup) (sums : List ℕ) (n : ℕ) → periods u < n → SummedTo u sums n → PriceSums u sums
 summed-done u sums n l t = record { whole = t .whole; sum = λ k h. t .sum k (omega arith) }
 
 -- ---- a row's hours
@@ -146,11 +146,11 @@ pub record Spanned (u : Setup) (sums : List ℕ) (r : Row) : Type 0 where
   pub high : getD sums (r .last) 0 ≤ mostHours * mostPrice
   pub exact : getD sums (r .last) 0 - getD sums (r .first - 1) 0 ≡ spanPrice u r
 
-pub spanned : (u : Setup) (sums : List ℕ) (r : Row) → Each (λ p. p .0 ≤ mostPrice) (u .estimates) → u .hours ≤ mostHours → PriceSums u sums
-    → (1 ≤ r .first) × (r .first ≤ r .last) × (r .last ≤ u .hours) → Spanned u sums r
+pub spanned : (u : Setup) (sums : List ℕ) (r : Row) → Each (λ p. p .0 ≤ mostPrice) (u .estimates) → periods u ≤ mostHours → PriceSums u sums
+    → (1 ≤ r .first) × (r .first ≤ r .last) × (r .last ≤ periods u) → Spanned u sums r
 unfolding spanPrice
 spanned u sums r cheap short t k =
-    let whole = span-sum (λ h. estimateAt u h .0) (r .first) (r .last) (u .hours) (k .0) (k .1) (k .2) in
+    let whole = span-sum (λ h. estimateAt u h .0) (r .first) (r .last) (periods u) (k .0) (k .1) (k .2) in
     let end = t .sum (r .last) (k .2) in
     let start = t .sum (r .first - 1) (omega arith) in
     let most = prices-most u cheap (r .last) in
@@ -237,29 +237,22 @@ module _ (f : Row → ℕ) where
 -- ---- the exposure
 
 -- its three parts, added one after the other
-pub exposure-joined : (s : List ℕ) → isBook s ≡ true → (o : ℕ) (trade : Row) → Takeable (bookIn s .setup) trade → (below waits own two three : ℕ)
-    → below ≡ shortWorth (bookIn s .setup) (netWith (bookIn s .part .rows) trade) o → waits ≡ total (saleWorth (bookIn s .setup) o) (bookIn s .part .rows)
-    → own ≡ saleWorth (bookIn s .setup) o trade → two ≡ below + waits → three ≡ two + own
-    → three ≡ exposureWith (bookIn s .setup) (bookIn s .part .rows) trade o
-exposure-joined s k o trade t below waits own two three e d f g h =
+pub exposure-joined : (s : List ℕ) → isBook s ≡ true → (o : ℕ) (added : List Row) → Each (Takeable (bookIn s .setup)) added → (below waits own two three : ℕ)
+    → below ≡ shortWorth (bookIn s .setup) (netWith (bookIn s .part .rows) added) o → waits ≡ total (saleWorth (bookIn s .setup) o) (bookIn s .part .rows)
+    → own ≡ total (saleWorth (bookIn s .setup) o) added → two ≡ below + waits → three ≡ two + own
+    → three ≡ exposureWith (bookIn s .setup) (bookIn s .part .rows) added o
+exposure-joined s k o added t below waits own two three e d f g h =
     h
     ∙ rw (g, e, d, f)
-    (sym (exposure-split (bookIn s .setup) o (bookIn s .part .rows) trade (each-map (λ r w. (w .proposer-low, w .proposer-high)) (book-is-sound s k .part-sound .rows-sound)) (t .proposer-known)))
+    (sym (exposure-split (bookIn s .setup) o (bookIn s .part .rows) added
+    (each-map (λ r w p. (w .proposer-low, w .proposer-high)) (book-is-sound s k .part-sound .rows-sound))
+    (each-map (λ r w. w .proposer-known) t)))
 
--- no trade can be taken, and leaves the exposure as it is
-pub none-takeable : (u : Setup) (trade : Row) → trade ≡ noRow → Takeable u trade
-none-takeable u trade e =
-    rw e
-    (record {
-      quantity-high = omega arith;
-      proposer-known = λ p. let z : _≡_ {A = ℕ} 0 1 = cc in absurd (omega arith);
-      hours-known = λ p. let z : _≡_ {A = ℕ} 0 1 = cc in absurd (omega arith);
-    })
+-- what is added is no more than the greatest quantity
+pub takeable-slight : (u : Setup) {added : List Row} → Each (Takeable u) added → Each (λ r. r .quantity .0 ≤ mostEnergy) added
+takeable-slight u t = each-map (λ r w. w .quantity-high) t
 
-pub none-taken : (s : List ℕ) → isBook s ≡ true → (o : ℕ) (trade : Row) (m : ℕ) → trade ≡ noRow
-    → m ≡ exposureWith (bookIn s .setup) (bookIn s .part .rows) trade o → m ≡ exposure (setupOf s) (bookIn s .part .rows) o
-none-taken s k o trade m e d =
-    d
-    ∙ ap (λ (t : Row). exposureWith (bookIn s .setup) (bookIn s .part .rows) t o) e
-    ∙ with-none (bookIn s .setup) o (bookIn s .part .rows)
-    ∙ ap (λ (u : Setup). exposure u (bookIn s .part .rows) o) (setup-in s k)
+-- the exposure at the set-up that the bytes say
+pub exposure-read : (s : List ℕ) → isBook s ≡ true → (o m : ℕ) → m ≡ exposure (bookIn s .setup) (bookIn s .part .rows) o
+    → m ≡ exposure (setupOf s) (bookIn s .part .rows) o
+exposure-read s k o m e = e ∙ ap (λ (u : Setup). exposure u (bookIn s .part .rows) o) (setup-in s k)

@@ -1,20 +1,32 @@
 -- Exposure in two parts (document 01, "Registration"): what lies below zero of the net positions, and the pending sales row by row.
 use Prim.Native.Nat.{ℕ, _-_, _*_, _≤_}
 use mathlib.Core.Path.{_≡_}
-use mathlib.Core.List.{List}
+use mathlib.Core.List.{List, [], _∷_}
 use mathlib.Core.Bool.{true, _&&_}
 use lib.ListN.{length, getD}
 use lib.Dec.{eqb}
+use Rattle.units.specs.Units.{kwh}
 use Rattle.rules.specs.declared.Row.{Row}
 use Rattle.rules.specs.declared.Net.{Net}
-use Rattle.rules.specs.Basics.{if_then_else_, total, upTo}
+use Rattle.rules.specs.Basics.{if_then_else_, total, upTo, Each}
 use Rattle.rules.specs.Limits.{mostEnergy}
-use Rattle.rules.specs.Books.{Setup, estimateAt, operatorOf, accountCount}
-use Rattle.rules.specs.Registration.{pending, covers, accountHour, takes, ofOperator}
+use Rattle.rules.specs.Books.{Setup, estimateAt, operatorOf, accountCount, periods}
+use Rattle.rules.specs.Registration.{pending, covers, accountHour, takes, takesAll, ofOperator}
+use Rattle.book.specs.declared.worth.Added.{Added}
+use Rattle.book.specs.declared.worth.Added.the-variants.{Nothing, One}
+
+-- what is to be added, as rows
+abbrev pub addedRows : Added → List Row
+addedRows Nothing = []
+addedRows (One r) = r ∷ []
+
+-- no row that is to be added is of more than the greatest quantity
+abbrev pub Slight : Added → Type 0
+Slight added = Each (λ r. r .quantity .0 ≤ mostEnergy) (addedRows added)
 
 -- what lies below zero of an account's net positions, at estimated prices
 unfoldable pub accountShort : Setup → (ℕ → ℕ → Net) → ℕ → ℕ
-accountShort u net a = total (λ h. estimateAt u h .0 * (net a h .sold .0 - net a h .bought .0)) (upTo (u .hours))
+accountShort u net a = total (λ h. estimateAt u h .0 * (net a h .sold .0 - net a h .bought .0)) (upTo (periods u))
 
 -- what lies below zero of an operator's
 unfoldable pub shortWorth : Setup → (ℕ → ℕ → Net) → ℕ → ℕ
@@ -24,18 +36,23 @@ shortWorth u net o = ofOperator u (accountShort u net) o
 unfoldable pub shortShare : Setup → (ℕ → ℕ → Net) → ℕ → ℕ → ℕ
 shortShare u net o a = if eqb (operatorOf u a) o then accountShort u net a else 0
 
--- the net positions once the trade is taken
-abbrev pub netWith : List Row → Row → ℕ → ℕ → Net
-netWith rows trade a h = takes a h (accountHour rows a h) trade .net
+-- the net positions once the accounts took rows that are to be added
+abbrev pub netWith : List Row → List Row → ℕ → ℕ → Net
+netWith rows added a h = takesAll a h (accountHour rows a h) added .net
+
+-- what of a net position lies below zero once the account took the trade
+unfoldable pub shortTaken : Net → Row → ℕ → ℕ → ℕ
+shortTaken net trade a h =
+    let x = takes a h (record { net = net; sales = kwh 0; purchases = kwh 0 }) trade in x .net .sold .0 - x .net .bought .0
 
 -- the estimated prices of a row's hours together
 unfoldable pub spanPrice : Setup → Row → ℕ
-spanPrice u r = total (λ h. if covers h r then estimateAt u h .0 else 0) (upTo (u .hours))
+spanPrice u r = total (λ h. if covers h r then estimateAt u h .0 else 0) (upTo (periods u))
 
 -- entry k of a list of 26 is the sum of the estimated prices of the hours 1 to k
 pub record PriceSums (u : Setup) (sums : List ℕ) : Type 0 where
   pub whole : length sums ≡ 26
-  pub sum : (k : ℕ) → k ≤ u .hours → getD sums k 0 ≡ total (λ h. estimateAt u h .0) (upTo k)
+  pub sum : (k : ℕ) → k ≤ periods u → getD sums k 0 ≡ total (λ h. estimateAt u h .0) (upTo k)
 
 -- what a row weighs on the operator as a pending sale of one of its accounts; nothing where it is none
 unfoldable pub saleWorth : Setup → ℕ → Row → ℕ
@@ -45,4 +62,4 @@ saleWorth u o r = if pending r && eqb (r .side) 1 && eqb (operatorOf u (r .propo
 pub record Takeable (u : Setup) (trade : Row) : Type 0 where
   pub quantity-high : trade .quantity .0 ≤ mostEnergy
   pub proposer-known : pending trade ≡ true → (1 ≤ trade .proposer) × (trade .proposer ≤ accountCount u)
-  pub hours-known : pending trade ≡ true → (1 ≤ trade .first) × (trade .first ≤ trade .last) × (trade .last ≤ u .hours)
+  pub hours-known : pending trade ≡ true → (1 ≤ trade .first) × (trade .first ≤ trade .last) × (trade .last ≤ periods u)

@@ -10,8 +10,8 @@ ghost use Rattle.rules.specs.Readings.{netReading, exposureReading};
 ghost use Rattle.image.specs.Valid.{isBook, bookIn};
 use crate::positions::HALF_TURN;
 use crate::positions::stored_net;
+use crate::worth::Added;
 use crate::worth::exposure_with;
-use crate::worth::no_trade;
 use image::layout::MOST_IN_4;
 use rules::ExposureReading;
 use rules::NetReading;
@@ -61,5 +61,5 @@ pub fn exposure_in(book: &[u8], operator: u8) -> ExposureReading
     if outside(operator, n.operators) {
         return ExposureReading::Unread(Refusal::OutOfRange { bit: 9 });
     }
-    ExposureReading::Stands(exposure_with(book, operator, no_trade()))
+    ExposureReading::Stands(exposure_with(book, operator, Added::Nothing))
 }

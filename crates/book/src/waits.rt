@@ -5,7 +5,7 @@ ghost use Prim.Native.Nat.{_+_, _-_, _≤_};
 ghost use lib.ListN.{length, getD};
 ghost use Rattle.rules.specs.Basics.{any, nth};
 ghost use Rattle.rules.specs.Limits.{mostEnergy, mostHours};
-ghost use Rattle.rules.specs.Books.{noRow, accountCount};
+ghost use Rattle.rules.specs.Books.{noRow, accountCount, periods};
 ghost use Rattle.rules.specs.Registration.{alike};
 ghost use Rattle.image.specs.Valid.{isBook, bookIn};
 ghost use Rattle.image.specs.Tables.{Tabled, Room, Raised};
@@ -107,7 +107,7 @@ fn wait_at(waits: &[u32], side: u8, hour: u8) -> u32
 
 // What an account holds in an hour, both of the set-up: its net position off the book, and what waits off the table.
 pub fn held_hour(book: &[u8], waits: &[u32], account: u8, hour: u8) -> AccountHour
-    requires { ⌜ (isBook (now book) ≡ true) × WaitsOf (bookIn (now book) .part .rows) account (now waits) × ((1 ≤ account) × (account ≤ accountCount (bookIn (now book) .setup))) × ((1 ≤ hour) × (hour ≤ bookIn (now book) .setup .hours)) ⌝ }
+    requires { ⌜ (isBook (now book) ≡ true) × WaitsOf (bookIn (now book) .part .rows) account (now waits) × ((1 ≤ account) × (account ≤ accountCount (bookIn (now book) .setup))) × ((1 ≤ hour) × (hour ≤ periods (bookIn (now book) .setup))) ⌝ }
     ensures { λ r. ⌜ r ≡ nettedHour (bookIn (now (book .entry)) .part .rows) account hour ⌝ }
 {
     let net = net_at(book, account, hour);

@@ -3,18 +3,19 @@ ghost use mathlib.Core.Path.{_≡_};
 ghost use mathlib.Core.Bool.{true};
 ghost use Prim.Native.Nat.{_-_, _*_, _^_, _≤_, _<_};
 ghost use lib.ListN.{length, getD};
-ghost use Rattle.rules.specs.Basics.{total, nth};
+ghost use Rattle.rules.specs.Basics.{total, nth, Each};
 ghost use Rattle.rules.specs.Limits.{mostEnergy, mostPrice, mostHours, mostAccounts, mostRows};
-ghost use Rattle.rules.specs.Books.{noRow, estimateAt, operatorOf, accountCount};
+ghost use Rattle.rules.specs.Books.{noRow, estimateAt, operatorOf, accountCount, periods};
 ghost use Rattle.rules.specs.Opening.{countsIn, accountsFrom};
 ghost use Rattle.rules.specs.Registration.{exposureWith};
 ghost use Rattle.image.specs.Valid.{isBook, bookIn};
-ghost use Rattle.book.specs.Worth.{shortWorth, saleWorth, PriceSums, Takeable, accountShort, shortShare, netWith};
+ghost use Rattle.book.specs.Worth.{addedRows, Slight, shortTaken, shortWorth, saleWorth, PriceSums, Takeable, accountShort, shortShare, netWith};
 use crate::positions::net_at;
 use crate::state::row_count;
 use crate::state::row_place;
 use image::rows::row_at;
 use rules::AccountHour;
+use rules::Net;
 use rules::Row;
 use rules::hours::short;
 use setup::counts::accounts_from;
@@ -24,6 +25,12 @@ use units::CentsPerMwh;
 use units::Kwh;
 use units::MilliCents;
 use wire::numbers::get_u8;
+
+// What is to be added to the rows of a book.
+pub enum Added {
+    Nothing,
+    One(Row),
+}
 
 // The hours that a day can have, and none.
 const PRICE_SUMS: usize = 26;
@@ -43,7 +50,7 @@ fn owner(book: &[u8], from: usize, number: u8) -> u8
 
 // The estimated price of an hour.
 fn price(book: &[u8], hour: u8) -> CentsPerMwh
-    requires { ⌜ (isBook (now book) ≡ true) × (1 ≤ hour) × (hour ≤ bookIn (now book) .setup .hours) ⌝ }
+    requires { ⌜ (isBook (now book) ≡ true) × (1 ≤ hour) × (hour ≤ periods (bookIn (now book) .setup)) ⌝ }
     ensures { λ r. ⌜ (r ≡ estimateAt (bookIn (now (book .entry)) .setup) hour) × (r .0 ≤ mostPrice) ⌝ }
 {
     estimate(book, hour)
@@ -130,12 +137,11 @@ fn sales_worth(book: &[u8], sums: &[u64], operator: u8) -> MilliCents
 
 // ---- net positions
 
-// What of an account's net position in an hour lies below zero once the trade is taken.
-fn short_at(book: &[u8], account: u8, hour: u8, trade: Row) -> Kwh
-    requires { ⌜ (isBook (now book) ≡ true) × ((1 ≤ account) × (account ≤ accountCount (bookIn (now book) .setup))) × ((1 ≤ hour) × (hour ≤ bookIn (now book) .setup .hours)) × (trade .quantity .0 ≤ mostEnergy) ⌝ }
-    ensures { λ r. ⌜ (r .0 ≡ netWith (bookIn (now (book .entry)) .part .rows) trade account hour .sold .0 - netWith (bookIn (now (book .entry)) .part .rows) trade account hour .bought .0) × (r .0 ≤ 2 * mostEnergy) ⌝ }
+// What of a net position lies below zero once the account took the trade.
+fn short_with(net: Net, account: u8, hour: u8, trade: Row) -> Kwh
+    requires { ⌜ (net .bought .0 ≤ mostEnergy) × (net .sold .0 ≤ mostEnergy) × (trade .quantity .0 ≤ mostEnergy) ⌝ }
+    ensures { λ r. ⌜ r .0 ≡ shortTaken net trade account hour ⌝ }
 {
-    let net = net_at(book, account, hour);
     if (trade.status == 2) & ((trade.proposer == account) | (trade.counterparty == account)) {
         let held = AccountHour {
             net,
@@ -148,16 +154,28 @@ fn short_at(book: &[u8], account: u8, hour: u8, trade: Row) -> Kwh
     short(net)
 }
 
-// What of an account's net positions lies below zero once the trade is taken, at estimated prices.
-fn account_short(book: &[u8], account: u8, trade: Row) -> MilliCents
-    requires { ⌜ (isBook (now book) ≡ true) × ((1 ≤ account) × (account ≤ accountCount (bookIn (now book) .setup))) × (trade .quantity .0 ≤ mostEnergy) ⌝ }
-    ensures { λ r. ⌜ (r .0 ≡ accountShort (bookIn (now (book .entry)) .setup) (netWith (bookIn (now (book .entry)) .part .rows) trade) account) × (r .0 ≤ mostHours * (2 * mostEnergy * mostPrice)) ⌝ }
+// What of an account's net position in an hour lies below zero once it took what is added.
+fn short_at(book: &[u8], account: u8, hour: u8, added: Added) -> Kwh
+    requires { ⌜ (isBook (now book) ≡ true) × ((1 ≤ account) × (account ≤ accountCount (bookIn (now book) .setup))) × ((1 ≤ hour) × (hour ≤ periods (bookIn (now book) .setup))) × Slight added ⌝ }
+    ensures { λ r. ⌜ (r .0 ≡ netWith (bookIn (now (book .entry)) .part .rows) (addedRows added) account hour .sold .0 - netWith (bookIn (now (book .entry)) .part .rows) (addedRows added) account hour .bought .0) × (r .0 ≤ 2 * mostEnergy) ⌝ }
+{
+    let net = net_at(book, account, hour);
+    match added {
+        Added::Nothing => short(net),
+        Added::One(trade) => short_with(net, account, hour, trade),
+    }
+}
+
+// What of an account's net positions lies below zero with what is added, at estimated prices.
+fn account_short(book: &[u8], account: u8, added: Added) -> MilliCents
+    requires { ⌜ (isBook (now book) ≡ true) × ((1 ≤ account) × (account ≤ accountCount (bookIn (now book) .setup))) × Slight added ⌝ }
+    ensures { λ r. ⌜ (r .0 ≡ accountShort (bookIn (now (book .entry)) .setup) (netWith (bookIn (now (book .entry)) .part .rows) (addedRows added)) account) × (r .0 ≤ mostHours * (2 * mostEnergy * mostPrice)) ⌝ }
 {
     let n = counts(book);
     let mut sum = MilliCents(0);
     let mut hour: u8 = 1;
     while hour <= n.hours {
-        let below = short_at(book, account, hour, trade);
+        let below = short_at(book, account, hour, added);
         let price = price(book, hour);
         sum = sum.plus(below.at(price));
         hour = hour + 1;
@@ -166,27 +184,27 @@ fn account_short(book: &[u8], account: u8, trade: Row) -> MilliCents
 }
 
 // The same of one account, where it is the operator's; nothing where it is another's.
-fn short_share(book: &[u8], from: usize, account: u8, operator: u8, trade: Row) -> MilliCents
-    requires { ⌜ (isBook (now book) ≡ true) × (from ≡ accountsFrom (countsIn (now book))) × ((1 ≤ account) × (account ≤ accountCount (bookIn (now book) .setup))) × (trade .quantity .0 ≤ mostEnergy) ⌝ }
-    ensures { λ r. ⌜ (r .0 ≡ shortShare (bookIn (now (book .entry)) .setup) (netWith (bookIn (now (book .entry)) .part .rows) trade) operator account) × (r .0 ≤ mostHours * (2 * mostEnergy * mostPrice)) ⌝ }
+fn short_share(book: &[u8], from: usize, account: u8, operator: u8, added: Added) -> MilliCents
+    requires { ⌜ (isBook (now book) ≡ true) × (from ≡ accountsFrom (countsIn (now book))) × ((1 ≤ account) × (account ≤ accountCount (bookIn (now book) .setup))) × Slight added ⌝ }
+    ensures { λ r. ⌜ (r .0 ≡ shortShare (bookIn (now (book .entry)) .setup) (netWith (bookIn (now (book .entry)) .part .rows) (addedRows added)) operator account) × (r .0 ≤ mostHours * (2 * mostEnergy * mostPrice)) ⌝ }
 {
     if owner(book, from, account) == operator {
-        return account_short(book, account, trade);
+        return account_short(book, account, added);
     }
     MilliCents(0)
 }
 
-// What of the operator's net positions lies below zero once the trade is taken, at estimated prices.
-fn short_worth(book: &[u8], operator: u8, trade: Row) -> MilliCents
-    requires { ⌜ (isBook (now book) ≡ true) × (trade .quantity .0 ≤ mostEnergy) ⌝ }
-    ensures { λ r. ⌜ (r .0 ≡ shortWorth (bookIn (now (book .entry)) .setup) (netWith (bookIn (now (book .entry)) .part .rows) trade) operator) × (r .0 ≤ mostAccounts * (mostHours * (2 * mostEnergy * mostPrice))) ⌝ }
+// What of the operator's net positions lies below zero with what is added, at estimated prices.
+fn short_worth(book: &[u8], operator: u8, added: Added) -> MilliCents
+    requires { ⌜ (isBook (now book) ≡ true) × Slight added ⌝ }
+    ensures { λ r. ⌜ (r .0 ≡ shortWorth (bookIn (now (book .entry)) .setup) (netWith (bookIn (now (book .entry)) .part .rows) (addedRows added)) operator) × (r .0 ≤ mostAccounts * (mostHours * (2 * mostEnergy * mostPrice))) ⌝ }
 {
     let n = counts(book);
     let from = accounts_from(n);
     let mut sum = MilliCents(0);
     let mut account: u8 = 1;
     while account <= n.accounts {
-        sum = sum.plus(short_share(book, from, account, operator, trade));
+        sum = sum.plus(short_share(book, from, account, operator, added));
         account = account + 1;
     }
     sum
@@ -194,32 +212,27 @@ fn short_worth(book: &[u8], operator: u8, trade: Row) -> MilliCents
 
 // ---- exposure
 
-// No trade: nobody's, of no quantity and no status.
-pub fn no_trade() -> Row
-    ensures { λ r. ⌜ r ≡ noRow ⌝ }
+// What is added weighs on the operator as a pending sale, of a book whose accounts begin at `from`.
+fn added_sale(book: &[u8], sums: &[u64], from: usize, operator: u8, added: Added) -> MilliCents
+    requires { ⌜ (isBook (now book) ≡ true) × PriceSums (bookIn (now book) .setup) (now sums) × (from ≡ accountsFrom (countsIn (now book))) × Each (Takeable (bookIn (now book) .setup)) (addedRows added) ⌝ }
+    ensures { λ m. ⌜ (m .0 ≡ total (saleWorth (bookIn (now (book .entry)) .setup) operator) (addedRows added)) × (m .0 ≤ mostEnergy * (mostHours * mostPrice)) ⌝ }
 {
-    Row {
-        proposer: 0,
-        counterparty: 0,
-        code: 0,
-        side: 0,
-        first: 0,
-        last: 0,
-        quantity: Kwh(0),
-        status: 0,
+    match added {
+        Added::Nothing => MilliCents(0),
+        Added::One(r) => sale_of(book, sums, from, operator, r),
     }
 }
 
-// The exposure of an operator once the trade is taken.
-pub fn exposure_with(book: &[u8], operator: u8, trade: Row) -> MilliCents
-    requires { ⌜ (isBook (now book) ≡ true) × Takeable (bookIn (now book) .setup) trade ⌝ }
-    ensures meaning { λ r. ⌜ r .0 ≡ exposureWith (bookIn (now (book .entry)) .setup) (bookIn (now (book .entry)) .part .rows) trade operator ⌝ }
+// The exposure of an operator with what is added.
+pub fn exposure_with(book: &[u8], operator: u8, added: Added) -> MilliCents
+    requires { ⌜ (isBook (now book) ≡ true) × Each (Takeable (bookIn (now book) .setup)) (addedRows added) ⌝ }
+    ensures meaning { λ r. ⌜ (let b = bookIn (now (book .entry)) in r .0 ≡ exposureWith (b .setup) (b .part .rows) (addedRows added) operator) ⌝ }
     ensures bounded { λ r. ⌜ r .0 < 2 ^ 63 ⌝ }
 {
     let sums = price_sums(book);
     let from = accounts_from(counts(book));
-    let below = short_worth(book, operator, trade);
+    let below = short_worth(book, operator, added);
     let waits = sales_worth(book, &sums, operator);
-    let own = sale_of(book, &sums, from, operator, trade);
+    let own = added_sale(book, &sums, from, operator, added);
     below.plus(waits).plus(own)
 }

@@ -5,7 +5,7 @@ use mathlib.Core.Path.{_≡_, refl}
 use mathlib.Core.Bool.{Bool, true, false}
 use Rattle.rules.specs.Basics.{within}
 use Rattle.rules.specs.Verdicts.{firstToApply}
-use Rattle.rules.specs.Books.{Book, accountCount, operatorCount}
+use Rattle.rules.specs.Books.{Book, accountCount, operatorCount, periods}
 use Rattle.rules.specs.Readings.{netReading, exposureReading}
 use Rattle.rules.specs.Ledger.{Ledger}
 use Rattle.rules.proofs.Ledgers.Agreement.{Agrees}
@@ -18,9 +18,9 @@ use Rattle.day.proofs.Images.{image-says, image-stands}
 module _ (b : Book) (l : Ledger) (g : Agrees b l) where
   net-reading-agrees : (a h : ℕ) → netReading b a h ≡ ledgerNetReading l a h
   unfolding netReading firstToApply ledgerNetReading
-  net-reading-agrees a h = go (within 1 a (accountCount (l .setup))) (within 1 h (l .setup .hours)) refl refl
+  net-reading-agrees a h = go (within 1 a (accountCount (l .setup))) (within 1 h (periods (l .setup))) refl refl
     where
-      go : (s t : Bool) → within 1 a (accountCount (l .setup)) ≡ s → within 1 h (l .setup .hours) ≡ t → netReading b a h ≡ ledgerNetReading l a h
+      go : (s t : Bool) → within 1 a (accountCount (l .setup)) ≡ s → within 1 h (periods (l .setup)) ≡ t → netReading b a h ≡ ledgerNetReading l a h
       go true true e f = rw (e, f) (net-read-is-the-ledgers b l g a h e f)
       go true false e f = rw (g .setup, e, f)
       go false t e f = rw (g .setup, e)

@@ -17,7 +17,7 @@ use Rattle.rules.specs.Books.{Book, operatorCount}
 use Rattle.rules.specs.Requests.{Kind, settle, filled}
 use Rattle.rules.specs.Registration.{netOf}
 use Rattle.rules.specs.Settlement.{pricesIn, settled, balance, results, balances, balanceFigure, balanceBytes, figuresIn}
-use Rattle.rules.specs.Calls.{Call, Settled, kindIn, requestIn, settles, refusal, answer, balancesAfter, _∈_, inputChecks, step}
+use Rattle.rules.specs.Calls.{Call, Settled, kindIn, requestIn, workedOut, settles, refusal, answer, balancesAfter, _∈_, inputChecks, step}
 use Rattle.rules.specs.Lists.{isAcceptance, accepts, acceptsAs}
 use Rattle.rules.proofs.Basics.Tests.{and-both}
 use Rattle.rules.proofs.Basics.Searches.{each-map, any-none, counting-length}
@@ -52,7 +52,7 @@ module _ (b : Book) (c : Call) where
   balances-many = length-map (upTo (operatorCount (b .setup))) _ ∙ counting-length (operatorCount (b .setup)) 1
 
   worked-go : (k : Kind) → k ≡ settle → settles k b c ≡ some worked
-  unfolding settles
+  unfolding settles workedOut
   worked-go k e = rw e
 
   writes-go : (o : Option Refusal) → kindIn c ≡ settle → isAcceptance (answer b c o .outcome .verdict) ≡ true

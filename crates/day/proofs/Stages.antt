@@ -76,16 +76,7 @@ module _ (s : List ℕ) (c : Call) (h : isBook s ≡ true) where
 -- every kind but settle leaves both buffers as they were
 works-nothing : (k : Kind) (b : Book) (c : Call) → k ∈ (settle ∷ []) ≡ false → settles k b c ≡ none
 unfolding settles
-works-nothing register b c e = refl
-works-nothing confirm b c e = refl
-works-nothing withdraw b c e = refl
-works-nothing guarantee b c e = refl
-works-nothing openBatch b c e = refl
-works-nothing undo b c e = refl
-works-nothing keep b c e = refl
-works-nothing closeGate b c e = refl
-works-nothing schedule b c e = refl
-works-nothing settle b c e = cc
+works-nothing k b c e = rw e
 
 -- what any other kind answers, by what it is refused for
 pub call-decided : (s : List ℕ) (c : Call) → isBook s ≡ true → kindIn c ∈ (settle ∷ []) ≡ false → (o : Option Refusal) → refusal (bookIn s) c ≡ o

@@ -7,7 +7,7 @@ use mathlib.Core.Bool.{true}
 use lib.IntN.{pos, negℤ}
 use lib.Signed.{_≤ℤ_}
 use Rattle.rules.specs.Basics.{sumOf, upTo}
-use Rattle.rules.specs.Books.{accountAt, accountCount, operatorCount}
+use Rattle.rules.specs.Books.{accountCount, operatorCount, periods, lowerAt, upperAt}
 use Rattle.rules.specs.Opening.{setupOf}
 use Rattle.rules.specs.Requests.{settle}
 use Rattle.rules.specs.Registration.{figure, low, high}
@@ -28,13 +28,13 @@ pub record Promise (setup start : List ℕ) (cs : List Call) : Type 0 where
   pub nets-sum-to-zero : (h : ℕ)
       → sumOf (map (λ a. figure (ledgerNet (ledgerOn setup start cs) a h)) (upTo (accountCount (setupOf setup)))) ≡ pos 0
   -- each net position is within its margins
-  pub nets-within-margins : (a h : ℕ) → 1 ≤ a → a ≤ accountCount (setupOf setup) → 1 ≤ h → h ≤ setupOf setup .hours
-      → (negℤ (pos (accountAt (setupOf setup) a .lower .0)) ≤ℤ figure (ledgerNet (ledgerOn setup start cs) a h))
-      × (figure (ledgerNet (ledgerOn setup start cs) a h) ≤ℤ pos (accountAt (setupOf setup) a .upper .0))
+  pub nets-within-margins : (a h : ℕ) → 1 ≤ a → a ≤ accountCount (setupOf setup) → 1 ≤ h → h ≤ periods (setupOf setup)
+      → (negℤ (pos (lowerAt (setupOf setup) a h .0)) ≤ℤ figure (ledgerNet (ledgerOn setup start cs) a h))
+      × (figure (ledgerNet (ledgerOn setup start cs) a h) ≤ℤ pos (upperAt (setupOf setup) a h .0))
   -- with the account's own pending rows too: minus lower margin ≤ low, high ≤ upper margin
-  pub pending-within-margins : (a h : ℕ) → 1 ≤ a → a ≤ accountCount (setupOf setup) → 1 ≤ h → h ≤ setupOf setup .hours
-      → (negℤ (pos (accountAt (setupOf setup) a .lower .0)) ≤ℤ low (ledgerHour (ledgerOn setup start cs) a h))
-      × (high (ledgerHour (ledgerOn setup start cs) a h) ≤ℤ pos (accountAt (setupOf setup) a .upper .0))
+  pub pending-within-margins : (a h : ℕ) → 1 ≤ a → a ≤ accountCount (setupOf setup) → 1 ≤ h → h ≤ periods (setupOf setup)
+      → (negℤ (pos (lowerAt (setupOf setup) a h .0)) ≤ℤ low (ledgerHour (ledgerOn setup start cs) a h))
+      × (high (ledgerHour (ledgerOn setup start cs) a h) ≤ℤ pos (upperAt (setupOf setup) a h .0))
   -- no exposure is above the available guarantee
   pub exposures-covered : (o : ℕ) → 1 ≤ o → o ≤ operatorCount (setupOf setup)
       → ledgerExposure (ledgerOn setup start cs) o ≤ ledgerAvailable (ledgerOn setup start cs) o

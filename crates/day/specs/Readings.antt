@@ -5,7 +5,7 @@ use Rattle.rules.specs.declared.NetReading.{NetReading}
 use Rattle.rules.specs.declared.ExposureReading.{ExposureReading}
 use Rattle.rules.specs.declared.Refusal.the-variants.{OutOfRange}
 use Rattle.rules.specs.Basics.{if_then_else_, within}
-use Rattle.rules.specs.Books.{accountCount, operatorCount}
+use Rattle.rules.specs.Books.{accountCount, operatorCount, periods}
 use Rattle.rules.specs.Readings.{position}
 use Rattle.rules.specs.Ledger.{Ledger, ledgerNet, ledgerExposure}
 
@@ -13,7 +13,7 @@ use Rattle.rules.specs.Ledger.{Ledger, ledgerNet, ledgerExposure}
 unfoldable pub ledgerNetReading : Ledger → ℕ → ℕ → NetReading
 ledgerNetReading l a h =
     if within 1 a (accountCount (l .setup))
-    then (if within 1 h (l .setup .hours) then NetReading.Stands (position (ledgerNet l a h)) else NetReading.Unread (OutOfRange 5))
+    then (if within 1 h (periods (l .setup)) then NetReading.Stands (position (ledgerNet l a h)) else NetReading.Unread (OutOfRange 5))
     else NetReading.Unread (OutOfRange 1)
 
 -- an exposure by operator: 6 with bit 9 where the set-up has no such operator

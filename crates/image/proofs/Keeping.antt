@@ -3,9 +3,11 @@
 pub mod KeepsRows
 -- Easing: what eases an account hour, and that a confirm eases the other party.
 pub mod Easing
--- KeepsParts: what an accepted call makes of a sound part is sound.
+-- KeepsParts: what a change of a sound part needs, so that it is sound again, and that each kind brings it.
 pub mod KeepsParts
--- KeepsKinds: each kind keeps a book sound.
+-- KeepsChanges: every change that brings what it needs keeps a book sound.
+pub mod KeepsChanges
+-- KeepsKinds: each kind brings what its change needs.
 pub mod KeepsKinds
 -- Keeps: every call leaves a valid book valid, its set-up as it was, and all but three kinds what is saved.
 pub mod Keeps

@@ -10,7 +10,7 @@ use Rattle.rules.specs.declared.Row.{Row}
 use Rattle.rules.specs.declared.Schedule.{Schedule}
 use Rattle.rules.specs.Basics.{any, every, allOf, isSome, upTo, within}
 use Rattle.rules.specs.Limits.{mostEnergy, mostPrice, mostGuarantee, mostRows, mostSchedules, mostHours, bookSize}
-use Rattle.rules.specs.Books.{Setup, Part, Book, countsOf, accountAt, operatorCount, accountCount, pointCount}
+use Rattle.rules.specs.Books.{Setup, Part, Book, countsOf, operatorCount, accountCount, pointCount, periods, marginsAt}
 use Rattle.rules.specs.Opening.{badCounts, operatorsOf, faultyOffset}
 use Rattle.rules.specs.Registration.{pending, alike, accountHour, keepsMargins, covered}
 use Rattle.image.specs.Image.{image, decode}
@@ -36,8 +36,8 @@ rowTests u r =
     ∷ not (eqb (r .proposer) (r .counterparty))
     ∷ ltb (r .code) (256 ^ 8)
     ∷ within 1 (r .side) 2
-    ∷ within 1 (r .first) (u .hours)
-    ∷ within (r .first) (r .last) (u .hours)
+    ∷ within 1 (r .first) (periods u)
+    ∷ within (r .first) (r .last) (periods u)
     ∷ within 1 (r .quantity .0) mostEnergy
     ∷ within 1 (r .status) 3
     ∷ []
@@ -49,7 +49,7 @@ abbrev pub scheduleTests : Setup → Schedule → List Bool
 scheduleTests u x =
     within 1 (x .point) (pointCount u)
     ∷ within 1 (x .side) 2
-    ∷ within 1 (x .hour) (u .hours)
+    ∷ within 1 (x .hour) (periods u)
     ∷ within 1 (x .quantity .0) mostEnergy
     ∷ leb (x .price .0) mostPrice
     ∷ []
@@ -67,7 +67,7 @@ noTwins (r ∷ rs) = not (pending r && any (alike (r .proposer) (r .counterparty
 -- margins are kept by every account in every hour
 unfoldable pub marginsKept : Setup → List Row → Bool
 marginsKept u rows =
-    every (λ a. every (λ h. keepsMargins (accountAt u a) (accountHour rows a h)) (upTo (u .hours))) (upTo (accountCount u))
+    every (λ a. every (λ h. keepsMargins (marginsAt u a h) (accountHour rows a h)) (upTo (periods u))) (upTo (accountCount u))
 
 -- no operator's exposure is above what is available
 unfoldable pub guaranteesKept : Setup → Part → Bool

@@ -19,8 +19,8 @@ use Rattle.rules.specs.Basics.{nth}
 use Rattle.rules.specs.Books.{Book, noRow}
 use Rattle.rules.specs.Registration.{pending, seller, buyer, confirms}
 use Rattle.rules.specs.Requests.{confirm, withdraw, openBatch, undo, keep, closeGate}
-use Rattle.rules.specs.Calls.{confirmedNumber, restored, given}
-use Rattle.rules.proofs.Checks.Passed.{passed-13}
+use Rattle.rules.specs.Calls.{confirmedNumber, restored, given, savePart, restorePart, dropSaved, shutGate}
+use Rattle.rules.proofs.Checks.Passed.{passed-11, passed-12, passed-13}
 use Rattle.rules.proofs.Rows.RowTests.{passed-confirm, passed-withdraw}
 use Rattle.rules.proofs.Rows.AccountHours.{pending-inside}
 use Rattle.rules.proofs.Basics.Searches.{each-nth}
@@ -28,8 +28,9 @@ use Rattle.image.specs.Layout.{rowWidth, partSize, phaseAt, flagAt, presentAt, 
 use Rattle.image.specs.Valid.{isBook, bookIn}
 use Rattle.image.specs.Changes.{raised, ended}
 use Rattle.image.proofs.Writing.Sizes.{RowFits, row-fits-of, statuses-small}
-use Rattle.image.proofs.Writing.BookWrites.{write-confirm, write-withdraw, write-open, write-undo, write-keep, write-close}
-use Rattle.image.proofs.Keeping.KeepsKinds.{confirm-keeps, withdraw-keeps, open-keeps, undo-keeps, keep-keeps, close-keeps}
+use Rattle.image.proofs.Writing.BookWrites.{write-confirmed, write-withdrawn, write-saved, write-restored, write-dropped, write-closed}
+use Rattle.image.proofs.Keeping.KeepsChanges.{apply-keeps}
+use Rattle.image.proofs.Keeping.KeepsKinds.{confirm-allowed, withdraw-allowed}
 use Rattle.book.specs.Kinds.{decided}
 use Rattle.book.proofs.StateLaws.{book-image, book-fits, book-is-sound}
 use Rattle.book.proofs.Answers.{decided-clear, Answered, AnsweredAll, accepted-answered, answered-all}
@@ -59,8 +60,8 @@ module _ (s t : List ℕ) (h : isBook s ≡ true) where
       accepted-answered confirm s q h t (i + 1) d (add-one i ∙ sym number)
       (e
       ∙ ap (λ (x : List ℕ). sweep (raised 4 (r .quantity .0)) 4 (sweep (raised 4 (256 ^ 4 - r .quantity .0)) 4 (splice x at (le 1 2)) low n) high n) (book-image s h)
-      ∙ write-confirm mostHours bookSize b (book-fits s h) q i n at low high r number here pend fit hours place sells buys)
-      (confirm-keeps b q sound clear)
+      ∙ write-confirmed mostHours bookSize b (book-fits s h) (confirmedNumber b q) i n at low high r number here pend fit hours place sells buys)
+      (apply-keeps _ b sound (confirm-allowed b q sound clear))
 
   -- 3: the row's status
   pub withdrawn-answered : (q : Request) (at : ℕ) → decided withdraw (bookIn s) q ≡ none → at ≡ presentAt + rowAt (q .number - 1) + statusIn
@@ -73,8 +74,8 @@ module _ (s t : List ℕ) (h : isBook s ≡ true) where
       accepted-answered withdraw s q h t 0 d refl
       (e
       ∙ ap (λ (x : List ℕ). splice x at (le 1 3)) (book-image s h)
-      ∙ write-withdraw mostHours bookSize (bookIn s) (book-fits s h) q (q .number - 1) at (omega arith) pend place)
-      (withdraw-keeps (bookIn s) q (book-is-sound s h) clear)
+      ∙ write-withdrawn mostHours bookSize (bookIn s) (book-fits s h) (q .number) (q .number - 1) at (omega arith) pend place)
+      (apply-keeps _ (bookIn s) (book-is-sound s h) (withdraw-allowed (bookIn s) q (book-is-sound s h) clear))
 
   -- 5: the present part copied over the saved one, and the flag
   pub opened-answered : ((q : Request) → decided openBatch (bookIn s) q ≡ none)
@@ -85,8 +86,8 @@ module _ (s t : List ℕ) (h : isBook s ≡ true) where
       answered-all openBatch s (accepted 0) t (λ q. accepted-answered openBatch s q h t 0 (d q) refl
       (e
       ∙ ap (λ (x : List ℕ). splice (pasted x (savedAt mostHours) (drop presentAt x) (partSize mostHours)) flagAt (le 1 1)) (book-image s h)
-      ∙ write-open mostHours bookSize (bookIn s) (book-fits s h) q (omega arith))
-      (open-keeps (bookIn s) q (book-is-sound s h) (decided-clear openBatch (bookIn s) q (d q))))
+      ∙ write-saved mostHours bookSize (bookIn s) (book-fits s h) (omega arith))
+      (apply-keeps savePart (bookIn s) (book-is-sound s h) (passed-11 (bookIn s) q openBatch (decided-clear openBatch (bookIn s) q (d q)))))
 
   -- 6: the saved part copied over the present one and cleared, and the flag
   pub undone-answered : (n : ℕ) → ((q : Request) → decided undo (bookIn s) q ≡ none)
@@ -101,8 +102,8 @@ module _ (s t : List ℕ) (h : isBook s ≡ true) where
       accepted-answered undo s q h t n (d q) g
       (e
       ∙ ap (λ (x : List ℕ). splice (splice (pasted x presentAt (drop (savedAt mostHours) x) (partSize mostHours)) (savedAt mostHours) (zeros (partSize mostHours))) flagAt (le 1 0)) (book-image s h)
-      ∙ write-undo mostHours bookSize (bookIn s) (book-fits s h) q p (omega arith) saved)
-      (undo-keeps (bookIn s) q (book-is-sound s h) clear))
+      ∙ write-restored mostHours bookSize (bookIn s) (book-fits s h) p (omega arith) saved)
+      (apply-keeps restorePart (bookIn s) (book-is-sound s h) (passed-11 (bookIn s) q undo clear)))
 
   -- 7: the saved part cleared, and the flag
   pub kept-answered : ((q : Request) → decided keep (bookIn s) q ≡ none)
@@ -113,8 +114,8 @@ module _ (s t : List ℕ) (h : isBook s ≡ true) where
       answered-all keep s (accepted 0) t (λ q. accepted-answered keep s q h t 0 (d q) refl
       (e
       ∙ ap (λ (x : List ℕ). splice (splice x (savedAt mostHours) (zeros (partSize mostHours))) flagAt (le 1 0)) (book-image s h)
-      ∙ write-keep mostHours bookSize (bookIn s) (book-fits s h) q)
-      (keep-keeps (bookIn s) q (book-is-sound s h) (decided-clear keep (bookIn s) q (d q))))
+      ∙ write-dropped mostHours bookSize (bookIn s) (book-fits s h))
+      (apply-keeps dropSaved (bookIn s) (book-is-sound s h) (passed-11 (bookIn s) q keep (decided-clear keep (bookIn s) q (d q)))))
 
   -- 8: a loop over the rows, and the phase
   pub closed-answered : (n : ℕ) → ((q : Request) → decided closeGate (bookIn s) q ≡ none) → n ≡ length (bookIn s .part .rows)
@@ -125,6 +126,6 @@ module _ (s t : List ℕ) (h : isBook s ≡ true) where
       answered-all closeGate s (accepted 0) t (λ q. accepted-answered closeGate s q h t 0 (d q) refl
       (e
       ∙ ap (λ (x : List ℕ). splice (sweep ended rowWidth x (presentAt + rowAt 0) n) phaseAt (le 1 2)) (book-image s h)
-      ∙ write-close mostHours bookSize (bookIn s) (book-fits s h) q n (presentAt + rowAt 0) count
+      ∙ write-closed mostHours bookSize (bookIn s) (book-fits s h) n (presentAt + rowAt 0) count
       (statuses-small (book-is-sound s h .part-sound .rows-sound)) refl)
-      (close-keeps (bookIn s) q (book-is-sound s h) (decided-clear closeGate (bookIn s) q (d q))))
+      (apply-keeps shutGate (bookIn s) (book-is-sound s h) (passed-12 (bookIn s) q closeGate refl (decided-clear closeGate (bookIn s) q (d q)))))

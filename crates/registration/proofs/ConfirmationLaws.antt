@@ -2,7 +2,7 @@
 -- on the book as it would be; and its status with the nets of both parties as all that is written.
 use Prim.Native.Nat.{ℕ, suc, _+_, _-_, _^_, _≤_}
 use mathlib.Core.Path.{_≡_, refl, sym, ap, _∙_}
-use mathlib.Core.List.{List}
+use mathlib.Core.List.{List, [], _∷_}
 use mathlib.Core.Option.{Option, none, some}
 use mathlib.Core.Bool.{Bool, true, false, not, and-false}
 use native.Mathlib.Nat.{sub-zero}
@@ -19,10 +19,10 @@ use Rattle.rules.specs.declared.Refusal.the-variants.{NoSuchRow, NotMirrored, M
 use Rattle.rules.specs.Basics.{indexOf, nth, counting}
 use Rattle.rules.specs.Limits.{mostEnergy, mostHours}
 use Rattle.rules.specs.Verdicts.{accepted}
-use Rattle.rules.specs.Books.{Setup, Book, noRow, accountAt, operatorOf, accountCount}
+use Rattle.rules.specs.Books.{Setup, Book, noRow, operatorOf, accountCount, periods, marginsAt}
 use Rattle.rules.specs.Requests.{confirm}
-use Rattle.rules.specs.Registration.{pending, seller, buyer, withStatus, mark, alike, confirms, mirrors, accountHour, takes, keepsMargins, brokenHour, exposure, available, covered, exposureWith}
-use Rattle.rules.specs.Calls.{numberFrom, confirmedNumber, next}
+use Rattle.rules.specs.Registration.{pending, seller, buyer, withStatus, mark, alike, confirms, mirrors, accountHour, takes, keepsMargins, brokenHour, brokenBy, exposure, available, covered, exposureWith}
+use Rattle.rules.specs.Calls.{numberFrom, confirmedNumber, next, apply}
 use Rattle.rules.proofs.Basics.Searches.{index-first}
 use Rattle.rules.proofs.Rows.RowTests.{Alike, alike-true, passed-confirm}
 use Rattle.rules.proofs.Checks.Passed.{passed-16-confirm}
@@ -40,7 +40,7 @@ use Rattle.book.proofs.BookRows.{sound-tabled, numbered-sound}
 use Rattle.book.proofs.WorthLaws.{with-confirmed}
 use Rattle.book.proofs.Answers.{decided-clear, Answered}
 use Rattle.registration.specs.Confirming.{Confirming, WaitsIn}
-use Rattle.registration.specs.Margins.{brokenBy, broken}
+use Rattle.registration.specs.Margins.{broken}
 use Rattle.registration.specs.declared.margins.Broken.the-variants.{Hour, Nowhere}
 use Rattle.registration.proofs.Decisions.{no-row-to-confirm, terms-differ, confirm-breaks, confirm-uncovered, confirm-passes}
 use Rattle.registration.proofs.Acceptances.{confirmed-answered}
@@ -53,14 +53,14 @@ use Rattle.registration.proofs.CoverLaws.{covered-at, still-covered, se
 
 -- the hour that the confirmed row breaks is the one broken in the book as it would be
 pub broken-confirmed : (u : Setup) (rows : List Row) (n a : ℕ) → pending (nth rows n noRow) ≡ true → eqb (nth rows n noRow .proposer) a ≡ false
-    → brokenHour u (mark n 2 rows) a ≡ brokenBy u rows (withStatus 2 (nth rows n noRow)) a
+    → brokenHour u (mark n 2 rows) a ≡ brokenBy u rows (withStatus 2 (nth rows n noRow) ∷ []) a
 unfolding brokenHour brokenBy
 broken-confirmed u rows n a e o =
     find-cong
-    (λ h. not (keepsMargins (accountAt u a) (accountHour (mark n 2 rows) a h)))
-    (λ h. not (keepsMargins (accountAt u a) (takes a h (accountHour rows a h) (withStatus 2 (nth rows n noRow)))))
-    (λ h. ap (λ x. not (keepsMargins (accountAt u a) x)) (hour-takes-confirmed rows n a h e o))
-    (counting (u .hours) 1)
+    (λ h. not (keepsMargins (marginsAt u a h) (accountHour (mark n 2 rows) a h)))
+    (λ h. not (keepsMargins (marginsAt u a h) (takes a h (accountHour rows a h) (withStatus 2 (nth rows n noRow)))))
+    (λ h. ap (λ x. not (keepsMargins (marginsAt u a h) x)) (hour-takes-confirmed rows n a h e o))
+    (counting (periods u) 1)
 
 index-named : (o : Option ℕ) → 1 ≤ numberFrom o → (i : ℕ) × (o ≡ some i)
 index-named none l = absurd (omega arith)
@@ -118,7 +118,7 @@ module _ (s : List ℕ) (r : Row) (h : isBook s ≡ true) (w : WaitsIn (bookIn s
     pub trade-energy : trade .quantity .0 ≤ mostEnergy
     trade-energy = rw e (waiting-sound .quantity-high)
 
-    pub trade-hours : (1 ≤ trade .first) × (trade .first ≤ trade .last) × (trade .last ≤ bookIn s .setup .hours)
+    pub trade-hours : (1 ≤ trade .first) × (trade .first ≤ trade .last) × (trade .last ≤ periods (bookIn s .setup))
     trade-hours = rw e (waiting-sound .first-low, waiting-sound .in-order, waiting-sound .last-high)
 
     -- as a trade it can be taken
@@ -126,7 +126,7 @@ module _ (s : List ℕ) (r : Row) (h : isBook s ≡ true) (w : WaitsIn (bookIn s
     trade-takeable = settled-takeable (bookIn s .setup) trade trade-energy (rw e)
 
     -- with the trade taken the exposure is that of the rows where it is confirmed, and what the row weighs as one that waits
-    trade-worth : (o : ℕ) → exposureWith (bookIn s .setup) (bookIn s .part .rows) trade o
+    trade-worth : (o : ℕ) → exposureWith (bookIn s .setup) (bookIn s .part .rows) (trade ∷ []) o
         ≡ exposure (bookIn s .setup) (mark (w .number) 2 (bookIn s .part .rows)) o + saleWorth (bookIn s .setup) o r
     trade-worth o =
         rw e (with-confirmed (bookIn s .setup) o (bookIn s .part .rows) r (w .number) (waiting-inside .0) (waiting-inside .1) (w .row) (w .is-pending)
@@ -136,7 +136,7 @@ module _ (s : List ℕ) (r : Row) (h : isBook s ≡ true) (w : WaitsIn (bookIn s
     pub sale-covered : (a : ℕ) → 1 ≤ a → a ≤ accountCount (bookIn s .setup) → r .side ≡ 1
         → true
         ≡ leb
-        (exposureWith (bookIn s .setup) (bookIn s .part .rows) trade (operatorOf (bookIn s .setup) a) - saleWorth (bookIn s .setup) (operatorOf (bookIn s .setup) a) r)
+        (exposureWith (bookIn s .setup) (bookIn s .part .rows) (trade ∷ []) (operatorOf (bookIn s .setup) a) - saleWorth (bookIn s .setup) (operatorOf (bookIn s .setup) a) r)
         (available (bookIn s .setup) (bookIn s .part) (operatorOf (bookIn s .setup) a))
     sale-covered a low high sells =
         let o : ℕ = operatorOf (bookIn s .setup) a in
@@ -169,13 +169,13 @@ module _ (s : List ℕ) (q : Request) (r : Row) (h : isBook s ≡ true) (w : Con
   not-own = ne-eqb _ _ (λ e. named-sound .two-accounts (e ∙ sym (named-alike .counterparty)))
 
   broken-next : brokenHour (bookIn s .setup) (next confirm (bookIn s) q .part .rows) (q .account)
-      ≡ brokenBy (bookIn s .setup) (bookIn s .part .rows) (withStatus 2 r) (q .account)
-  unfolding next
+      ≡ brokenBy (bookIn s .setup) (bookIn s .part .rows) (withStatus 2 r ∷ []) (q .account)
+  unfolding apply
   broken-next =
       let pend : pending (nth (bookIn s .part .rows) (confirmedNumber (bookIn s) q) noRow) ≡ true = rw (← w .row) (named-alike .is-pending) in
       let other : eqb (nth (bookIn s .part .rows) (confirmedNumber (bookIn s) q) noRow .proposer) (q .account) ≡ false = rw (← w .row) not-own in
       broken-confirmed (bookIn s .setup) (bookIn s .part .rows) (confirmedNumber (bookIn s) q) (q .account) pend other
-      ∙ ap (λ (x : Row). brokenBy (bookIn s .setup) (bookIn s .part .rows) (withStatus 2 x) (q .account)) (sym (w .row))
+      ∙ ap (λ (x : Row). brokenBy (bookIn s .setup) (bookIn s .part .rows) (withStatus 2 x ∷ []) (q .account)) (sym (w .row))
 
   same-terms : mirrors q (nth (bookIn s .part .rows) (confirmedNumber (bookIn s) q) noRow) ≡ true
   same-terms = rw (← w .row) (w .terms)
@@ -184,19 +184,19 @@ module _ (s : List ℕ) (q : Request) (r : Row) (h : isBook s ≡ true) (w : Con
     -- ---- what the state decides
 
     -- 18
-    pub trade-breaks : (k : ℕ) → Hour k ≡ broken (brokenBy (bookIn s .setup) (bookIn s .part .rows) trade (q .account))
+    pub trade-breaks : (k : ℕ) → Hour k ≡ broken (brokenBy (bookIn s .setup) (bookIn s .part .rows) (trade ∷ []) (q .account))
         → decided confirm (bookIn s) q ≡ some (MarginBroken k)
     trade-breaks k f =
         let (i, named) = index-named (confirms (bookIn s .part .rows) q) (w .named) in
         confirm-breaks (bookIn s) q (w .in-registration) i named same-terms k (broken-next ∙ found-hour _ _ _ _ _ k e f)
 
-    module _ (kept : Nowhere ≡ broken (brokenBy (bookIn s .setup) (bookIn s .part .rows) trade (q .account))) (t : Bool)
+    module _ (kept : Nowhere ≡ broken (brokenBy (bookIn s .setup) (bookIn s .part .rows) (trade ∷ []) (q .account))) (t : Bool)
         (weight : t
         ≡ leb
-        (exposureWith (bookIn s .setup) (bookIn s .part .rows) trade (operatorOf (bookIn s .setup) (q .account)) - saleWorth (bookIn s .setup) (operatorOf (bookIn s .setup) (q .account)) r)
+        (exposureWith (bookIn s .setup) (bookIn s .part .rows) (trade ∷ []) (operatorOf (bookIn s .setup) (q .account)) - saleWorth (bookIn s .setup) (operatorOf (bookIn s .setup) (q .account)) r)
         (available (bookIn s .setup) (bookIn s .part) (operatorOf (bookIn s .setup) (q .account)))) where
       covered-next : covered (bookIn s .setup) (next confirm (bookIn s) q .part) (operatorOf (bookIn s .setup) (q .account)) ≡ t
-      unfolding next
+      unfolding apply
       covered-next =
           let u : Setup = bookIn s .setup in
           let o : ℕ = operatorOf u (q .account) in

@@ -111,18 +111,18 @@ module _ (b : Book) (q : Request) where
         pub confirm-breaks : (h : ℕ) → brokenHour (b .setup) (next confirm b q .part .rows) (q .account) ≡ some h
             → decided confirm b q ≡ some (MarginBroken h)
         unfolding decided stateChecks firstToApply
-        confirm-breaks h w = rw (eq-eqb _ 1 first, alike-terms, named, w)
+        confirm-breaks h w = rw (eq-eqb _ 1 first, alike-terms, w, named)
 
         module _ (whole : brokenHour (b .setup) (next confirm b q .part .rows) (q .account) ≡ none) where
           pub confirm-uncovered : covered (b .setup) (next confirm b q .part) (operatorOf (b .setup) (q .account)) ≡ false
               → decided confirm b q ≡ some Uncovered
           unfolding decided stateChecks firstToApply
-          confirm-uncovered w = rw (eq-eqb _ 1 first, alike-terms, named, whole, w)
+          confirm-uncovered w = rw (eq-eqb _ 1 first, alike-terms, whole, w, named)
 
           pub confirm-passes : covered (b .setup) (next confirm b q .part) (operatorOf (b .setup) (q .account)) ≡ true
               → decided confirm b q ≡ none
           unfolding decided stateChecks firstToApply
-          confirm-passes w = rw (eq-eqb _ 1 first, alike-terms, named, whole, w)
+          confirm-passes w = rw (eq-eqb _ 1 first, alike-terms, whole, w, named)
 
     -- 19, of guarantee
     pub guarantee-uncovered : covered (b .setup) (next guarantee b q .part) (q .operator) ≡ false → decided guarantee b q ≡ some Uncovered

@@ -22,13 +22,14 @@ use Rattle.rules.specs.Verdicts.{firstToApply, accepted}
 use Rattle.rules.specs.Books.{Setup, Book, countsOf, maintenanceAt, guaranteeAt, operatorCount}
 use Rattle.rules.specs.Requests.{guarantee, inRange}
 use Rattle.rules.specs.Registration.{exposure, available, covered}
-use Rattle.rules.specs.Calls.{next, given, stateChecks}
+use Rattle.rules.specs.Calls.{next, given, stateChecks, apply}
 use Rattle.rules.proofs.Basics.Tests.{within-true}
 use Rattle.rules.proofs.Checks.Passed.{field-in-range}
 use Rattle.image.specs.Layout.{presentAt}
 use Rattle.image.specs.Valid.{isBook, bookIn}
 use Rattle.image.proofs.Writing.BookWrites.{write-guarantee}
-use Rattle.image.proofs.Keeping.KeepsKinds.{guarantee-keeps}
+use Rattle.image.proofs.Keeping.KeepsChanges.{apply-keeps}
+use Rattle.image.proofs.Keeping.KeepsKinds.{guarantee-allowed}
 use Rattle.book.specs.Kinds.{decided, Ready}
 use Rattle.book.proofs.StateLaws.{book-image, book-fits, book-is-sound}
 use Rattle.book.proofs.Answers.{decided-clear, Answered, accepted-answered}
@@ -55,7 +56,7 @@ put-same gs (suc i) g l h = getD-set-same gs i g (cents 0) (omega arith)
 module _ (b : Book) (q : Request) (first : b .phase ≡ 1) (low : 1 ≤ q .operator) (high : q .operator ≤ length (b .part .guarantees)) where
   lodging-covered : covered (b .setup) (next guarantee b q .part) (q .operator)
       ≡ leb (exposure (b .setup) (b .part .rows) (q .operator)) (q .guarantee .0 * (thousand - maintenanceAt (b .setup) (q .operator)))
-  unfolding next
+  unfolding apply
   lodging-covered =
       covered-by (b .setup) (next guarantee b q .part) (q .operator) (q .guarantee .0)
       (ap (λ (g : Cents). g .0) (put-same (b .part .guarantees) (q .operator) (q .guarantee) low high))
@@ -98,5 +99,6 @@ lodged-answered s t h q at r d place e =
     accepted-answered guarantee s q h t 0 d refl
     (e
     ∙ ap (λ (x : List ℕ). splice x at (le 8 (q .guarantee .0))) (book-image s h)
-    ∙ write-guarantee mostHours bookSize (bookIn s) (book-fits s h) q (q .operator - 1) at (omega arith) (omega arith) (omega arith))
-    (guarantee-keeps (bookIn s) q (book-is-sound s h) bare (sym (r .of-kind)) (ready-input guarantee (bookIn s) q r bare refl) (decided-clear guarantee (bookIn s) q d))
+    ∙ write-guarantee mostHours bookSize (bookIn s) (book-fits s h) (q .operator) (q .operator - 1) at (q .guarantee) (omega arith) (omega arith) (omega arith))
+    (apply-keeps _ (bookIn s) (book-is-sound s h)
+    (guarantee-allowed (bookIn s) q (book-is-sound s h) bare (sym (r .of-kind)) (ready-input guarantee (bookIn s) q r bare refl) (decided-clear guarantee (bookIn s) q d)))

@@ -2,20 +2,20 @@
 -- of the account that took it are the definition's test. It is asked at the hours of the trade only: a book keeps its margins in all others.
 use Prim.Native.Nat.{ℕ, _+_, _-_, _^_, _≤_, _<_}
 use mathlib.Core.Path.{_≡_, refl, sym, ap, _∙_}
-use mathlib.Core.List.{List}
+use mathlib.Core.List.{List, [], _∷_}
 use mathlib.Core.Option.{Option, none, some}
 use mathlib.Core.Bool.{Bool, true, false, not, and-false}
 use native.Mathlib.Nat.{add-zero}
 use native.Mathlib.Omega.{arith}
 use lib.Dec.{leb}
 use borrow.Author.Tests.{le-leb, leb-true, lt-leb}
-use Rattle.rules.specs.declared.Account.{Account}
+use Rattle.rules.specs.declared.Margins.{Margins}
 use Rattle.rules.specs.declared.AccountHour.{AccountHour}
 use Rattle.rules.specs.declared.Row.{Row}
 use Rattle.rules.specs.Basics.{find, counting}
 use Rattle.rules.specs.Limits.{mostEnergy}
-use Rattle.rules.specs.Books.{Setup, accountAt, accountCount}
-use Rattle.rules.specs.Registration.{pending, confirmed, covers, bought, sold, netOf, pendingSales, pendingPurchases, accountHour, takes, keepsMargins}
+use Rattle.rules.specs.Books.{Setup, accountCount, periods, marginsAt}
+use Rattle.rules.specs.Registration.{pending, confirmed, covers, bought, sold, netOf, pendingSales, pendingPurchases, accountHour, takes, keepsMargins, brokenBy}
 use Rattle.rules.proofs.Basics.Tests.{test-same}
 use Rattle.image.specs.Valid.{isBook, bookIn}
 use Rattle.book.specs.Netted.{netted}
@@ -24,7 +24,7 @@ use Rattle.book.proofs.StateLaws.{book-is-sound, row-count-high}
 use Rattle.book.proofs.ReadingLaws.{net-near}
 use Rattle.book.proofs.NettedLaws.{netted-difference}
 use Rattle.book.proofs.WaitLaws.{side-hour}
-use Rattle.registration.specs.Margins.{brokenBy, broken}
+use Rattle.registration.specs.Margins.{broken}
 use Rattle.registration.specs.declared.margins.Broken.the-variants.{Hour, Nowhere}
 use Rattle.registration.proofs.SearchLaws.{find-span}
 
@@ -32,7 +32,7 @@ use Rattle.registration.proofs.SearchLaws.{find-span}
 
 module _ (s : List ℕ) (h : isBook s ≡ true) where
   -- the net position of an hour by itself, and what waits, have room for a trade
-  pub hour-room : (waits : List ℕ) (q a k : ℕ) (x : AccountHour) → (1 ≤ a) × (a ≤ accountCount (bookIn s .setup)) → (1 ≤ k) × (k ≤ bookIn s .setup .hours)
+  pub hour-room : (waits : List ℕ) (q a k : ℕ) (x : AccountHour) → (1 ≤ a) × (a ≤ accountCount (bookIn s .setup)) → (1 ≤ k) × (k ≤ periods (bookIn s .setup))
       → WaitsOf (bookIn s .part .rows) a waits → q ≤ mostEnergy → x ≡ nettedHour (bookIn s .part .rows) a k
       → (x .net .bought .0 + q < 2 ^ 32) × (x .net .sold .0 + q < 2 ^ 32) × (x .sales .0 + q < 2 ^ 32) × (x .purchases .0 + q < 2 ^ 32)
   unfolding netted
@@ -58,26 +58,26 @@ same-leb a b c d e =
     (λ t. let l = leb-true c d t in le-leb a b (omega arith))
 
 -- hours whose net positions have one difference, and on which the same waits, keep the same margins
-keeps-alike : (owner : Account) (x y : AccountHour) → x .sales .0 ≡ y .sales .0 → x .purchases .0 ≡ y .purchases .0
-    → x .net .bought .0 + y .net .sold .0 ≡ y .net .bought .0 + x .net .sold .0 → keepsMargins owner x ≡ keepsMargins owner y
+keeps-alike : (margins : Margins) (x y : AccountHour) → x .sales .0 ≡ y .sales .0 → x .purchases .0 ≡ y .purchases .0
+    → x .net .bought .0 + y .net .sold .0 ≡ y .net .bought .0 + x .net .sold .0 → keepsMargins margins x ≡ keepsMargins margins y
 unfolding keepsMargins
-keeps-alike owner x y e d n =
+keeps-alike margins x y e d n =
     rw (
-      same-leb (x .net .sold .0 + x .sales .0) (x .net .bought .0 + owner .lower .0) (y .net .sold .0 + y .sales .0) (y .net .bought .0 + owner .lower .0) (omega arith),
-      same-leb (x .net .bought .0 + x .purchases .0) (x .net .sold .0 + owner .upper .0) (y .net .bought .0 + y .purchases .0) (y .net .sold .0 + owner .upper .0) (omega arith),
+      same-leb (x .net .sold .0 + x .sales .0) (x .net .bought .0 + margins .lower .0) (y .net .sold .0 + y .sales .0) (y .net .bought .0 + margins .lower .0) (omega arith),
+      same-leb (x .net .bought .0 + x .purchases .0) (x .net .sold .0 + margins .upper .0) (y .net .bought .0 + y .purchases .0) (y .net .sold .0 + margins .upper .0) (omega arith),
     )
 
 -- so it is with the net position by itself
-keeps-netted : (owner : Account) (rows : List Row) (trade : Row) (a h : ℕ)
-    → keepsMargins owner (takes a h (nettedHour rows a h) trade) ≡ keepsMargins owner (takes a h (accountHour rows a h) trade)
+keeps-netted : (margins : Margins) (rows : List Row) (trade : Row) (a h : ℕ)
+    → keepsMargins margins (takes a h (nettedHour rows a h) trade) ≡ keepsMargins margins (takes a h (accountHour rows a h) trade)
 unfolding takes
-keeps-netted owner rows trade a h =
-    keeps-alike owner (takes a h (nettedHour rows a h) trade) (takes a h (accountHour rows a h) trade) refl refl
+keeps-netted margins rows trade a h =
+    keeps-alike margins (takes a h (nettedHour rows a h) trade) (takes a h (accountHour rows a h) trade) refl refl
     (omega (arith, netted-difference (netOf rows a h)))
 
 -- the account breaks a margin in the hour once it took the trade
 unfoldable pub breaks : Setup → List Row → Row → ℕ → ℕ → Bool
-breaks u rows trade a h = not (keepsMargins (accountAt u a) (takes a h (accountHour rows a h) trade))
+breaks u rows trade a h = not (keepsMargins (marginsAt u a h) (takes a h (accountHour rows a h) trade))
 
 -- a trade leaves an hour that it is not for
 takes-elsewhere : (rows : List Row) (trade : Row) (a h : ℕ) → covers h trade ≡ false → takes a h (accountHour rows a h) trade ≡ accountHour rows a h
@@ -95,41 +95,41 @@ takes-elsewhere rows trade a h e =
 
 module _ (s : List ℕ) (h : isBook s ≡ true) (trade : Row) (a : ℕ) (low : 1 ≤ a) (high : a ≤ accountCount (bookIn s .setup)) where
   -- so it breaks none there, for a book keeps its margins
-  kept-elsewhere : (k : ℕ) → 1 ≤ k → k ≤ bookIn s .setup .hours → covers k trade ≡ false → breaks (bookIn s .setup) (bookIn s .part .rows) trade a k ≡ false
+  kept-elsewhere : (k : ℕ) → 1 ≤ k → k ≤ periods (bookIn s .setup) → covers k trade ≡ false → breaks (bookIn s .setup) (bookIn s .part .rows) trade a k ≡ false
   unfolding breaks
   kept-elsewhere k l m e = rw (takes-elsewhere (bookIn s .part .rows) trade a k e, book-is-sound s h .part-sound .keeps-margins a k low high l m)
 
   -- the lowest hour that breaks is one of the trade's
-  pub broken-by-span : 1 ≤ trade .first → trade .first ≤ trade .last → trade .last ≤ bookIn s .setup .hours
-      → brokenBy (bookIn s .setup) (bookIn s .part .rows) trade a
+  pub broken-by-span : 1 ≤ trade .first → trade .first ≤ trade .last → trade .last ≤ periods (bookIn s .setup)
+      → brokenBy (bookIn s .setup) (bookIn s .part .rows) (trade ∷ []) a
       ≡ find (breaks (bookIn s .setup) (bookIn s .part .rows) trade a) (counting (trade .last + 1 - trade .first) (trade .first))
   unfolding brokenBy breaks
   broken-by-span f o l =
-      find-span (breaks (bookIn s .setup) (bookIn s .part .rows) trade a) (bookIn s .setup .hours) (trade .first) (trade .last) f o l
+      find-span (breaks (bookIn s .setup) (bookIn s .part .rows) trade a) (periods (bookIn s .setup)) (trade .first) (trade .last) f o l
       (λ k m n. kept-elsewhere k m (omega arith) (rw (lt-leb (trade .first) k n)))
       (λ k m n. kept-elsewhere k (omega arith) n (rw (lt-leb k (trade .last) m, and-false (leb (trade .first) k))))
 
 -- the test as code makes it
-pub breaks-tested : (u : Setup) (rows : List Row) (trade : Row) (a h : ℕ) (owner : Account) (held after : AccountHour) (t : Bool)
-    → owner ≡ accountAt u a → held ≡ nettedHour rows a h → after ≡ takes a h held trade → t ≡ keepsMargins owner after
+pub breaks-tested : (u : Setup) (rows : List Row) (trade : Row) (a h : ℕ) (margins : Margins) (held after : AccountHour) (t : Bool)
+    → margins ≡ marginsAt u a h → held ≡ nettedHour rows a h → after ≡ takes a h held trade → t ≡ keepsMargins margins after
     → breaks u rows trade a h ≡ not t
 unfolding breaks
-breaks-tested u rows trade a h owner held after t eo eh ea et =
-    ap not (sym (keeps-netted (accountAt u a) rows trade a h)) ∙ rw (← eo, ← eh, ← ea, ← et)
+breaks-tested u rows trade a h margins held after t eo eh ea et =
+    ap not (sym (keeps-netted (marginsAt u a h) rows trade a h)) ∙ rw (← eo, ← eh, ← ea, ← et)
 
 -- ---- what the search says, of a trade that is this one
 
-pub found-hour : (u : Setup) (rows : List Row) (trade other : Row) (a h : ℕ) → trade ≡ other → Hour h ≡ broken (brokenBy u rows trade a)
-    → brokenBy u rows other a ≡ some h
-found-hour u rows trade other a h e f = go (brokenBy u rows other a) (rw e at f)
+pub found-hour : (u : Setup) (rows : List Row) (trade other : Row) (a h : ℕ) → trade ≡ other → Hour h ≡ broken (brokenBy u rows (trade ∷ []) a)
+    → brokenBy u rows (other ∷ []) a ≡ some h
+found-hour u rows trade other a h e f = go (brokenBy u rows (other ∷ []) a) (rw e at f)
   where
     go : (o : Option ℕ) → Hour h ≡ broken o → o ≡ some h
     go none z = cc
     go (some k) z = cc
 
-pub found-nowhere : (u : Setup) (rows : List Row) (trade other : Row) (a : ℕ) → trade ≡ other → Nowhere ≡ broken (brokenBy u rows trade a)
-    → brokenBy u rows other a ≡ none
-found-nowhere u rows trade other a e f = go (brokenBy u rows other a) (rw e at f)
+pub found-nowhere : (u : Setup) (rows : List Row) (trade other : Row) (a : ℕ) → trade ≡ other → Nowhere ≡ broken (brokenBy u rows (trade ∷ []) a)
+    → brokenBy u rows (other ∷ []) a ≡ none
+found-nowhere u rows trade other a e f = go (brokenBy u rows (other ∷ []) a) (rw e at f)
   where
     go : (o : Option ℕ) → Nowhere ≡ broken o → o ≡ none
     go none z = refl

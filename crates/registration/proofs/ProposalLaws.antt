@@ -4,7 +4,7 @@ use Prim.Native.Nat.{ℕ, _+_, _/_, _%_, _≤_, _<_}
 use mathlib.Core.Path.{_≡_, refl, sym, ap, _∙_}
 use mathlib.Core.List.{List, [], _∷_, _++_}
 use mathlib.Core.Option.{none, some}
-use mathlib.Core.Bool.{Bool, true, false, not}
+use mathlib.Core.Bool.{Bool, true, false}
 use native.Mathlib.Omega.{arith}
 use lib.ListN.{length}
 use lib.Dec.{leb}
@@ -16,29 +16,27 @@ use Rattle.wire.proofs.NumberLaws.{byte}
 use Rattle.rules.specs.declared.Row.{Row}
 use Rattle.rules.specs.declared.Request.{Request}
 use Rattle.rules.specs.declared.Refusal.the-variants.{AlreadyPending, RowsFull, MarginBroken, Uncovered}
-use Rattle.rules.specs.Basics.{any, counting}
+use Rattle.rules.specs.Basics.{any}
 use Rattle.rules.specs.Limits.{mostHours, mostRows, bookSize}
 use Rattle.rules.specs.Verdicts.{firstToApply, accepted}
-use Rattle.rules.specs.Books.{Setup, Book, accountAt, operatorOf}
+use Rattle.rules.specs.Books.{Setup, Book, operatorOf}
 use Rattle.rules.specs.Requests.{register}
-use Rattle.rules.specs.Registration.{alike, proposed, accountHour, takes, keepsMargins, brokenHour, available, covered, exposureWith}
-use Rattle.rules.specs.Calls.{next, given, stateChecks}
-use Rattle.rules.proofs.Rows.AccountHours.{hour-takes}
+use Rattle.rules.specs.Registration.{alike, proposed, brokenHour, brokenBy, available, covered, exposureWith}
+use Rattle.rules.specs.Calls.{next, given, stateChecks, apply}
+use Rattle.rules.proofs.Rows.AccountHours.{broken-added, exposure-added}
 use Rattle.rules.proofs.Checks.Passed.{passed-15}
 use Rattle.image.specs.Layout.{rowWidths, presentAt, rowAt, rowCountAt}
 use Rattle.image.specs.Image.{rowValues, rowBytes}
 use Rattle.image.specs.Valid.{isBook, bookIn}
 use Rattle.image.proofs.Sound.Soundness.{SoundRow}
 use Rattle.image.proofs.Writing.Sizes.{row-small}
-use Rattle.image.proofs.Writing.BookWrites.{write-register}
-use Rattle.image.proofs.Keeping.KeepsKinds.{proposed-sound, register-keeps}
+use Rattle.image.proofs.Writing.BookWrites.{write-row}
+use Rattle.image.proofs.Keeping.KeepsChanges.{apply-keeps}
+use Rattle.image.proofs.Keeping.KeepsKinds.{proposed-sound, register-allowed}
 use Rattle.book.specs.Kinds.{decided, Ready}
 use Rattle.book.proofs.StateLaws.{book-image, book-fits, book-is-sound}
-use Rattle.book.proofs.WorthLaws.{with-proposed}
 use Rattle.book.proofs.Answers.{decided-clear, Answered, accepted-answered}
 use Rattle.book.proofs.Readiness.{bare, ready-input}
-use Rattle.registration.specs.Margins.{brokenBy}
-use Rattle.registration.proofs.SearchLaws.{find-cong}
 use Rattle.registration.proofs.CoverLaws.{covered-at}
 
 -- ---- a request that is ready
@@ -51,16 +49,6 @@ pub ready-fits : (s : List ℕ) (q : Request) (r : Row) → isBook s ≡ true �
 ready-fits s q r h ready e = rw e (row-small (bookIn s .setup) (proposed q) (book-is-sound s h .setup-sound) (ready-row (bookIn s) q ready))
 
 -- ---- what the state decides
-
--- the hour that the proposed row breaks is the one broken in the book as it would be
-pub broken-proposed : (u : Setup) (rows : List Row) (trade : Row) (a : ℕ) → brokenHour u (rows ++ trade ∷ []) a ≡ brokenBy u rows trade a
-unfolding brokenHour brokenBy
-broken-proposed u rows trade a =
-    find-cong
-    (λ h. not (keepsMargins (accountAt u a) (accountHour (rows ++ trade ∷ []) a h)))
-    (λ h. not (keepsMargins (accountAt u a) (takes a h (accountHour rows a h) trade)))
-    (λ h. ap (λ x. not (keepsMargins (accountAt u a) x)) (hour-takes rows trade a h))
-    (counting (u .hours) 1)
 
 module _ (b : Book) (q : Request) (first : b .phase ≡ 1) where
   -- 14
@@ -75,36 +63,36 @@ module _ (b : Book) (q : Request) (first : b .phase ≡ 1) where
     no-number-left h = rw (eq-eqb _ 1 first, alone, le-leb mostRows (length (b .part .rows)) h)
 
     module _ (few : length (b .part .rows) < mostRows) where
-      broken-next : brokenHour (b .setup) (next register b q .part .rows) (q .account) ≡ brokenBy (b .setup) (b .part .rows) (proposed q) (q .account)
-      unfolding next
-      broken-next = broken-proposed (b .setup) (b .part .rows) (proposed q) (q .account)
+      broken-next : brokenHour (b .setup) (next register b q .part .rows) (q .account) ≡ brokenBy (b .setup) (b .part .rows) (proposed q ∷ []) (q .account)
+      unfolding apply
+      broken-next = broken-added (b .setup) (b .part .rows) (proposed q ∷ []) (q .account)
 
       -- 18
-      pub margin-breaks : (h : ℕ) → brokenBy (b .setup) (b .part .rows) (proposed q) (q .account) ≡ some h
+      pub margin-breaks : (h : ℕ) → brokenBy (b .setup) (b .part .rows) (proposed q ∷ []) (q .account) ≡ some h
           → decided register b q ≡ some (MarginBroken h)
       unfolding decided stateChecks firstToApply
       margin-breaks h e = rw (eq-eqb _ 1 first, alone, lt-leb mostRows (length (b .part .rows)) few, broken-next ∙ e)
 
-      module _ (kept : brokenBy (b .setup) (b .part .rows) (proposed q) (q .account) ≡ none) where
+      module _ (kept : brokenBy (b .setup) (b .part .rows) (proposed q ∷ []) (q .account) ≡ none) where
         -- its exposure is that of the rows with the proposed one
         covered-next : covered (b .setup) (next register b q .part) (operatorOf (b .setup) (q .account))
-            ≡ leb (exposureWith (b .setup) (b .part .rows) (proposed q) (operatorOf (b .setup) (q .account))) (available (b .setup) (b .part) (operatorOf (b .setup) (q .account)))
-        unfolding next
+            ≡ leb (exposureWith (b .setup) (b .part .rows) (proposed q ∷ []) (operatorOf (b .setup) (q .account))) (available (b .setup) (b .part) (operatorOf (b .setup) (q .account)))
+        unfolding apply
         covered-next =
             let u : Setup = b .setup in
             let o : ℕ = operatorOf u (q .account) in
-            covered-at u (b .part .guarantees) (b .part .rows) (b .part .rows ++ proposed q ∷ []) o _ (with-proposed u o (b .part .rows) (proposed q))
+            covered-at u (b .part .guarantees) (b .part .rows) (b .part .rows ++ proposed q ∷ []) o _ (sym (exposure-added u (b .part .rows) (proposed q ∷ []) o))
 
         -- 19
         pub row-uncovered : (t : Bool)
-            → t ≡ leb (exposureWith (b .setup) (b .part .rows) (proposed q) (operatorOf (b .setup) (q .account))) (available (b .setup) (b .part) (operatorOf (b .setup) (q .account)))
+            → t ≡ leb (exposureWith (b .setup) (b .part .rows) (proposed q ∷ []) (operatorOf (b .setup) (q .account))) (available (b .setup) (b .part) (operatorOf (b .setup) (q .account)))
             → t ≡ false → decided register b q ≡ some Uncovered
         unfolding decided stateChecks firstToApply
         row-uncovered t e f =
             rw (eq-eqb _ 1 first, alone, lt-leb mostRows (length (b .part .rows)) few, broken-next ∙ kept, covered-next ∙ sym e ∙ f)
 
         pub row-covered : (t : Bool)
-            → t ≡ leb (exposureWith (b .setup) (b .part .rows) (proposed q) (operatorOf (b .setup) (q .account))) (available (b .setup) (b .part) (operatorOf (b .setup) (q .account)))
+            → t ≡ leb (exposureWith (b .setup) (b .part .rows) (proposed q ∷ []) (operatorOf (b .setup) (q .account))) (available (b .setup) (b .part) (operatorOf (b .setup) (q .account)))
             → t ≡ true → decided register b q ≡ none
         unfolding decided stateChecks firstToApply
         row-covered t e f =
@@ -158,5 +146,6 @@ registered-answered s t h q n r d e few w =
     accepted-answered register s q h t (n + 1) d (omega (arith, e))
     (w
     ∙ ap (λ (x : List ℕ). splice (splice x (presentAt + rowAt n) (rowBytes (proposed q))) (presentAt + rowCountAt) (le 2 (n + 1))) (book-image s h)
-    ∙ write-register mostHours bookSize (bookIn s) (book-fits s h) q n (presentAt + rowAt n) e few refl)
-    (register-keeps (bookIn s) q (book-is-sound s h) bare (sym (r .of-kind)) (r .code-fits) (ready-input register (bookIn s) q r bare refl) (decided-clear register (bookIn s) q d))
+    ∙ write-row mostHours bookSize (bookIn s) (book-fits s h) (proposed q) n (presentAt + rowAt n) refl e few refl)
+    (apply-keeps _ (bookIn s) (book-is-sound s h)
+    (register-allowed (bookIn s) q (book-is-sound s h) bare (sym (r .of-kind)) (r .code-fits) (ready-input register (bookIn s) q r bare refl) (decided-clear register (bookIn s) q d)))

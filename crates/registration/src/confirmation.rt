@@ -1,6 +1,7 @@
 // Confirm: a pending row becomes a trade, and moves the net positions of its seller and its buyer.
 ghost use mathlib.Core.Path.{_≡_};
 ghost use mathlib.Core.Bool.{true};
+ghost use mathlib.Core.List.{[], _∷_};
 ghost use Prim.Native.Nat.{_+_, _-_, _^_, _≤_};
 ghost use lib.ListN.{length};
 ghost use lib.Dec.{leb};
@@ -31,6 +32,7 @@ use book::state::REGISTRATION;
 use book::state::operator_of;
 use book::state::phase;
 use book::state::row_place;
+use book::worth::Added;
 use book::worth::exposure_with;
 use image::layout::STATUS_IN;
 use image::rows::row_at;
@@ -89,7 +91,7 @@ fn confirmed_row(r: Row) -> Row
 // Whether the guarantee of the account's operator covers its exposure once the row is a trade: it is taken, and waits no longer.
 fn trade_covered(book: &[u8], row: Row, trade: Row, number: u8) -> bool
     requires { ⌜ (isBook (now book) ≡ true) × WaitsIn (bookIn (now book)) row × (trade ≡ withStatus 2 row) × (1 ≤ number) × (number ≤ accountCount (bookIn (now book) .setup)) ⌝ }
-    ensures { λ r. ⌜ r ≡ leb (exposureWith (bookIn (now (book .entry)) .setup) (bookIn (now (book .entry)) .part .rows) trade (operatorOf (bookIn (now (book .entry)) .setup) number) - saleWorth (bookIn (now (book .entry)) .setup) (operatorOf (bookIn (now (book .entry)) .setup) number) row) (available (bookIn (now (book .entry)) .setup) (bookIn (now (book .entry)) .part) (operatorOf (bookIn (now (book .entry)) .setup) number)) ⌝ }
+    ensures { λ r. ⌜ r ≡ leb (exposureWith (bookIn (now (book .entry)) .setup) (bookIn (now (book .entry)) .part .rows) (trade ∷ []) (operatorOf (bookIn (now (book .entry)) .setup) number) - saleWorth (bookIn (now (book .entry)) .setup) (operatorOf (bookIn (now (book .entry)) .setup) number) row) (available (bookIn (now (book .entry)) .setup) (bookIn (now (book .entry)) .part) (operatorOf (bookIn (now (book .entry)) .setup) number)) ⌝ }
 {
     // What a seller has pending turns into net and its buyer's net rises, and a book covers what its rows weigh.
     if row.side == 1 {
@@ -97,7 +99,7 @@ fn trade_covered(book: &[u8], row: Row, trade: Row, number: u8) -> bool
     }
     // A purchase that waits weighs nothing.
     let operator = operator_of(book, number);
-    let owed = exposure_with(book, operator, trade);
+    let owed = exposure_with(book, operator, Added::One(trade));
     in_force_covers(book, owed, operator)
 }
 

@@ -14,8 +14,8 @@ use crate::cover::is_covered;
 use crate::cover::lodged;
 use book::state::REGISTRATION;
 use book::state::phase;
+use book::worth::Added;
 use book::worth::exposure_with;
-use book::worth::no_trade;
 use image::layout::GUARANTEE_WIDTH;
 use image::layout::PRESENT_AT;
 use rules::Checked;
@@ -35,7 +35,7 @@ fn covers_exposure(book: &[u8], guarantee: Cents, number: u8) -> bool
     if held.0 <= guarantee.0 {
         return true;
     }
-    let owed = exposure_with(book, number, no_trade());
+    let owed = exposure_with(book, number, Added::Nothing);
     is_covered(book, owed, guarantee, number)
 }
 

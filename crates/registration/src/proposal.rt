@@ -1,6 +1,7 @@
 // Register: makes a pending row with the next number.
 ghost use mathlib.Core.Path.{_≡_};
 ghost use mathlib.Core.Bool.{true, false};
+ghost use mathlib.Core.List.{[], _∷_};
 ghost use Prim.Native.Nat.{_+_, _*_, _≤_, _<_};
 ghost use lib.ListN.{length};
 ghost use lib.Dec.{leb};
@@ -29,6 +30,7 @@ use book::state::phase;
 use book::state::row_count;
 use book::waits::fill_waits;
 use book::waits::no_waits;
+use book::worth::Added;
 use book::worth::exposure_with;
 use image::layout::MOST_ROWS;
 use image::layout::PRESENT_AT;
@@ -64,14 +66,14 @@ fn proposed_row(request: Request) -> Row
 // Whether the guarantee of the account's operator covers its exposure once the row is taken.
 fn row_covered(book: &[u8], row: Row, number: u8) -> bool
     requires { ⌜ (isBook (now book) ≡ true) × Takeable (bookIn (now book) .setup) row × (pending row ≡ true) × (1 ≤ number) × (number ≤ accountCount (bookIn (now book) .setup)) ⌝ }
-    ensures { λ r. ⌜ r ≡ leb (exposureWith (bookIn (now (book .entry)) .setup) (bookIn (now (book .entry)) .part .rows) row (operatorOf (bookIn (now (book .entry)) .setup) number)) (available (bookIn (now (book .entry)) .setup) (bookIn (now (book .entry)) .part) (operatorOf (bookIn (now (book .entry)) .setup) number)) ⌝ }
+    ensures { λ r. ⌜ r ≡ leb (exposureWith (bookIn (now (book .entry)) .setup) (bookIn (now (book .entry)) .part .rows) (row ∷ []) (operatorOf (bookIn (now (book .entry)) .setup) number)) (available (bookIn (now (book .entry)) .setup) (bookIn (now (book .entry)) .part) (operatorOf (bookIn (now (book .entry)) .setup) number)) ⌝ }
 {
     // A purchase that waits weighs nothing, and a book covers what its rows weigh.
     if row.side != 1 {
         return true;
     }
     let operator = operator_of(book, number);
-    let owed = exposure_with(book, operator, row);
+    let owed = exposure_with(book, operator, Added::One(row));
     in_force_covers(book, owed, operator)
 }
 

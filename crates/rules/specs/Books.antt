@@ -4,11 +4,13 @@ use Prim.Native.Nat.{ℕ}
 use mathlib.Core.List.{List}
 use mathlib.Core.Option.{Option}
 use lib.ListN.{length}
+use Rattle.units.specs.declared.Kwh.{Kwh}
 use Rattle.units.specs.declared.Cents.{Cents}
 use Rattle.units.specs.declared.CentsPerMwh.{CentsPerMwh}
 use Rattle.units.specs.Units.{kwh, cents, centsPerMwh}
 use Rattle.rules.specs.declared.Counts.{Counts}
 use Rattle.rules.specs.declared.Account.{Account}
+use Rattle.rules.specs.declared.Margins.{Margins}
 use Rattle.rules.specs.declared.Point.{Point}
 use Rattle.rules.specs.declared.Row.{Row}
 use Rattle.rules.specs.declared.Schedule.{Schedule}
@@ -36,6 +38,41 @@ pub record Book : Type 0 where
   pub schedules : List Schedule
   pub saved : Option Part
 
+-- ---- a part and a book with one field changed
+
+abbrev pub partGuarantees : Part → List Cents → Part
+partGuarantees p gs = record { guarantees = gs; rows = p .rows }
+
+abbrev pub partRows : Part → List Row → Part
+partRows p rows = record { guarantees = p .guarantees; rows = rows }
+
+abbrev pub withPhase : Book → ℕ → Book
+withPhase b phase = record { setup = b .setup; phase = phase; part = b .part; schedules = b .schedules; saved = b .saved }
+
+abbrev pub withPart : Book → Part → Book
+withPart b part = record { setup = b .setup; phase = b .phase; part = part; schedules = b .schedules; saved = b .saved }
+
+abbrev pub withSchedules : Book → List Schedule → Book
+withSchedules b xs = record { setup = b .setup; phase = b .phase; part = b .part; schedules = xs; saved = b .saved }
+
+abbrev pub withSaved : Book → Option Part → Book
+withSaved b saved = record { setup = b .setup; phase = b .phase; part = b .part; schedules = b .schedules; saved = saved }
+
+abbrev pub withGuarantees : Book → List Cents → Book
+withGuarantees b gs = withPart b (partGuarantees (b .part) gs)
+
+abbrev pub withRows : Book → List Row → Book
+withRows b rows = withPart b (partRows (b .part) rows)
+
+-- ---- periods: what a day is divided into, and is traded, scheduled and settled by
+
+abbrev pub periods : Setup → ℕ
+periods u = u .hours
+
+-- the hour that holds a period
+abbrev pub hourOf : Setup → ℕ → ℕ
+hourOf u p = p
+
 -- ---- entries by number, from 1; what is named `no…` stands at a number that no book has
 
 abbrev pub noAccount : Account
@@ -53,8 +90,22 @@ accountAt u a = nth (u .accounts) a noAccount
 abbrev pub pointAt : Setup → ℕ → Point
 pointAt u p = nth (u .points) p noPoint
 
+-- the margins of an account in a period
+abbrev pub marginsOf : Account → Margins
+marginsOf x = record { lower = x .lower; upper = x .upper }
+
+abbrev pub lowerAt : Setup → ℕ → ℕ → Kwh
+lowerAt u a p = accountAt u a .lower
+
+abbrev pub upperAt : Setup → ℕ → ℕ → Kwh
+upperAt u a p = accountAt u a .upper
+
+abbrev pub marginsAt : Setup → ℕ → ℕ → Margins
+marginsAt u a p = record { lower = lowerAt u a p; upper = upperAt u a p }
+
+-- the estimated price of a period
 abbrev pub estimateAt : Setup → ℕ → CentsPerMwh
-estimateAt u h = nth (u .estimates) h (centsPerMwh 0)
+estimateAt u p = nth (u .estimates) (hourOf u p) (centsPerMwh 0)
 
 abbrev pub maintenanceAt : Setup → ℕ → ℕ
 maintenanceAt u o = nth (u .maintenance) o 0

@@ -17,7 +17,7 @@ use Rattle.rules.specs.declared.Refusal.the-variants.{WrongLength, OutOf
 use Rattle.rules.specs.Basics.{if_then_else_, any, isSome, nth, put}
 use Rattle.rules.specs.Limits.{mostPrice, mostRows, mostSchedules}
 use Rattle.rules.specs.Verdicts.{Check, _⇒_, _⇒↑_, firstToApply, accepted, refused}
-use Rattle.rules.specs.Books.{Setup, Part, Book, noRow, operatorOf, operatorCount, countsOf}
+use Rattle.rules.specs.Books.{Setup, Part, Book, withPhase, withPart, withSchedules, withSaved, withGuarantees, withRows, noRow, operatorOf, operatorCount, countsOf}
 use Rattle.rules.specs.Requests.{Kind, register, confirm, withdraw, guarantee, openBatch, undo, keep, closeGate, schedule, settle, kindNumber, kindOf, requestOf, readChecks, faultyBit, sameAccounts, filled}
 use Rattle.rules.specs.Registration.{proposed, alike, confirms, withdraws, mirrors, mark, closed, brokenHour, covered, netOf}
 use Rattle.rules.specs.Settlement.{priceCount, pricesIn, results, balances, balanceBytes}
@@ -36,39 +36,23 @@ requestIn c = requestOf (c .bytes)
 abbrev pub kindIn : Call → Kind
 kindIn c = kindOf (requestIn c .kind)
 
--- ---- books with one thing changed
+-- ---- what an accepted call does
 
-abbrev pub withRows : Book → List Row → Book
-withRows b rows =
-    record {
-      setup = b .setup;
-      phase = b .phase;
-      part = record { guarantees = b .part .guarantees; rows = rows };
-      schedules = b .schedules;
-      saved = b .saved;
-    }
-
-abbrev pub withGuarantees : Book → List Cents → Book
-withGuarantees b gs =
-    record {
-      setup = b .setup;
-      phase = b .phase;
-      part = record { guarantees = gs; rows = b .part .rows };
-      schedules = b .schedules;
-      saved = b .saved;
-    }
-
-abbrev pub withBatch : Book → Part → Option Part → Book
-withBatch b part saved =
-    record { setup = b .setup; phase = b .phase; part = part; schedules = b .schedules; saved = saved }
-
-abbrev pub withSchedules : Book → List Schedule → Book
-withSchedules b xs = record { setup = b .setup; phase = b .phase; part = b .part; schedules = xs; saved = b .saved }
-
-abbrev pub withPhase : Book → ℕ → Book
-withPhase b phase = record { setup = b .setup; phase = phase; part = b .part; schedules = b .schedules; saved = b .saved }
-
--- ---- what an accepted call makes of the book
+pub data Change : Type 0 where
+  -- rows get the next numbers
+  addRows : List Row → Change
+  -- the row of that number gets the status
+  setStatus : ℕ → ℕ → Change
+  -- the operator's guarantee is replaced
+  setGuarantee : ℕ → Cents → Change
+  -- a batch opens, is undone, is kept
+  savePart restorePart dropSaved : Change
+  -- the gate closes: all pending rows are withdrawn
+  shutGate : Change
+  -- a schedule gets the next place
+  addSchedule : Schedule → Change
+  -- the day is settled
+  endDay : Change
 
 -- the number of the row that confirm names, or 0
 abbrev pub numberFrom : Option ℕ → ℕ
@@ -78,25 +62,42 @@ numberFrom (some i) = suc i
 abbrev pub confirmedNumber : Book → Request → ℕ
 confirmedNumber b q = numberFrom (confirms (b .part .rows) q)
 
+abbrev pub scheduled : Request → Schedule
+scheduled q = record { point = q .point; side = q .side; hour = q .first; quantity = q .quantity; price = q .price }
+
+-- the change that a kind makes
+abbrev pub change : Kind → Book → Request → Change
+change register b q = addRows (proposed q ∷ [])
+change confirm b q = setStatus (confirmedNumber b q) 2
+change withdraw b q = setStatus (q .number) 3
+change guarantee b q = setGuarantee (q .operator) (q .guarantee)
+change openBatch b q = savePart
+change undo b q = restorePart
+change keep b q = dropSaved
+change closeGate b q = shutGate
+change schedule b q = addSchedule (scheduled q)
+change settle b q = endDay
+
 -- the part as it was saved
 abbrev pub restored : Option Part → Part → Part
 restored none part = part
 restored (some saved) part = saved
 
-abbrev pub scheduled : Request → Schedule
-scheduled q = record { point = q .point; side = q .side; hour = q .first; quantity = q .quantity; price = q .price }
+-- the book after a change
+unfoldable pub apply : Change → Book → Book
+apply (addRows rows) b = withRows b (b .part .rows ++ rows)
+apply (setStatus number status) b = withRows b (mark number status (b .part .rows))
+apply (setGuarantee o g) b = withGuarantees b (put (b .part .guarantees) o g)
+apply savePart b = withSaved b (some (b .part))
+apply restorePart b = withSaved (withPart b (restored (b .saved) (b .part))) none
+apply dropSaved b = withSaved b none
+apply shutGate b = withPhase (withRows b (closed (b .part .rows))) 2
+apply (addSchedule x) b = withSchedules b (b .schedules ++ x ∷ [])
+apply endDay b = withPhase b 3
 
-unfoldable pub next : Kind → Book → Request → Book
-next register b q = withRows b (b .part .rows ++ proposed q ∷ [])
-next confirm b q = withRows b (mark (confirmedNumber b q) 2 (b .part .rows))
-next withdraw b q = withRows b (mark (q .number) 3 (b .part .rows))
-next guarantee b q = withGuarantees b (put (b .part .guarantees) (q .operator) (q .guarantee))
-next openBatch b q = withBatch b (b .part) (some (b .part))
-next undo b q = withBatch b (restored (b .saved) (b .part)) none
-next keep b q = withBatch b (b .part) none
-next closeGate b q = withPhase (withRows b (closed (b .part .rows))) 2
-next schedule b q = withSchedules b (b .schedules ++ scheduled q ∷ [])
-next settle b q = withPhase b 3
+-- the book after an accepted call
+abbrev pub next : Kind → Book → Request → Book
+next k b q = apply (change k b q) b
 
 -- the number that it gives: the row's, the rows registered since the open, the schedule's place
 unfoldable pub given : Kind → Book → Request → ℕ
@@ -175,20 +176,15 @@ pub record Settled : Type 0 where
   pub results : List ℕ
   pub balances : List Balance
 
-unfoldable pub settles : Kind → Book → Call → Option Settled
-settles register b c = none
-settles confirm b c = none
-settles withdraw b c = none
-settles guarantee b c = none
-settles openBatch b c = none
-settles undo b c = none
-settles keep b c = none
-settles closeGate b c = none
-settles schedule b c = none
-settles settle b c =
+unfoldable pub workedOut : Book → Call → Settled
+workedOut b c =
     let t = pricesIn (b .setup) (c .prices) in
     let net = netOf (b .part .rows) in
-    some (record { results = results (b .setup) net t (b .schedules); balances = balances (b .setup) net t (b .schedules) })
+    record { results = results (b .setup) net t (b .schedules); balances = balances (b .setup) net t (b .schedules) }
+
+-- no other kind works anything out
+unfoldable pub settles : Kind → Book → Call → Option Settled
+settles k b c = if k ∈ (settle ∷ []) then some (workedOut b c) else none
 
 -- the outcome, the book, and the two output buffers as the call leaves them; and what settle worked out
 pub record Answer : Type 0 where

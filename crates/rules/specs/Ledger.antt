@@ -17,7 +17,7 @@ use Rattle.rules.specs.declared.Verdict.{Verdict}
 use Rattle.rules.specs.declared.Verdict.the-variants.{Accepted, Refused}
 use Rattle.rules.specs.Basics.{if_then_else_, total, put, within}
 use Rattle.rules.specs.Limits.{thousand}
-use Rattle.rules.specs.Books.{Setup, Book, guaranteeAt, maintenanceAt}
+use Rattle.rules.specs.Books.{Setup, Book, estimateAt, guaranteeAt, maintenanceAt}
 use Rattle.rules.specs.Opening.{setupOf, guaranteesOf}
 use Rattle.rules.specs.Requests.{Kind, register, confirm, withdraw, guarantee, openBatch, undo, keep, closeGate, schedule, settle, kindOf, requestOf}
 use Rattle.rules.specs.Registration.{proposed, alike, counted, covers, exposureOf}
@@ -44,6 +44,27 @@ pub record Page : Type 0 where
   pub trades : List Trade
   pub schedules : List Schedule
   pub nextNumber : ℕ
+
+-- a page with one field changed
+abbrev pub pageGuarantees : Page → List Cents → Page
+pageGuarantees p gs =
+    record { guarantees = gs; pending = p .pending; trades = p .trades; schedules = p .schedules; nextNumber = p .nextNumber }
+
+abbrev pub pagePending : Page → List Entry → Page
+pagePending p es =
+    record { guarantees = p .guarantees; pending = es; trades = p .trades; schedules = p .schedules; nextNumber = p .nextNumber }
+
+abbrev pub pageTrades : Page → List Trade → Page
+pageTrades p ts =
+    record { guarantees = p .guarantees; pending = p .pending; trades = ts; schedules = p .schedules; nextNumber = p .nextNumber }
+
+abbrev pub pageSchedules : Page → List Schedule → Page
+pageSchedules p xs =
+    record { guarantees = p .guarantees; pending = p .pending; trades = p .trades; schedules = xs; nextNumber = p .nextNumber }
+
+abbrev pub pageNext : Page → ℕ → Page
+pageNext p n =
+    record { guarantees = p .guarantees; pending = p .pending; trades = p .trades; schedules = p .schedules; nextNumber = n }
 
 -- the set-up, the ledger as it stands, and the copy that the last open made
 pub record Ledger : Type 0 where
@@ -76,51 +97,24 @@ tradeOf q =
       quantity = q .quantity;
     }
 
-abbrev pub withPending : Page → List Entry → Page
-withPending p es =
-    record { guarantees = p .guarantees; pending = es; trades = p .trades; schedules = p .schedules; nextNumber = p .nextNumber }
+-- a pending row with the next number
+abbrev pub entered : Page → Row → Page
+entered p r = pageNext (pagePending p (p .pending ++ record { number = p .nextNumber; row = r } ∷ [])) (suc (p .nextNumber))
 
 -- an accepted record on a page, with the copy beside it: register adds a pending row with the next number; confirm ends the pending
 -- row with its code and its accounts exchanged, and adds its trade; withdraw ends the row of its number, close all pending;
 -- guarantee replaces the old one; undo puts the copy back; schedule adds itself
 unfoldable pub turn : Kind → Request → Page → Page → Page
-turn register q copy p =
-    record {
-      guarantees = p .guarantees;
-      pending = p .pending ++ record { number = p .nextNumber; row = proposed q } ∷ [];
-      trades = p .trades;
-      schedules = p .schedules;
-      nextNumber = suc (p .nextNumber);
-    }
+turn register q copy p = entered p (proposed q)
 turn confirm q copy p =
-    record {
-      guarantees = p .guarantees;
-      pending = without (λ e. alike (q .other) (q .account) (q .code) (e .row)) (p .pending);
-      trades = p .trades ++ tradeOf q ∷ [];
-      schedules = p .schedules;
-      nextNumber = p .nextNumber;
-    }
-turn withdraw q copy p = withPending p (without (λ e. eqb (e .number) (q .number)) (p .pending))
-turn guarantee q copy p =
-    record {
-      guarantees = put (p .guarantees) (q .operator) (q .guarantee);
-      pending = p .pending;
-      trades = p .trades;
-      schedules = p .schedules;
-      nextNumber = p .nextNumber;
-    }
+    pageTrades (pagePending p (without (λ e. alike (q .other) (q .account) (q .code) (e .row)) (p .pending))) (p .trades ++ tradeOf q ∷ [])
+turn withdraw q copy p = pagePending p (without (λ e. eqb (e .number) (q .number)) (p .pending))
+turn guarantee q copy p = pageGuarantees p (put (p .guarantees) (q .operator) (q .guarantee))
 turn openBatch q copy p = p
 turn undo q copy p = copy
 turn keep q copy p = p
-turn closeGate q copy p = withPending p []
-turn schedule q copy p =
-    record {
-      guarantees = p .guarantees;
-      pending = p .pending;
-      trades = p .trades;
-      schedules = p .schedules ++ scheduled q ∷ [];
-      nextNumber = p .nextNumber;
-    }
+turn closeGate q copy p = pagePending p []
+turn schedule q copy p = pageSchedules p (p .schedules ++ scheduled q ∷ [])
 turn settle q copy p = p
 
 -- an accepted record on the ledger; open copies the whole page, next number too
@@ -173,7 +167,7 @@ ledgerHour l a h =
     record { net = ledgerNet l a h; sales = kwh (ledgerWaiting 1 l a h); purchases = kwh (ledgerWaiting 2 l a h) }
 
 unfoldable pub ledgerExposure : Ledger → ℕ → ℕ
-ledgerExposure l o = exposureOf (l .setup) (ledgerHour l) o
+ledgerExposure l o = exposureOf (l .setup) (estimateAt (l .setup)) (ledgerHour l) o
 
 unfoldable pub ledgerAvailable : Ledger → ℕ → ℕ
 ledgerAvailable l o = guaranteeAt (l .page .guarantees) o .0 * (thousand - maintenanceAt (l .setup) o)

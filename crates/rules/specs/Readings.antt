@@ -15,7 +15,7 @@ use Rattle.rules.specs.declared.Refusal.{Refusal}
 use Rattle.rules.specs.declared.Refusal.the-variants.{OutOfRange}
 use Rattle.rules.specs.Basics.{if_then_else_, within}
 use Rattle.rules.specs.Verdicts.{Check, _⇒_, firstToApply}
-use Rattle.rules.specs.Books.{Book, accountCount, operatorCount}
+use Rattle.rules.specs.Books.{Book, accountCount, operatorCount, periods}
 use Rattle.rules.specs.Registration.{netOf, exposure}
 
 -- a net position with its sign
@@ -33,7 +33,7 @@ positionFigure (Short x) = negℤ (pos (x .0))
 -- 6 with bit 1, the account, or 5, the hour
 abbrev pub netChecks : Book → ℕ → ℕ → List Check
 netChecks b a h =
-    (not (within 1 a (accountCount (b .setup))) ⇒ OutOfRange 1) ∷ (not (within 1 h (b .setup .hours)) ⇒ OutOfRange 5) ∷ []
+    (not (within 1 a (accountCount (b .setup))) ⇒ OutOfRange 1) ∷ (not (within 1 h (periods (b .setup))) ⇒ OutOfRange 5) ∷ []
 
 abbrev pub netReadingOf : Option Refusal → Position → NetReading
 netReadingOf (some r) p = NetReading.Unread r

@@ -7,15 +7,16 @@ use mathlib.Core.Bool.{Bool, true, false, not, _&&_, _||_}
 use lib.ListN.{length}
 use lib.Dec.{eqb, leb, ltb}
 use lib.IntN.{ℤ, pos, subℕ, _+ℤ_, _-ℤ_}
+use Rattle.units.specs.declared.CentsPerMwh.{CentsPerMwh}
 use Rattle.units.specs.Units.{kwh}
-use Rattle.rules.specs.declared.Account.{Account}
+use Rattle.rules.specs.declared.Margins.{Margins}
 use Rattle.rules.specs.declared.Row.{Row}
 use Rattle.rules.specs.declared.Net.{Net}
 use Rattle.rules.specs.declared.AccountHour.{AccountHour}
 use Rattle.rules.specs.declared.Request.{Request}
 use Rattle.rules.specs.Basics.{if_then_else_, total, find, indexOf, nth, put, upTo, within}
 use Rattle.rules.specs.Limits.{thousand}
-use Rattle.rules.specs.Books.{Setup, Part, accountAt, estimateAt, maintenanceAt, guaranteeAt, operatorOf, accountCount, noRow}
+use Rattle.rules.specs.Books.{Setup, Part, periods, marginsAt, estimateAt, maintenanceAt, guaranteeAt, operatorOf, accountCount, noRow}
 
 -- ---- rows
 
@@ -139,6 +140,11 @@ takes a h x r =
       purchases = kwh (x .purchases .0 + counted (λ r. pending r && covers h r && eqb (r .proposer) a && eqb (r .side) 2) r);
     }
 
+-- and rows one after the other
+abbrev pub takesAll : ℕ → ℕ → AccountHour → List Row → AccountHour
+takesAll a h x [] = x
+takesAll a h x (r ∷ rs) = takesAll a h (takes a h x r) rs
+
 -- ---- the paper's signed figures: purchases count plus, sales minus
 
 abbrev pub figure : Net → ℤ
@@ -154,14 +160,19 @@ high x = figure (x .net) +ℤ pos (x .purchases .0)
 -- ---- margins
 
 -- minus lower margin ≤ low, high ≤ upper margin
-unfoldable pub keepsMargins : Account → AccountHour → Bool
-keepsMargins account x =
-    leb (x .net .sold .0 + x .sales .0) (x .net .bought .0 + account .lower .0)
-    && leb (x .net .bought .0 + x .purchases .0) (x .net .sold .0 + account .upper .0)
+unfoldable pub keepsMargins : Margins → AccountHour → Bool
+keepsMargins margins x =
+    leb (x .net .sold .0 + x .sales .0) (x .net .bought .0 + margins .lower .0)
+    && leb (x .net .bought .0 + x .purchases .0) (x .net .sold .0 + margins .upper .0)
 
 -- the lowest hour that breaks a margin of the account
 unfoldable pub brokenHour : Setup → List Row → ℕ → Option ℕ
-brokenHour u rows a = find (λ h. not (keepsMargins (accountAt u a) (accountHour rows a h))) (upTo (u .hours))
+brokenHour u rows a = find (λ h. not (keepsMargins (marginsAt u a h) (accountHour rows a h))) (upTo (periods u))
+
+-- the same once the account took rows that are to be added
+unfoldable pub brokenBy : Setup → List Row → List Row → ℕ → Option ℕ
+brokenBy u rows added a =
+    find (λ h. not (keepsMargins (marginsAt u a h) (takesAll a h (accountHour rows a h) added))) (upTo (periods u))
 
 -- ---- exposure and what is available, in thousandths of a cent
 
@@ -173,16 +184,17 @@ exposed x = (x .net .sold .0 - x .net .bought .0) + x .sales .0
 unfoldable pub ofOperator : Setup → (ℕ → ℕ) → ℕ → ℕ
 ofOperator u f o = total (λ a. if eqb (operatorOf u a) o then f a else 0) (upTo (accountCount u))
 
--- exposure of what accounts hold in their hours: over the operator's accounts and the hours, at estimated prices
-unfoldable pub exposureOf : Setup → (ℕ → ℕ → AccountHour) → ℕ → ℕ
-exposureOf u holds o = ofOperator u (λ a. total (λ h. estimateAt u h .0 * exposed (holds a h)) (upTo (u .hours))) o
+-- exposure of what accounts hold in their hours, at prices by hour: over the operator's accounts and the hours
+unfoldable pub exposureOf : Setup → (ℕ → CentsPerMwh) → (ℕ → ℕ → AccountHour) → ℕ → ℕ
+exposureOf u prices holds o = ofOperator u (λ a. total (λ h. prices h .0 * exposed (holds a h)) (upTo (periods u))) o
 
+-- at estimated prices
 abbrev pub exposure : Setup → List Row → ℕ → ℕ
-exposure u rows o = exposureOf u (accountHour rows) o
+exposure u rows o = exposureOf u (estimateAt u) (accountHour rows) o
 
--- the operator's exposure once the trade is taken
-abbrev pub exposureWith : Setup → List Row → Row → ℕ → ℕ
-exposureWith u rows trade o = exposureOf u (λ a h. takes a h (accountHour rows a h) trade) o
+-- the same once the accounts took rows that are to be added
+abbrev pub exposureWith : Setup → List Row → List Row → ℕ → ℕ
+exposureWith u rows added o = exposureOf u (estimateAt u) (λ a h. takesAll a h (accountHour rows a h) added) o
 
 -- guarantee times (1000 - m)
 unfoldable pub available : Setup → Part → ℕ → ℕ

@@ -5,8 +5,8 @@ ghost use Prim.Native.Nat.{_+_, _-_, _^_, _≤_, _<_};
 ghost use lib.Dec.{eqb};
 ghost use Rattle.rules.specs.Basics.{if_then_else_};
 ghost use Rattle.rules.specs.Registration.{confirmed, pending, buyer, seller, covers, counted, takes, keepsMargins};
-use crate::Account;
 use crate::AccountHour;
+use crate::Margins;
 use crate::Net;
 use crate::Row;
 use units::Kwh;
@@ -90,15 +90,15 @@ pub fn short(net: Net) -> Kwh
     Kwh(0)
 }
 
-// Whether both margins of the account are kept.
-pub fn keeps_margins(account: Account, x: AccountHour) -> bool
-    ensures { λ r. ⌜ r ≡ keepsMargins account x ⌝ }
+// Whether both margins are kept.
+pub fn keeps_margins(margins: Margins, x: AccountHour) -> bool
+    ensures { λ r. ⌜ r ≡ keepsMargins margins x ⌝ }
 {
     let bought = x.net.bought.0 as u64;
     let sold = x.net.sold.0 as u64;
     let sales = x.sales.0 as u64;
     let purchases = x.purchases.0 as u64;
-    let lower = account.lower.0 as u64;
-    let upper = account.upper.0 as u64;
+    let lower = margins.lower.0 as u64;
+    let upper = margins.upper.0 as u64;
     (sold + sales <= bought + lower) & (bought + purchases <= sold + upper)
 }

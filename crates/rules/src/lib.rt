@@ -32,6 +32,12 @@ pub struct Account {
     pub upper: Kwh,
 }
 
+// The margins of an account in an hour.
+pub struct Margins {
+    pub lower: Kwh,
+    pub upper: Kwh,
+}
+
 // A point. Kind: 1 injection, 2 withdrawal, 3 mixed. Injection and withdrawal are its greatest amounts per hour.
 pub struct Point {
     pub account: u8,

@@ -16,7 +16,7 @@ use Rattle.rules.specs.declared.Point.{Point}
 use Rattle.rules.specs.declared.Schedule.{Schedule}
 use Rattle.rules.specs.Basics.{if_then_else_, nth, Each}
 use Rattle.rules.specs.Limits.{mostPoints, mostAccounts}
-use Rattle.rules.specs.Books.{Setup, noPoint, accountCount, pointAt}
+use Rattle.rules.specs.Books.{Setup, noPoint, accountCount, pointAt, periods}
 use Rattle.rules.specs.Opening.{countsIn, pointsIn, setupOf}
 use Rattle.rules.specs.Settlement.{Judged, used, accountOf, sameHourSide, pointLimit, accountLimit, metPrice, taken, judge, priceCount}
 use Rattle.rules.proofs.Basics.Searches.{each-nth, each-map}
@@ -76,7 +76,7 @@ module _ (s : List ℕ) (h : isBook s ≡ true) (x : Schedule) (ok : scheduleOk 
 
   -- its account and its hour are the book's
   pub account-hour-stands : (p : Point) → p ≡ pointAt (setupIn s) (x .point)
-      → ((1 ≤ p .account) × (p .account ≤ accountCount (setupIn s))) × ((1 ≤ x .hour) × (x .hour ≤ setupIn s .hours))
+      → ((1 ≤ p .account) × (p .account ≤ accountCount (setupIn s))) × ((1 ≤ x .hour) × (x .hour ≤ periods (setupIn s)))
   account-hour-stands p e = rw e ((point-sound .account-low, point-sound .account-high), (in-range .hour-low, in-range .hour-high))
 
   -- the point that was read is its point
@@ -91,9 +91,9 @@ module _ (s : List ℕ) (h : isBook s ≡ true) (x : Schedule) (ok : scheduleOk 
       let u = setupIn s in
       let zone = pointAt u (x .point) .zone in
       let zonal : Bool = eqb (x .side) 1 || eqb (pointAt u (x .point) .kind) 3 in
-      let zones = mul-le-mul-left {m = zone} {n = u .zones} (u .hours) (point-sound .zone-high) in
-      let last : u .hours * zone + x .hour ≤ priceCount u = omega (arith, in-range .hour-high, mul-add (u .hours) 1 (u .zones)) in
-      let k = number-within zonal (u .hours * zone) (x .hour) (priceCount u) (in-range .hour-low) last in
+      let zones = mul-le-mul-left {m = zone} {n = u .zones} (periods u) (point-sound .zone-high) in
+      let last : periods u * zone + x .hour ≤ priceCount u = omega (arith, in-range .hour-high, mul-add (periods u) 1 (u .zones)) in
+      let k = number-within zonal (periods u * zone) (x .hour) (priceCount u) (in-range .hour-low) last in
       rw (hours-read s h n en, ep) (k .0, omega (arith, k .1, given .whole))
 
 -- ---- the result by what is used up
@@ -128,7 +128,7 @@ module _ (u : Setup) (net : ℕ → ℕ → Net) (t : List CentsPerMwh) (x : Sch
         ≡ getD table (pointCells + cellFor (accountOf u net t x) x) 0
         → a ≡ ltb (greatest p (x .side)) (getD table (cellFor (x .point) x) 0 + x .quantity .0)
         → b ≡ ltb (leftBy (net (p .account) (x .hour)) (x .side)) (getD table (pointCells + cellFor (p .account) x) 0 + x .quantity .0)
-        → c ≡ takenAt x (nth t (priceNumber (u .hours) p x) (centsPerMwh 0))
+        → c ≡ takenAt x (nth t (priceNumber (periods u) p x) (centsPerMwh 0))
         → resultBy a b c ≡ judge u net t before x
     unfolding judge
     judged-by-tests {a} {b} {c} p e up ua ta tb tc =
@@ -151,8 +151,8 @@ pub result-judged : (s prices table : List ℕ) (x : Schedule) → Priced s pric
     → resultBy a b c ≡ judge (setupIn s) (netsIn s) (pricesOf s prices) before x
 result-judged s prices table x given ok n p {c = c} en ep ta tb tc before by each =
     let h = given .is-book in
-    let hours : n .hours ≡ setupIn s .hours = hours-read s h n en in
-    let held : c ≡ takenAt x (nth (pricesOf s prices) (priceNumber (setupIn s .hours) p x) (centsPerMwh 0)) = rw hours at tc in
+    let hours : n .hours ≡ periods (setupIn s) = hours-read s h n en in
+    let held : c ≡ takenAt x (nth (pricesOf s prices) (priceNumber (periods (setupIn s)) p x) (centsPerMwh 0)) = rw hours at tc in
     let points = each-map (λ j o. point-in-cells s h (j .schedule) o) each in
     let accounts = each-map (λ j o. account-in-cells s h (j .schedule) o) each in
     judged-by-tests (setupIn s) (netsIn s) (pricesOf s prices) x before table by p ep

@@ -21,7 +21,8 @@ use Rattle.image.specs.Image.{scheduleValues, scheduleBytes}
 use Rattle.image.specs.Valid.{isBook, bookIn}
 use Rattle.image.proofs.Writing.Sizes.{schedule-small}
 use Rattle.image.proofs.Writing.BookWrites.{write-schedule}
-use Rattle.image.proofs.Keeping.KeepsKinds.{scheduled-sound, schedule-keeps}
+use Rattle.image.proofs.Keeping.KeepsChanges.{apply-keeps}
+use Rattle.image.proofs.Keeping.KeepsKinds.{scheduled-sound, schedule-allowed}
 use Rattle.book.specs.Kinds.{decided, Ready}
 use Rattle.book.proofs.StateLaws.{book-image, book-fits, book-is-sound}
 use Rattle.book.proofs.Answers.{decided-clear, Answered, accepted-answered}
@@ -64,5 +65,6 @@ scheduled-answered s t h q n r d e w =
     accepted-answered schedule s q h t (n + 1) d (omega (arith, e))
     (w
     ∙ ap (λ (x : List ℕ). splice (splice x (schedulesAt + scheduleWidth * n) (scheduleBytes (scheduled q))) scheduleCountAt (le 2 (n + 1))) (book-image s h)
-    ∙ write-schedule mostHours bookSize (bookIn s) (book-fits s h) q n (schedulesAt + scheduleWidth * n) e (omega (arith, e, few)) refl)
-    (schedule-keeps (bookIn s) q (book-is-sound s h) bare (sym (r .of-kind)) (ready-input schedule (bookIn s) q r bare refl) (decided-clear schedule (bookIn s) q d))
+    ∙ write-schedule mostHours bookSize (bookIn s) (book-fits s h) (scheduled q) n (schedulesAt + scheduleWidth * n) e (omega (arith, e, few)) refl)
+    (apply-keeps _ (bookIn s) (book-is-sound s h)
+    (schedule-allowed (bookIn s) q (book-is-sound s h) bare (sym (r .of-kind)) (ready-input schedule (bookIn s) q r bare refl) (decided-clear schedule (bookIn s) q d)))

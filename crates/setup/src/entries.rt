@@ -4,7 +4,7 @@ ghost use Prim.Native.Nat.{_+_, _≤_};
 ghost use lib.ListN.{length, take, drop};
 ghost use Rattle.units.specs.Units.{centsPerMwh};
 ghost use Rattle.rules.specs.Basics.{nth};
-ghost use Rattle.rules.specs.Books.{noAccount, noPoint};
+ghost use Rattle.rules.specs.Books.{noAccount, noPoint, marginsOf};
 ghost use Rattle.rules.specs.Opening.{countsIn, priceIn, operatorIn, accountIn, pointIn, estimatesIn, operatorsIn, accountsIn, pointsIn};
 ghost use Rattle.setup.specs.Faults.{Whole, noOperator};
 use crate::counts::accounts_from;
@@ -12,6 +12,7 @@ use crate::counts::counts;
 use crate::counts::operators_from;
 use crate::counts::points_from;
 use rules::Account;
+use rules::Margins;
 use rules::Operator;
 use rules::Point;
 use units::Cents;
@@ -92,6 +93,17 @@ pub fn account(setup: &[u8], number: u8) -> Account
 {
     let from = accounts_from(counts(setup));
     account_at(setup, from + 10 * (number as usize - 1))
+}
+
+// The margins of the account of a number, from 1.
+pub fn margins(setup: &[u8], number: u8) -> Margins
+    requires { ⌜ Whole (now setup) × (1 ≤ number) × (number ≤ countsIn (now setup) .accounts) ⌝ }
+    ensures { λ r. ⌜ r ≡ marginsOf (nth (accountsIn (now (setup .entry))) number noAccount) ⌝ }
+{
+    let entry = account(setup, number);
+    let lower = entry.lower;
+    let upper = entry.upper;
+    Margins { lower, upper }
 }
 
 // The point of a number, from 1.

@@ -10,7 +10,7 @@ use Rattle.wire.specs.Numbers.{numberAt}
 use Rattle.rules.specs.declared.Row.{Row}
 use Rattle.rules.specs.Basics.{if_then_else_, total, every, upTo}
 use Rattle.rules.specs.Limits.{mostAccounts, mostHours}
-use Rattle.rules.specs.Books.{Setup, estimateAt, operatorOf}
+use Rattle.rules.specs.Books.{Setup, estimateAt, operatorOf, periods}
 use Rattle.rules.specs.Registration.{bought, sold, pendingSales, pendingPurchases, accountHour, exposed}
 use Rattle.image.specs.Tables.{slots, cellOf, placeOf, InTable}
 
@@ -59,7 +59,7 @@ netsStored top s at table = every (λ a. every (netStored top s at table a) (upT
 
 -- the exposure of an account over all hours, at the estimated prices
 unfoldable pub accountExposure : Setup → List Row → ℕ → ℕ
-accountExposure u rows a = total (λ h. estimateAt u h .0 * exposed (accountHour rows a h)) (upTo (u .hours))
+accountExposure u rows a = total (λ h. estimateAt u h .0 * exposed (accountHour rows a h)) (upTo (periods u))
 
 -- what an account adds to an operator's exposure: nothing where it is another's
 unfoldable pub exposureShare : Setup → List Row → ℕ → ℕ → ℕ

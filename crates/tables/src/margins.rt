@@ -13,20 +13,20 @@ ghost use Rattle.image.specs.Tables.{SetupTabled};
 ghost use Rattle.tables.specs.Sums.{SumsOf};
 use crate::sums::account_hour;
 use image::layout::PERIODS;
-use rules::Account;
+use rules::Margins;
 use rules::hours::keeps_margins;
 use setup::counts::counts;
-use setup::entries::account;
+use setup::entries::margins;
 
 // Whether the account of that number keeps its margins in each hour.
-fn hours_kept(table: &[u32], account: Account, number: u8, hours: u8) -> bool
+fn hours_kept(table: &[u32], margins: Margins, number: u8, hours: u8) -> bool
     requires { ⌜ (length (now table) ≡ 3200) × (1 ≤ number) × (number ≤ mostAccounts) × (hours ≤ mostHours) ⌝ }
-    ensures { λ r. ⌜ ((rows : List Row) → SumsOf mostHours rows (now (table .entry)) → r ≡ every (λ h. keepsMargins account (accountHour rows number h)) (upTo hours)) ⌝ }
+    ensures { λ r. ⌜ ((rows : List Row) → SumsOf mostHours rows (now (table .entry)) → r ≡ every (λ h. keepsMargins margins (accountHour rows number h)) (upTo hours)) ⌝ }
 {
     let mut hour: u8 = 1;
     while hour <= hours {
         let x = account_hour(table, PERIODS, number, hour);
-        if keeps_margins(account, x) {
+        if keeps_margins(margins, x) {
             hour = hour + 1;
         } else {
             return false;
@@ -43,8 +43,8 @@ pub fn margins_kept(book: &[u8], table: &[u32]) -> bool
     let n = counts(book);
     let mut number: u8 = 1;
     while number <= n.accounts {
-        let owner = account(book, number);
-        if hours_kept(table, owner, number, n.hours) {
+        let own = margins(book, number);
+        if hours_kept(table, own, number, n.hours) {
             number = number + 1;
         } else {
             return false;

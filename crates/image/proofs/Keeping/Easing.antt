@@ -1,5 +1,5 @@
 -- What eases an account hour: low no lower, high no higher, no more exposed. A confirm eases every account but its caller, for what
--- the proposer has pending turns into net; a register every account but its caller; a withdrawal and the close of the gate all.
+-- the proposer has pending turns into net; rows added every account but their proposer; a withdrawal and the close of the gate all.
 -- A purchase that waits and a sale that is confirmed expose no operator more.
 use Prim.Native.Nat.{ℕ, _+_, _*_, _≤_}
 use mathlib.Core.Path.{_≡_, refl, sym, ap, _∙_}
@@ -13,16 +13,17 @@ use lib.IntN.{subℕ}
 use lib.Signed.{_≤ℤ_}
 use borrow.Author.Tests.{eqb-true, eqb-false, leb-true, le-leb, eq-eqb, ne-eqb}
 use Rattle.units.specs.declared.Cents.{Cents}
-use Rattle.rules.specs.declared.Account.{Account}
+use Rattle.units.specs.declared.CentsPerMwh.{CentsPerMwh}
+use Rattle.rules.specs.declared.Margins.{Margins}
 use Rattle.rules.specs.declared.Row.{Row}
 use Rattle.rules.specs.declared.AccountHour.{AccountHour}
-use Rattle.rules.specs.declared.Request.{Request}
-use Rattle.rules.specs.Basics.{if_then_else_, total, nth, upTo}
-use Rattle.rules.specs.Books.{Setup, noRow, accountCount, estimateAt, operatorOf}
-use Rattle.rules.specs.Registration.{pending, covers, seller, buyer, mark, closed, proposed, bought, sold, pendingSales, pendingPurchases, accountHour, takes, low, high, keepsMargins, exposed, ofOperator, exposureOf, exposure, available, covered, exposureWith}
+use Rattle.rules.specs.Basics.{if_then_else_, total, nth, upTo, Each}
+use Rattle.rules.specs.Books.{Setup, noRow, accountCount, estimateAt, operatorOf, periods}
+use Rattle.rules.specs.Registration.{pending, covers, seller, buyer, mark, closed, bought, sold, accountHour, takes, low, high, keepsMargins, exposed, ofOperator, exposureOf, exposure, available, covered, exposureWith}
 use Rattle.rules.proofs.Basics.Tests.{and-both}
+use Rattle.rules.proofs.Basics.Searches.{each-map}
 use Rattle.rules.proofs.Basics.Differences.{difference-order, order-by, difference-more, difference-less}
-use Rattle.rules.proofs.Rows.AccountHours.{share, weight, moved-confirm, moved-withdraw, moved-close, waiting-end, waiting-close, weight-of-others, hour-register, hour-confirm}
+use Rattle.rules.proofs.Rows.AccountHours.{share, weight, moved-confirm, moved-withdraw, moved-close, waiting-end, waiting-close, hour-added, hour-confirm}
 use Rattle.image.proofs.Sound.Soundness.{SoundRow}
 
 -- ---- one account hour and the next, in natural numbers
@@ -59,20 +60,20 @@ eased-high x y e =
     (x .net .sold .0)
     (omega (arith, e .high-no-higher)))
 
-margins-true : (account : Account) (x : AccountHour) → keepsMargins account x ≡ true
-    → (x .net .sold .0 + x .sales .0 ≤ x .net .bought .0 + account .lower .0)
-    × (x .net .bought .0 + x .purchases .0 ≤ x .net .sold .0 + account .upper .0)
+margins-true : (margins : Margins) (x : AccountHour) → keepsMargins margins x ≡ true
+    → (x .net .sold .0 + x .sales .0 ≤ x .net .bought .0 + margins .lower .0)
+    × (x .net .bought .0 + x .purchases .0 ≤ x .net .sold .0 + margins .upper .0)
 unfolding keepsMargins
-margins-true account x h = let w = and-both _ _ .0 h in (leb-true _ _ (w .0), leb-true _ _ (w .1))
+margins-true margins x h = let w = and-both _ _ .0 h in (leb-true _ _ (w .0), leb-true _ _ (w .1))
 
 -- margins that were kept are kept
-pub eased-margins : (account : Account) (x y : AccountHour) → Eased x y → keepsMargins account x ≡ true → keepsMargins account y ≡ true
+pub eased-margins : (margins : Margins) (x y : AccountHour) → Eased x y → keepsMargins margins x ≡ true → keepsMargins margins y ≡ true
 unfolding keepsMargins
-eased-margins account x y e h =
-    let (l, u) = margins-true account x h in
+eased-margins margins x y e h =
+    let (l, u) = margins-true margins x h in
     rw (
-      le-leb (y .net .sold .0 + y .sales .0) (y .net .bought .0 + account .lower .0) (omega (arith, e .low-no-lower)),
-      le-leb (y .net .bought .0 + y .purchases .0) (y .net .sold .0 + account .upper .0) (omega (arith, e .high-no-higher)),
+      le-leb (y .net .sold .0 + y .sales .0) (y .net .bought .0 + margins .lower .0) (omega (arith, e .low-no-lower)),
+      le-leb (y .net .bought .0 + y .purchases .0) (y .net .sold .0 + margins .upper .0) (omega (arith, e .high-no-higher)),
     )
 
 -- ---- an operator
@@ -83,16 +84,16 @@ total-le f g [] h = omega arith
 total-le f g (x ∷ xs) h = omega (arith, h x, total-le f g xs h)
 
 -- where an operator's accounts are exposed no more in any hour, neither is it
-no-more-exposure : (u : Setup) (before after : ℕ → ℕ → AccountHour) (o : ℕ)
+no-more-exposure : (u : Setup) (prices : ℕ → CentsPerMwh) (before after : ℕ → ℕ → AccountHour) (o : ℕ)
     → ((a h : ℕ) → operatorOf u a ≡ o → exposed (after a h) ≤ exposed (before a h))
-    → exposureOf u after o ≤ exposureOf u before o
+    → exposureOf u prices after o ≤ exposureOf u prices before o
 unfolding exposureOf ofOperator
-no-more-exposure u before after o no-more = total-le _ _ (upTo (accountCount u)) (λ a. go a (eqb (operatorOf u a) o) refl)
+no-more-exposure u prices before after o no-more = total-le _ _ (upTo (accountCount u)) (λ a. go a (eqb (operatorOf u a) o) refl)
   where
     go : (a : ℕ) (t : Bool) → eqb (operatorOf u a) o ≡ t
-        → (if t then total (λ h. estimateAt u h .0 * exposed (after a h)) (upTo (u .hours)) else 0)
-        ≤ (if t then total (λ h. estimateAt u h .0 * exposed (before a h)) (upTo (u .hours)) else 0)
-    go a true w = total-le _ _ (upTo (u .hours)) (λ h. mul-le-mul-left (estimateAt u h .0) (no-more a h (eqb-true _ _ w)))
+        → (if t then total (λ h. prices h .0 * exposed (after a h)) (upTo (periods u)) else 0)
+        ≤ (if t then total (λ h. prices h .0 * exposed (before a h)) (upTo (periods u)) else 0)
+    go a true w = total-le _ _ (upTo (periods u)) (λ h. mul-le-mul-left (prices h .0) (no-more a h (eqb-true _ _ w)))
     go a false w = omega arith
 
 -- so it is where they are all eased
@@ -100,7 +101,7 @@ eased-exposure : (u : Setup) (rows later : List Row) (o : ℕ)
     → ((a h : ℕ) → operatorOf u a ≡ o → Eased (accountHour rows a h) (accountHour later a h))
     → exposure u later o ≤ exposure u rows o
 eased-exposure u rows later o eased =
-    no-more-exposure u (accountHour rows) (accountHour later) o (λ a h owns. eased a h owns .no-more-exposed)
+    no-more-exposure u (estimateAt u) (accountHour rows) (accountHour later) o (λ a h owns. eased a h owns .no-more-exposed)
 
 -- and covered if it was
 pub eased-covered : (u : Setup) (gs : List Cents) (rows later : List Row) (o : ℕ)
@@ -112,26 +113,29 @@ eased-covered u gs rows later o eased h =
     le-leb (exposure u later o) (available u (record { guarantees = gs; rows = later }) o)
     (omega (arith, leb-true (exposure u rows o) (available u (record { guarantees = gs; rows = rows }) o) h, eased-exposure u rows later o eased))
 
--- ---- register
+-- ---- rows added
 
--- a register weighs on its caller only
-pub register-leaves-others : (rows : List Row) (q : Request) (a h : ℕ) → (a ≡ q .account → ⊥)
-    → accountHour (rows ++ proposed q ∷ []) a h ≡ accountHour rows a h
-register-leaves-others rows q a h other =
-    let n : eqb (q .account) a ≡ false = ne-eqb _ _ (λ e. other (sym e)) in
-    hour-register rows q a h
-    ∙ rw (weight-of-others 1 a h (proposed q) n, weight-of-others 2 a h (proposed q) n, add-zero (pendingSales rows a h), add-zero (pendingPurchases rows a h))
+-- a pending row of that proposer
+pub record ProposedBy (caller : ℕ) (r : Row) : Type 0 where
+  pub waits : pending r ≡ true
+  pub proposer : r .proposer ≡ caller
 
-pub register-eases-others : (rows : List Row) (q : Request) (a h : ℕ) → (a ≡ q .account → ⊥)
-    → Eased (accountHour rows a h) (accountHour (rows ++ proposed q ∷ []) a h)
-register-eases-others rows q a h other = rw (register-leaves-others rows q a h other) (eased-refl (accountHour rows a h))
+-- rows that one account adds leave what the others hold
+pub added-leaves-others : (rows : List Row) {added : List Row} (caller a h : ℕ) → Each (ProposedBy caller) added → (a ≡ caller → ⊥)
+    → accountHour (rows ++ added) a h ≡ accountHour rows a h
+added-leaves-others rows caller a h e other =
+    hour-added rows a h (each-map (λ r w. (w .waits, ne-eqb _ _ (λ same. other (sym same ∙ w .proposer)))) e)
+
+pub added-eases-others : (rows : List Row) {added : List Row} (caller a h : ℕ) → Each (ProposedBy caller) added → (a ≡ caller → ⊥)
+    → Eased (accountHour rows a h) (accountHour (rows ++ added) a h)
+added-eases-others rows caller a h e other = rw (added-leaves-others rows caller a h e other) (eased-refl (accountHour rows a h))
 
 -- a purchase that waits exposes no operator
 pub purchase-exposes-none : (u : Setup) (rows : List Row) (r : Row) (o : ℕ) → pending r ≡ true → (r .side ≡ 1 → ⊥)
-    → exposureWith u rows r o ≤ exposure u rows o
+    → exposureWith u rows (r ∷ []) o ≤ exposure u rows o
 unfolding takes
 purchase-exposes-none u rows r o waits buys =
-    no-more-exposure u (accountHour rows) (λ a h. takes a h (accountHour rows a h) r) o
+    no-more-exposure u (estimateAt u) (accountHour rows) (λ a h. takes a h (accountHour rows a h) r) o
     (λ a h owns. rw (eqb-true (r .status) 1 waits, ne-eqb (r .side) 1 buys, and-false (covers h r && eqb (r .proposer) a)) (omega arith))
 
 -- ---- withdraw and close gate
@@ -222,7 +226,7 @@ confirm-eases-operators u rows n o sound waits other =
 pub sale-eases-operators : (u : Setup) (rows : List Row) (n o : ℕ) → pending (nth rows n noRow) ≡ true → nth rows n noRow .side ≡ 1
     → exposure u (mark n 2 rows) o ≤ exposure u rows o
 sale-eases-operators u rows n o waits sells =
-    no-more-exposure u (accountHour rows) (accountHour (mark n 2 rows)) o (λ a h owns.
+    no-more-exposure u (estimateAt u) (accountHour rows) (accountHour (mark n 2 rows)) o (λ a h owns.
     let b = moved-confirm buyer a h (λ status r. refl) rows n waits in
     let s = moved-confirm seller a h (λ status r. refl) rows n waits in
     let x = waiting-end 1 a h rows n 2 waits refl in

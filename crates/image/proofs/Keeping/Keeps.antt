@@ -10,27 +10,19 @@ use Rattle.wire.specs.Numbers.{Bytes}
 use Rattle.rules.specs.declared.Request.{Request}
 use Rattle.rules.specs.Books.{Part, Book}
 use Rattle.rules.specs.Requests.{Kind, register, confirm, withdraw, guarantee, openBatch, undo, keep, closeGate, schedule, settle, kindNumber, requestOf}
-use Rattle.rules.specs.Calls.{Call, requestIn, kindIn, next, _∈_, inputChecks, stateChecks, step}
+use Rattle.rules.specs.Calls.{Call, requestIn, kindIn, change, next, _∈_, inputChecks, stateChecks, step, apply}
 use Rattle.rules.proofs.Checks.Clearing.{Clear}
 use Rattle.rules.proofs.Checks.Passed.{Passed, Kept, passed-kind, step-cases}
 use Rattle.rules.proofs.Records.Fields.{field-in-fits}
 use Rattle.image.specs.Valid.{follows, valid}
 use Rattle.image.proofs.Sound.SoundBooks.{SavedSound, SoundBook, sound, book-sound}
-use Rattle.image.proofs.Keeping.KeepsKinds.{register-keeps, confirm-keeps, withdraw-keeps, guarantee-keeps, open-keeps, undo-keeps, keep-keeps, close-keeps, schedule-keeps, settle-keeps}
+use Rattle.image.proofs.Keeping.KeepsChanges.{apply-keeps, apply-setup}
+use Rattle.image.proofs.Keeping.KeepsKinds.{change-allowed}
 
 -- an accepted call of any kind keeps a book sound
 pub next-keeps : (k : Kind) (b : Book) (c : Call) (q : Request) → kindNumber k ≡ q .kind → q .code < 256 ^ 8 → SoundBook b
     → Clear (inputChecks b c k q) → Clear (stateChecks b k q) → SoundBook (next k b q)
-next-keeps register b c q named code s input state = register-keeps b q s c named code input state
-next-keeps confirm b c q named code s input state = confirm-keeps b q s state
-next-keeps withdraw b c q named code s input state = withdraw-keeps b q s state
-next-keeps guarantee b c q named code s input state = guarantee-keeps b q s c named input state
-next-keeps openBatch b c q named code s input state = open-keeps b q s state
-next-keeps undo b c q named code s input state = undo-keeps b q s state
-next-keeps keep b c q named code s input state = keep-keeps b q s state
-next-keeps closeGate b c q named code s input state = close-keeps b q s state
-next-keeps schedule b c q named code s input state = schedule-keeps b q s c named input state
-next-keeps settle b c q named code s input state = settle-keeps b q s state
+next-keeps k b c q named code s input state = apply-keeps (change k b q) b s (change-allowed k b c q named code s input state)
 
 -- the code of a record of bytes fits its 8
 code-fits : (c : Call) → Bytes (c .bytes) → requestIn c .code < 256 ^ 8
@@ -51,29 +43,16 @@ keeps-valid b c bytes v = book-sound (step b c .book) (keeps-sound b c bytes (so
 
 -- ---- what no call changes
 
-next-setup : (k : Kind) (b : Book) (q : Request) → next k b q .setup ≡ b .setup
-unfolding next
-next-setup register b q = refl
-next-setup confirm b q = refl
-next-setup withdraw b q = refl
-next-setup guarantee b q = refl
-next-setup openBatch b q = refl
-next-setup undo b q = refl
-next-setup keep b q = refl
-next-setup closeGate b q = refl
-next-setup schedule b q = refl
-next-setup settle b q = refl
-
 setup-go : (b : Book) (c : Call) → Kept b c ⊎ Passed b c → step b c .book .setup ≡ b .setup
 setup-go b c (inl w) = ap (λ (x : Book). x .setup) (w .book)
-setup-go b c (inr w) = ap (λ (x : Book). x .setup) (w .book) ∙ next-setup (kindIn c) b (requestIn c)
+setup-go b c (inr w) = ap (λ (x : Book). x .setup) (w .book) ∙ apply-setup (change (kindIn c) b (requestIn c)) b
 
 pub no-call-changes-setup : (b : Book) (c : Call) → step b c .book .setup ≡ b .setup
 no-call-changes-setup b c = setup-go b c (step-cases b c)
 
 -- no kind but open, undo and keep changes what is saved
 pub next-saved : (k : Kind) (b : Book) (q : Request) → k ∈ (openBatch ∷ undo ∷ keep ∷ []) ≡ false → next k b q .saved ≡ b .saved
-unfolding next
+unfolding apply
 next-saved register b q e = refl
 next-saved confirm b q e = refl
 next-saved withdraw b q e = refl

@@ -1,6 +1,6 @@
--- What an accepted call makes of a sound part is sound: each account is eased, or is the caller's, which was checked anew; so is each
+-- What a change makes of a sound part is sound, where it brings what it needs: each account is eased, or is the caller's, which was checked anew; so is each
 -- operator.
-use Prim.Native.Nat.{ℕ, zero, suc, _≤_, _<_}
+use Prim.Native.Nat.{ℕ, zero, suc, _+_, _≤_, _<_}
 use mathlib.Core.Path.{_≡_, refl, sym, ap, _∙_}
 use mathlib.Core.List.{List, [], _∷_, _++_}
 use mathlib.Core.Option.{none}
@@ -13,37 +13,38 @@ use borrow.Author.Tests.{eqb-true, eqb-false, not-false}
 use Rattle.units.specs.declared.Cents.{Cents}
 use Rattle.rules.specs.declared.Row.{Row}
 use Rattle.rules.specs.declared.Request.{Request}
-use Rattle.rules.specs.Basics.{any, nth, put, upTo, Each}
+use Rattle.rules.specs.Basics.{any, nth, put, upTo, Each, nil, cons}
 use Rattle.rules.specs.Limits.{mostGuarantee, mostRows}
-use Rattle.rules.specs.Books.{Setup, Part, noRow, accountAt, operatorOf}
+use Rattle.rules.specs.Books.{Setup, Part, partGuarantees, partRows, noRow, operatorOf, periods, marginsAt}
 use Rattle.rules.specs.Registration.{pending, alike, mark, closed, proposed, accountHour, keepsMargins, brokenHour, available, covered}
-use Rattle.rules.proofs.Basics.Searches.{find-none, counted-has, each-snoc, each-nth}
+use Rattle.rules.proofs.Basics.Searches.{find-none, counted-has, each-append, each-nth}
 use Rattle.rules.proofs.Rows.RowChanges.{each-mark, each-closed, length-mark, length-closed}
 use Rattle.rules.proofs.Rows.AccountHours.{pending-inside}
+use Rattle.image.specs.Valid.{noTwins}
 use Rattle.image.proofs.Sound.Soundness.{SoundRow}
 use Rattle.image.proofs.Sound.SoundBooks.{SoundPart}
 use Rattle.image.proofs.Keeping.KeepsRows.{each-set, row-marked, twins-snoc, twins-mark, twins-closed}
-use Rattle.image.proofs.Keeping.Easing.{Eased, eased-margins, eased-covered, register-eases-others, confirm-eases-others, withdraw-eases, close-eases}
+use Rattle.image.proofs.Keeping.Easing.{Eased, eased-margins, eased-covered, ProposedBy, added-eases-others, confirm-eases-others, withdraw-eases, close-eases}
 
 -- no hour breaks a margin of the account
 pub unbroken : (u : Setup) (rows : List Row) (a : ℕ) → brokenHour u rows a ≡ none
-    → (h : ℕ) → 1 ≤ h → h ≤ u .hours → keepsMargins (accountAt u a) (accountHour rows a h) ≡ true
+    → (h : ℕ) → 1 ≤ h → h ≤ periods u → keepsMargins (marginsAt u a h) (accountHour rows a h) ≡ true
 unfolding brokenHour
 unbroken u rows a e h l m =
-    let unbroken = find-none (λ h. not (keepsMargins (accountAt u a) (accountHour rows a h))) (upTo (u .hours)) e in
-    not-false _ (counted-has (u .hours) 1 h unbroken l (omega arith))
+    let unbroken = find-none (λ h. not (keepsMargins (marginsAt u a h) (accountHour rows a h))) (upTo (periods u)) e in
+    not-false _ (counted-has (periods u) 1 h unbroken l (omega arith))
 
 -- ---- every account but the caller's is eased, the caller's and its operator's sums are checked
 
 module _ (u : Setup) (gs : List Cents) (rows later : List Row) (caller : ℕ)
     (eased : (a h : ℕ) → (a ≡ caller → ⊥) → Eased (accountHour rows a h) (accountHour later a h)) where
-  margins-kept : brokenHour u later caller ≡ none → (a h : ℕ) → 1 ≤ h → h ≤ u .hours
-      → keepsMargins (accountAt u a) (accountHour rows a h) ≡ true → keepsMargins (accountAt u a) (accountHour later a h) ≡ true
+  margins-kept : brokenHour u later caller ≡ none → (a h : ℕ) → 1 ≤ h → h ≤ periods u
+      → keepsMargins (marginsAt u a h) (accountHour rows a h) ≡ true → keepsMargins (marginsAt u a h) (accountHour later a h) ≡ true
   margins-kept checked a h l m old = go (eqb a caller) refl
     where
-      go : (t : Bool) → eqb a caller ≡ t → keepsMargins (accountAt u a) (accountHour later a h) ≡ true
+      go : (t : Bool) → eqb a caller ≡ t → keepsMargins (marginsAt u a h) (accountHour later a h) ≡ true
       go true e = rw (eqb-true a caller e) (unbroken u later caller checked h l m)
-      go false e = eased-margins (accountAt u a) _ _ (eased a h (eqb-false a caller e)) old
+      go false e = eased-margins (marginsAt u a h) _ _ (eased a h (eqb-false a caller e)) old
 
   covered-kept : covered u (record { guarantees = gs; rows = later }) (operatorOf u caller) ≡ true → (o : ℕ)
       → covered u (record { guarantees = gs; rows = rows }) o ≡ true → covered u (record { guarantees = gs; rows = later }) o ≡ true
@@ -78,62 +79,59 @@ covered-by-others : (u : Setup) (p : Part) (n o : ℕ) (g : Cents) → (o ≡ n 
 unfolding covered available
 covered-by-others u p n o g other h = rw (nth-put-other (p .guarantees) n o g (record { 0 = 0 }) other) h
 
--- ---- what each kind makes of a sound part
+-- ---- what a change needs, and makes of a sound part
+
+-- rows that one account proposes, together with those that stand: sound, like no other, not too many, its margins and guarantee kept
+pub record Addable (u : Setup) (p : Part) (rows : List Row) : Type 0 where
+  pub caller : ℕ
+  pub proposed : Each (ProposedBy caller) rows
+  pub all-sound : Each (SoundRow u) rows
+  pub none-alike : noTwins (p .rows ++ rows) ≡ true
+  pub few : length (p .rows) + length rows ≤ mostRows
+  pub unbroken : brokenHour u (p .rows ++ rows) caller ≡ none
+  pub backed : covered u (partRows p (p .rows ++ rows)) (operatorOf u caller) ≡ true
+
+-- a pending row that gets another status, which keeps every margin and guarantee
+pub record Endable (u : Setup) (p : Part) (number status : ℕ) : Type 0 where
+  pub waits : pending (nth (p .rows) number noRow) ≡ true
+  pub status-low : 1 ≤ status
+  pub status-high : status ≤ 3
+  pub ends : eqb status 1 ≡ false
+  pub margins : (a h : ℕ) → 1 ≤ h → h ≤ periods u → keepsMargins (marginsAt u a h) (accountHour (p .rows) a h) ≡ true
+      → keepsMargins (marginsAt u a h) (accountHour (mark number status (p .rows)) a h) ≡ true
+  pub backed : (o : ℕ) → covered u p o ≡ true → covered u (partRows p (mark number status (p .rows))) o ≡ true
+
+-- a guarantee in range that covers its operator
+pub record Coverable (u : Setup) (p : Part) (o : ℕ) (g : Cents) : Type 0 where
+  pub high : g .0 ≤ mostGuarantee
+  pub backed : covered u (partGuarantees p (put (p .guarantees) o g)) o ≡ true
 
 module _ (u : Setup) (p : Part) (sound : SoundPart u p) where
-  pub part-registered : (q : Request) → SoundRow u (proposed q) → any (alike (q .account) (q .other) (q .code)) (p .rows) ≡ false
-      → length (p .rows) < mostRows → brokenHour u (p .rows ++ proposed q ∷ []) (q .account) ≡ none
-      → covered u (record { guarantees = p .guarantees; rows = p .rows ++ proposed q ∷ [] }) (operatorOf u (q .account)) ≡ true
-      → SoundPart u (record { guarantees = p .guarantees; rows = p .rows ++ proposed q ∷ [] })
-  part-registered q row single few unbroken backed =
-      let eased = register-eases-others (p .rows) q in
+  pub part-added : (rows : List Row) → Addable u p rows → SoundPart u (partRows p (p .rows ++ rows))
+  part-added rows w =
+      let eased : (a h : ℕ) → (a ≡ w .caller → ⊥) → Eased (accountHour (p .rows) a h) (accountHour (p .rows ++ rows) a h) =
+      λ a h other. added-eases-others (p .rows) (w .caller) a h (w .proposed) other in
       record {
         guarantees-all = sound .guarantees-all;
         guarantees-high = sound .guarantees-high;
-        rows-high = omega (arith, length-append (p .rows) (proposed q ∷ []));
-        rows-sound = each-snoc (sound .rows-sound) row;
-        no-twins = twins-snoc (p .rows) (proposed q) (sound .no-twins) single;
-        keeps-margins = λ a h al ah hl hh. margins-kept u (p .guarantees) (p .rows) _ (q .account) eased unbroken a h hl hh (sound .keeps-margins a h al ah hl hh);
-        is-covered = λ o ol oh. covered-kept u (p .guarantees) (p .rows) _ (q .account) eased backed o (sound .is-covered o ol oh);
+        rows-high = omega (arith, length-append (p .rows) rows, w .few);
+        rows-sound = each-append (sound .rows-sound) (w .all-sound);
+        no-twins = w .none-alike;
+        keeps-margins = λ a h al ah hl hh. margins-kept u (p .guarantees) (p .rows) _ (w .caller) eased (w .unbroken) a h hl hh (sound .keeps-margins a h al ah hl hh);
+        is-covered = λ o ol oh. covered-kept u (p .guarantees) (p .rows) _ (w .caller) eased (w .backed) o (sound .is-covered o ol oh);
       }
 
-  -- a pending row that ends, where margins and exposure are known to be kept
-  part-marked : (n status : ℕ) → 1 ≤ status → status ≤ 3 → eqb status 1 ≡ false
-      → ((a h : ℕ) → 1 ≤ h → h ≤ u .hours → keepsMargins (accountAt u a) (accountHour (p .rows) a h) ≡ true
-      → keepsMargins (accountAt u a) (accountHour (mark n status (p .rows)) a h) ≡ true)
-      → ((o : ℕ) → covered u p o ≡ true → covered u (record { guarantees = p .guarantees; rows = mark n status (p .rows) }) o ≡ true)
-      → SoundPart u (record { guarantees = p .guarantees; rows = mark n status (p .rows) })
-  part-marked n status l m ends margins backed =
+  pub part-ended : (number status : ℕ) → Endable u p number status → SoundPart u (partRows p (mark number status (p .rows)))
+  part-ended number status w =
       record {
         guarantees-all = sound .guarantees-all;
         guarantees-high = sound .guarantees-high;
         rows-high = rw length-mark (sound .rows-high);
-        rows-sound = each-mark n status (row-marked u status l m) (sound .rows-sound);
-        no-twins = twins-mark (p .rows) n status ends (sound .no-twins);
-        keeps-margins = λ a h al ah hl hh. margins a h hl hh (sound .keeps-margins a h al ah hl hh);
-        is-covered = λ o ol oh. backed o (sound .is-covered o ol oh);
+        rows-sound = each-mark number status (row-marked u status (w .status-low) (w .status-high)) (sound .rows-sound);
+        no-twins = twins-mark (p .rows) number status (w .ends) (sound .no-twins);
+        keeps-margins = λ a h al ah hl hh. w .margins a h hl hh (sound .keeps-margins a h al ah hl hh);
+        is-covered = λ o ol oh. w .backed o (sound .is-covered o ol oh);
       }
-
-  -- confirm is checked for its caller, the row's counterparty, and the caller's operator
-  pub part-confirmed : (n caller : ℕ) → pending (nth (p .rows) n noRow) ≡ true → nth (p .rows) n noRow .counterparty ≡ caller
-      → brokenHour u (mark n 2 (p .rows)) caller ≡ none
-      → covered u (record { guarantees = p .guarantees; rows = mark n 2 (p .rows) }) (operatorOf u caller) ≡ true
-      → SoundPart u (record { guarantees = p .guarantees; rows = mark n 2 (p .rows) })
-  part-confirmed n caller waits calls unbroken backed =
-      let i = pending-inside (p .rows) n waits in
-      let row : SoundRow u (nth (p .rows) n noRow) = each-nth noRow n (sound .rows-sound) (i .0) (i .1) in
-      let eased : (a h : ℕ) → (a ≡ caller → ⊥) → Eased (accountHour (p .rows) a h) (accountHour (mark n 2 (p .rows)) a h) =
-      λ a h other. confirm-eases-others (p .rows) n a h waits (row .side-low) (row .side-high) (λ e. other (e ∙ calls)) in
-      part-marked n 2 (omega arith) (omega arith) refl
-      (margins-kept u (p .guarantees) (p .rows) _ caller eased unbroken)
-      (covered-kept u (p .guarantees) (p .rows) _ caller eased backed)
-
-  pub part-withdrawn : (n : ℕ) → pending (nth (p .rows) n noRow) ≡ true
-      → SoundPart u (record { guarantees = p .guarantees; rows = mark n 3 (p .rows) })
-  part-withdrawn n waits =
-      part-marked n 3 (omega arith) (omega arith) refl
-      (λ a h hl hh. eased-margins (accountAt u a) _ _ (withdraw-eases (p .rows) n a h waits))
-      (λ o. eased-covered u (p .guarantees) (p .rows) _ o (λ a h owns. withdraw-eases (p .rows) n a h waits))
 
   pub part-closed : SoundPart u (record { guarantees = p .guarantees; rows = closed (p .rows) })
   part-closed =
@@ -143,18 +141,16 @@ module _ (u : Setup) (p : Part) (sound : SoundPart u p) where
         rows-high = rw length-closed (sound .rows-high);
         rows-sound = each-closed (row-marked u 3 (omega arith) (omega arith)) (sound .rows-sound);
         no-twins = twins-closed (p .rows);
-        keeps-margins = λ a h al ah hl hh. eased-margins (accountAt u a) _ _ (close-eases (p .rows) a h) (sound .keeps-margins a h al ah hl hh);
+        keeps-margins = λ a h al ah hl hh. eased-margins (marginsAt u a h) _ _ (close-eases (p .rows) a h) (sound .keeps-margins a h al ah hl hh);
         is-covered = λ o ol oh. eased-covered u (p .guarantees) (p .rows) _ o (λ a h owns. close-eases (p .rows) a h) (sound .is-covered o ol oh);
       }
 
   -- the operator whose guarantee is replaced is checked
-  pub part-guaranteed : (n : ℕ) (g : Cents) → g .0 ≤ mostGuarantee
-      → covered u (record { guarantees = put (p .guarantees) n g; rows = p .rows }) n ≡ true
-      → SoundPart u (record { guarantees = put (p .guarantees) n g; rows = p .rows })
-  part-guaranteed n g high backed =
+  pub part-guaranteed : (n : ℕ) (g : Cents) → Coverable u p n g → SoundPart u (partGuarantees p (put (p .guarantees) n g))
+  part-guaranteed n g w =
       record {
         guarantees-all = length-put (p .guarantees) n g ∙ sound .guarantees-all;
-        guarantees-high = each-put (sound .guarantees-high) n high;
+        guarantees-high = each-put (sound .guarantees-high) n (w .high);
         rows-high = sound .rows-high;
         rows-sound = sound .rows-sound;
         no-twins = sound .no-twins;
@@ -164,5 +160,54 @@ module _ (u : Setup) (p : Part) (sound : SoundPart u p) where
     where
       go : (o : ℕ) → covered u p o ≡ true → (t : Bool) → eqb o n ≡ t
           → covered u (record { guarantees = put (p .guarantees) n g; rows = p .rows }) o ≡ true
-      go o old true e = rw (eqb-true o n e) backed
+      go o old true e = rw (eqb-true o n e) (w .backed)
       go o old false e = covered-by-others u p n o g (eqb-false o n e) old
+
+  -- ---- what the kinds bring
+
+  -- what register proposes
+  pub register-addable : (q : Request) → SoundRow u (proposed q) → any (alike (q .account) (q .other) (q .code)) (p .rows) ≡ false
+      → length (p .rows) < mostRows → brokenHour u (p .rows ++ proposed q ∷ []) (q .account) ≡ none
+      → covered u (partRows p (p .rows ++ proposed q ∷ [])) (operatorOf u (q .account)) ≡ true
+      → Addable u p (proposed q ∷ [])
+  register-addable q row single few unbroken backed =
+      record {
+        caller = q .account;
+        proposed = cons (record { waits = refl; proposer = refl }) nil;
+        all-sound = cons row nil;
+        none-alike = twins-snoc (p .rows) (proposed q) (sound .no-twins) single;
+        few = omega arith;
+        unbroken = unbroken;
+        backed = backed;
+      }
+
+  -- confirm is checked for its caller, the row's counterparty, and the caller's operator
+  pub confirm-endable : (n caller : ℕ) → pending (nth (p .rows) n noRow) ≡ true → nth (p .rows) n noRow .counterparty ≡ caller
+      → brokenHour u (mark n 2 (p .rows)) caller ≡ none
+      → covered u (partRows p (mark n 2 (p .rows))) (operatorOf u caller) ≡ true
+      → Endable u p n 2
+  confirm-endable n caller waits calls unbroken backed =
+      let i = pending-inside (p .rows) n waits in
+      let row : SoundRow u (nth (p .rows) n noRow) = each-nth noRow n (sound .rows-sound) (i .0) (i .1) in
+      let eased : (a h : ℕ) → (a ≡ caller → ⊥) → Eased (accountHour (p .rows) a h) (accountHour (mark n 2 (p .rows)) a h) =
+      λ a h other. confirm-eases-others (p .rows) n a h waits (row .side-low) (row .side-high) (λ e. other (e ∙ calls)) in
+      record {
+        waits = waits;
+        status-low = omega arith;
+        status-high = omega arith;
+        ends = refl;
+        margins = margins-kept u (p .guarantees) (p .rows) _ caller eased unbroken;
+        backed = covered-kept u (p .guarantees) (p .rows) _ caller eased backed;
+      }
+
+  -- a withdrawal eases everybody
+  pub withdraw-endable : (n : ℕ) → pending (nth (p .rows) n noRow) ≡ true → Endable u p n 3
+  withdraw-endable n waits =
+      record {
+        waits = waits;
+        status-low = omega arith;
+        status-high = omega arith;
+        ends = refl;
+        margins = λ a h hl hh. eased-margins (marginsAt u a h) _ _ (withdraw-eases (p .rows) n a h waits);
+        backed = λ o. eased-covered u (p .guarantees) (p .rows) _ o (λ a h owns. withdraw-eases (p .rows) n a h waits);
+      }

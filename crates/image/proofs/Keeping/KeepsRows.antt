@@ -158,13 +158,13 @@ unfolding follows
 follows-refl [] = refl
 follows-refl (r ∷ rs) = follows-cons r r rs rs .1 (later-refl r, follows-refl rs)
 
--- one row more
-pub follows-snoc : (xs ys : List Row) (r : Row) → follows xs ys ≡ true → follows xs (ys ++ r ∷ []) ≡ true
+-- rows more
+pub follows-added : (xs ys added : List Row) → follows xs ys ≡ true → follows xs (ys ++ added) ≡ true
 unfolding follows
-follows-snoc [] ys r h = refl
-follows-snoc (x ∷ xs) [] r h = cc
-follows-snoc (x ∷ xs) (y ∷ ys) r h =
-    let w = follows-cons x y xs ys .0 h in follows-cons x y xs (ys ++ r ∷ []) .1 (w .0, follows-snoc xs ys r (w .1))
+follows-added [] ys added h = refl
+follows-added (x ∷ xs) [] added h = cc
+follows-added (x ∷ xs) (y ∷ ys) added h =
+    let w = follows-cons x y xs ys .0 h in follows-cons x y xs (ys ++ added) .1 (w .0, follows-added xs ys added (w .1))
 
 or-same : (t : Bool) → t || t ≡ true → t ≡ true
 or-same true h = refl

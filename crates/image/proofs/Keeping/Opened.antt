@@ -12,7 +12,7 @@ use borrow.Author.Tests.{le-leb}
 use Rattle.rules.specs.declared.Operator.{Operator}
 use Rattle.rules.specs.Basics.{if_then_else_, total, any, upTo, Each, nil, cons}
 use Rattle.rules.specs.Limits.{mostGuarantee}
-use Rattle.rules.specs.Books.{Setup, accountAt, estimateAt, operatorOf, accountCount}
+use Rattle.rules.specs.Books.{Setup, estimateAt, operatorOf, accountCount, periods, lowerAt, upperAt}
 use Rattle.rules.specs.Opening.{operatorsIn, setupOf, guaranteesOf, setupRefusal, opened}
 use Rattle.rules.specs.Registration.{moved, waiting, accountHour, exposed, keepsMargins, ofOperator, exposureOf, exposure, available, covered}
 use Rattle.rules.proofs.Basics.Totals.{total-zero, total-cong}
@@ -36,8 +36,8 @@ nothing-exposed : (u : Setup) (o : ℕ) → exposure u [] o ≡ 0
 unfolding exposureOf ofOperator moved waiting total
 nothing-exposed u o = total-none _ (upTo (accountCount u)) (λ a. go a (eqb (operatorOf u a) o))
   where
-    go : (a : ℕ) (t : Bool) → (if t then total (λ h. estimateAt u h .0 * exposed (accountHour [] a h)) (upTo (u .hours)) else 0) ≡ 0
-    go a true = total-none _ (upTo (u .hours)) (λ h. mul-zero (estimateAt u h .0))
+    go : (a : ℕ) (t : Bool) → (if t then total (λ h. estimateAt u h .0 * exposed (accountHour [] a h)) (upTo (periods u)) else 0) ≡ 0
+    go a true = total-none _ (upTo (periods u)) (λ h. mul-zero (estimateAt u h .0))
     go a false = refl
 
 module _ (s : List ℕ) (h : setupRefusal s ≡ none) where
@@ -50,7 +50,7 @@ module _ (s : List ℕ) (h : setupRefusal s ≡ none) where
         rows-high = omega arith;
         rows-sound = nil;
         no-twins = refl;
-        keeps-margins = λ a k al ah kl kh. rw (le-leb 0 (0 + accountAt (setupOf s) a .lower .0) (omega arith), le-leb 0 (0 + accountAt (setupOf s) a .upper .0) (omega arith));
+        keeps-margins = λ a k al ah kl kh. rw (le-leb 0 (0 + lowerAt (setupOf s) a k .0) (omega arith), le-leb 0 (0 + upperAt (setupOf s) a k .0) (omega arith));
         is-covered = λ o l m. le-leb (exposure (setupOf s) [] o) (available (setupOf s) (opened s .part) o) (omega (arith, nothing-exposed (setupOf s) o));
       }
 

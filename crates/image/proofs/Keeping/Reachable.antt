@@ -11,7 +11,7 @@ use borrow.Author.Tests.{leb-true}
 use Rattle.wire.specs.Numbers.{Bytes}
 use Rattle.rules.specs.declared.Row.{Row}
 use Rattle.rules.specs.Basics.{upTo, Each, nil, cons}
-use Rattle.rules.specs.Books.{Book, accountAt, accountCount, operatorCount}
+use Rattle.rules.specs.Books.{Book, marginsAt, accountCount, operatorCount, periods, lowerAt, upperAt}
 use Rattle.rules.specs.Opening.{setupOf, setupRefusal, opened}
 use Rattle.rules.specs.Registration.{netOf, accountHour, figure, low, high, exposure, available, covered}
 use Rattle.rules.specs.Calls.{Call, step}
@@ -34,16 +34,16 @@ NetsCancel b = (hour : ℕ) → totalℤ (λ a. figure (netOf (b .part .rows) a 
 -- in each hour of each account minus lower margin ≤ low, high ≤ upper margin
 abbrev pub MarginsKept : Book → Type 0
 MarginsKept b =
-    (a hour : ℕ) → 1 ≤ a → a ≤ accountCount (b .setup) → 1 ≤ hour → hour ≤ b .setup .hours
-    → (negℤ (pos (accountAt (b .setup) a .lower .0)) ≤ℤ low (accountHour (b .part .rows) a hour))
-    × (high (accountHour (b .part .rows) a hour) ≤ℤ pos (accountAt (b .setup) a .upper .0))
+    (a hour : ℕ) → 1 ≤ a → a ≤ accountCount (b .setup) → 1 ≤ hour → hour ≤ periods (b .setup)
+    → (negℤ (pos (lowerAt (b .setup) a hour .0)) ≤ℤ low (accountHour (b .part .rows) a hour))
+    × (high (accountHour (b .part .rows) a hour) ≤ℤ pos (upperAt (b .setup) a hour .0))
 
 -- each net position is within its margins
 abbrev pub NetsWithinMargins : Book → Type 0
 NetsWithinMargins b =
-    (a hour : ℕ) → 1 ≤ a → a ≤ accountCount (b .setup) → 1 ≤ hour → hour ≤ b .setup .hours
-    → (negℤ (pos (accountAt (b .setup) a .lower .0)) ≤ℤ figure (netOf (b .part .rows) a hour))
-    × (figure (netOf (b .part .rows) a hour) ≤ℤ pos (accountAt (b .setup) a .upper .0))
+    (a hour : ℕ) → 1 ≤ a → a ≤ accountCount (b .setup) → 1 ≤ hour → hour ≤ periods (b .setup)
+    → (negℤ (pos (lowerAt (b .setup) a hour .0)) ≤ℤ figure (netOf (b .part .rows) a hour))
+    × (figure (netOf (b .part .rows) a hour) ≤ℤ pos (upperAt (b .setup) a hour .0))
 
 -- no exposure is above the available guarantee
 abbrev pub Covered : Book → Type 0
@@ -62,12 +62,12 @@ module _ (b : Book) (v : valid b ≡ true) where
 
   pub valid-margins-kept : MarginsKept b
   valid-margins-kept a hour al ah hl hh =
-      keeps-margins-signed (accountAt (b .setup) a) (accountHour (b .part .rows) a hour) .0
+      keeps-margins-signed (marginsAt (b .setup) a hour) (accountHour (b .part .rows) a hour) .0
       (sound b v .part-sound .keeps-margins a hour al ah hl hh)
 
   pub valid-nets-within-margins : NetsWithinMargins b
   valid-nets-within-margins a hour al ah hl hh =
-      net-keeps-margins (accountAt (b .setup) a) (accountHour (b .part .rows) a hour)
+      net-keeps-margins (marginsAt (b .setup) a hour) (accountHour (b .part .rows) a hour)
       (sound b v .part-sound .keeps-margins a hour al ah hl hh)
 
   pub valid-covered : Covered b

@@ -10,7 +10,7 @@ use borrow.Author.Tests.{eqb-true, eqb-false, leb-true, eq-eqb, ne-eqb, le-leb, 
 use Rattle.rules.specs.declared.Row.{Row}
 use Rattle.rules.specs.Basics.{any, Each}
 use Rattle.rules.specs.Limits.{mostGuarantee, mostRows, mostSchedules}
-use Rattle.rules.specs.Books.{Setup, Part, Book, accountAt, operatorCount, accountCount}
+use Rattle.rules.specs.Books.{Setup, Part, Book, operatorCount, accountCount, periods, marginsAt}
 use Rattle.rules.specs.Registration.{pending, accountHour, keepsMargins, covered}
 use Rattle.rules.proofs.Basics.Tests.{and-both, within-true}
 use Rattle.rules.proofs.Basics.Searches.{every-each, each-every, each-map}
@@ -25,8 +25,8 @@ pub record SoundPart (u : Setup) (p : Part) : Type 0 where
   pub rows-high : length (p .rows) ≤ mostRows
   pub rows-sound : Each (SoundRow u) (p .rows)
   pub no-twins : noTwins (p .rows) ≡ true
-  pub keeps-margins : (a h : ℕ) → 1 ≤ a → a ≤ accountCount u → 1 ≤ h → h ≤ u .hours
-      → keepsMargins (accountAt u a) (accountHour (p .rows) a h) ≡ true
+  pub keeps-margins : (a h : ℕ) → 1 ≤ a → a ≤ accountCount u → 1 ≤ h → h ≤ periods u
+      → keepsMargins (marginsAt u a h) (accountHour (p .rows) a h) ≡ true
   pub is-covered : (o : ℕ) → 1 ≤ o → o ≤ operatorCount u → covered u p o ≡ true
 
 pub sound-part : (u : Setup) (p : Part) → partOk u p ≡ true → SoundPart u p
@@ -39,7 +39,7 @@ sound-part u p h =
       rows-high = leb-true _ _ (t .1 .1 .0);
       rows-sound = each-map (sound-row u) (every-each (rowOk u) (p .rows) (t .1 .1 .1 .0));
       no-twins = t .1 .1 .1 .1 .0;
-      keeps-margins = λ a h al ah hl hh. every-upTo _ (u .hours) (every-upTo _ (accountCount u) (t .1 .1 .1 .1 .1 .0) a al ah) h hl hh;
+      keeps-margins = λ a h al ah hl hh. every-upTo _ (periods u) (every-upTo _ (accountCount u) (t .1 .1 .1 .1 .1 .0) a al ah) h hl hh;
       is-covered = every-upTo (covered u p) (operatorCount u) (t .1 .1 .1 .1 .1 .1 .0);
     }
 
@@ -57,7 +57,7 @@ part-sound u p s =
             (
               s .no-twins,
               (
-                upTo-every _ (accountCount u) (λ a al ah. upTo-every _ (u .hours) (λ h hl hh. s .keeps-margins a h al ah hl hh)),
+                upTo-every _ (accountCount u) (λ a al ah. upTo-every _ (periods u) (λ h hl hh. s .keeps-margins a h al ah hl hh)),
                 (upTo-every (covered u p) (operatorCount u) (s .is-covered), tt),
               ),
             ),

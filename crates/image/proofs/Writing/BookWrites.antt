@@ -1,4 +1,4 @@
--- What an accepted call writes: bytes of the image replaced, copied or looped over are the image of the next book. Each write lies in
+-- What a change writes: bytes of the image replaced, copied or looped over are the image of the book after it. Each write lies in
 -- one section, and the others stand.
 use Prim.Native.Nat.{ℕ, suc, _+_, _-_, _*_, _^_, _≤_, _<_}
 use mathlib.Core.Path.{_≡_, refl, ap, _∙_}
@@ -16,15 +16,14 @@ use Rattle.wire.proofs.ZeroLaws.{length-zeros}
 use Rattle.wire.proofs.PartLaws.{write-part, write-whole, read-whole, wide-set}
 use Rattle.wire.proofs.SlotLaws.{length-slots, slots-snoc}
 use Rattle.wire.proofs.SweepLaws.{sweep-part, length-sweep}
+use Rattle.units.specs.declared.Cents.{Cents}
 use Rattle.rules.specs.declared.Row.{Row}
 use Rattle.rules.specs.declared.Schedule.{Schedule}
-use Rattle.rules.specs.declared.Request.{Request}
 use Rattle.rules.specs.Basics.{nth, Each}
 use Rattle.rules.specs.Limits.{mostRows, mostSchedules}
-use Rattle.rules.specs.Books.{Part, Book, noRow}
-use Rattle.rules.specs.Requests.{register, confirm, withdraw, guarantee, openBatch, undo, keep, closeGate, schedule, settle}
-use Rattle.rules.specs.Registration.{pending, seller, buyer, closed, proposed}
-use Rattle.rules.specs.Calls.{withRows, withBatch, withPhase, confirmedNumber, restored, scheduled, next}
+use Rattle.rules.specs.Books.{Part, Book, noRow, withRows, withPhase, withPart}
+use Rattle.rules.specs.Registration.{pending, seller, buyer, closed}
+use Rattle.rules.specs.Calls.{addRows, setStatus, setGuarantee, savePart, restorePart, dropSaved, shutGate, addSchedule, endDay, restored, apply}
 use Rattle.rules.proofs.Rows.RowChanges.{length-closed}
 use Rattle.rules.proofs.Rows.AccountHours.{pending-inside}
 use Rattle.image.specs.Layout.{rowWidth, scheduleWidth, partSize, usedSize, bookWidths, phaseAt, flagAt, scheduleCountAt, schedulesAt, presentAt, savedAt, guaranteesAt, rowCountAt, rowAt, netAt, statusIn}
@@ -32,7 +31,7 @@ use Rattle.image.specs.Image.{rowBytes, scheduleBytes, partBytes, savedB
 use Rattle.image.specs.Changes.{raised, ended}
 use Rattle.image.proofs.Writing.Sizes.{RowFits, Fits, length-row, length-schedule, length-part, length-saved, wide-with, wide-book, length-image}
 use Rattle.image.proofs.Writing.Nets.{length-raised, nets-end, party-fits}
-use Rattle.image.proofs.Writing.Writes.{length-ended, part-register, part-withdraw, part-confirm, part-guarantee, part-close}
+use Rattle.image.proofs.Writing.Writes.{length-ended, part-row, part-withdraw, part-confirm, part-guarantee, part-close}
 
 -- the phase replaced
 write-phase : (top size : ℕ) (b : Book) → Fits b → (phase : ℕ) → splice (image top size b) phaseAt (le 1 phase) ≡ image top size (withPhase b phase)
@@ -51,7 +50,7 @@ module _ (top size : ℕ) (b : Book) (f : Fits b) where
   unfolding image sections framed
   framed-image = refl
 
-  image-framed : (p : Part) → framed top size b (partBytes top p) ≡ image top size (withBatch b p (b .saved))
+  image-framed : (p : Part) → framed top size b (partBytes top p) ≡ image top size (withPart b p)
   unfolding image sections sectionsWith framed
   image-framed p = refl
 
@@ -68,40 +67,40 @@ module _ (top size : ℕ) (b : Book) (f : Fits b) where
   framed-sweep x g w k j n at h l e =
       sweep-part g w k (bookWidths top size) (sectionsWith top size b x) (wide-with top size b x f h) 5 j n at (omega arith) l (omega arith)
 
-  -- ---- 1 register: the row and the count
+  -- ---- a pending row added: the row and the count
 
-  pub write-register : (q : Request) (n at : ℕ) → n ≡ length (b .part .rows) → n < mostRows → at ≡ presentAt + rowAt n
-      → splice (splice (image top size b) at (rowBytes (proposed q))) (presentAt + rowCountAt) (le 2 (n + 1))
-      ≡ image top size (next register b q)
-  unfolding next
-  write-register q n at e h a =
+  pub write-row : (r : Row) (n at : ℕ) → pending r ≡ true → n ≡ length (b .part .rows) → n < mostRows → at ≡ presentAt + rowAt n
+      → splice (splice (image top size b) at (rowBytes r)) (presentAt + rowCountAt) (le 2 (n + 1))
+      ≡ image top size (apply (addRows (r ∷ [])) b)
+  unfolding apply
+  write-row r n at waits e h a =
       let p : Part = b .part in
       let x : List ℕ = partBytes top p in
-      let r : List ℕ = rowBytes (proposed q) in
-      let lr = length-row (proposed q) in
+      let new : List ℕ = rowBytes r in
+      let lr = length-row r in
       let l : length x ≡ partSize top = length-part top p (f .part-fits) in
-      let y : List ℕ = splice x (rowAt n) r in
-      let ly : length y ≡ partSize top = length-splice x (rowAt n) r (omega arith) ∙ l in
-      let one = framed-splice x (rowAt n) at r l (omega arith) a in
+      let y : List ℕ = splice x (rowAt n) new in
+      let ly : length y ≡ partSize top = length-splice x (rowAt n) new (omega arith) ∙ l in
+      let one = framed-splice x (rowAt n) at new l (omega arith) a in
       let two = framed-splice y rowCountAt (presentAt + rowCountAt) (le 2 (n + 1)) ly (omega (arith, length-le 2 (n + 1))) refl in
-      ap (λ (s : List ℕ). splice (splice s at r) (presentAt + rowCountAt) (le 2 (n + 1))) framed-image
+      ap (λ (s : List ℕ). splice (splice s at new) (presentAt + rowCountAt) (le 2 (n + 1))) framed-image
       ∙ ap (λ (s : List ℕ). splice s (presentAt + rowCountAt) (le 2 (n + 1))) one
       ∙ two
-      ∙ ap (framed top size b) (part-register top p (f .part-fits) q n (rowAt n) e h refl)
+      ∙ ap (framed top size b) (part-row top p (f .part-fits) r n (rowAt n) waits e h refl)
       ∙ image-framed _
 
-  -- ---- 2 confirm: the row's status, then the hours of its seller, then those of its buyer
+  -- ---- a pending row confirmed: its status, then the hours of its seller, then those of its buyer
 
-  pub write-confirm : (q : Request) (i n at low high : ℕ) (r : Row) → confirmedNumber b q ≡ suc i
-      → r ≡ nth (b .part .rows) (confirmedNumber b q) noRow → pending r ≡ true → RowFits top r → r .first + n ≡ suc (r .last)
+  pub write-confirmed : (number i n at low high : ℕ) (r : Row) → number ≡ suc i
+      → r ≡ nth (b .part .rows) number noRow → pending r ≡ true → RowFits top r → r .first + n ≡ suc (r .last)
       → at ≡ presentAt + rowAt i + statusIn
       → low ≡ presentAt + netAt top (seller r) (r .first) → high ≡ presentAt + netAt top (buyer r) (r .first)
       → sweep (raised 4 (r .quantity .0)) 4 (sweep (raised 4 (256 ^ 4 - r .quantity .0)) 4 (splice (image top size b) at (le 1 2)) low n) high n
-      ≡ image top size (next confirm b q)
-  unfolding next
-  write-confirm q i n at low high r e er pend fit count a el eh =
+      ≡ image top size (apply (setStatus number 2) b)
+  unfolding apply
+  write-confirmed number i n at low high r e er pend fit count a el eh =
       let p : Part = b .part in
-      let inside = pending-inside (p .rows) (confirmedNumber b q) (rw (← er) pend) in
+      let inside = pending-inside (p .rows) number (rw (← er) pend) in
       let rf = f .part-fits .rows-fit in
       let l2 = length-le 1 2 in
       let x : List ℕ = partBytes top p in
@@ -126,46 +125,46 @@ module _ (top size : ℕ) (b : Book) (f : Fits b) where
       ∙ ap (λ (s : List ℕ). sweep up 4 (sweep down 4 s low n) high n) one
       ∙ ap (λ (s : List ℕ). sweep up 4 s high n) two
       ∙ three
-      ∙ ap (framed top size b) (part-confirm top p (f .part-fits) (confirmedNumber b q) i n (rowAt i + statusIn) jl jh r e er pend fit count refl refl refl)
+      ∙ ap (framed top size b) (part-confirm top p (f .part-fits) number i n (rowAt i + statusIn) jl jh r e er pend fit count refl refl refl)
       ∙ image-framed _
 
-  -- ---- 3 withdraw: the row's status
+  -- ---- a pending row withdrawn: its status
 
-  pub write-withdraw : (q : Request) (i at : ℕ) → q .number ≡ suc i → pending (nth (b .part .rows) (q .number) noRow) ≡ true
+  pub write-withdrawn : (number i at : ℕ) → number ≡ suc i → pending (nth (b .part .rows) number noRow) ≡ true
       → at ≡ presentAt + rowAt i + statusIn
-      → splice (image top size b) at (le 1 3) ≡ image top size (next withdraw b q)
-  unfolding next
-  write-withdraw q i at e pend a =
+      → splice (image top size b) at (le 1 3) ≡ image top size (apply (setStatus number 3) b)
+  unfolding apply
+  write-withdrawn number i at e pend a =
       let p : Part = b .part in
-      let inside = pending-inside (p .rows) (q .number) pend in
+      let inside = pending-inside (p .rows) number pend in
       let rf = f .part-fits .rows-fit in
       ap (λ (s : List ℕ). splice s at (le 1 3)) framed-image
       ∙ framed-splice (partBytes top p) (rowAt i + statusIn) at (le 1 3) (length-part top p (f .part-fits)) (omega (arith, length-le 1 3)) (omega arith)
-      ∙ ap (framed top size b) (part-withdraw top p (f .part-fits) (q .number) i (rowAt i + statusIn) e pend refl)
+      ∙ ap (framed top size b) (part-withdraw top p (f .part-fits) number i (rowAt i + statusIn) e pend refl)
       ∙ image-framed _
 
-  -- ---- 4 guarantee
+  -- ---- a guarantee replaced
 
-  pub write-guarantee : (q : Request) (i at : ℕ) → q .operator ≡ suc i → q .operator ≤ length (b .part .guarantees)
+  pub write-guarantee : (o i at : ℕ) (g : Cents) → o ≡ suc i → o ≤ length (b .part .guarantees)
       → at ≡ presentAt + guaranteesAt + 8 * i
-      → splice (image top size b) at (le 8 (q .guarantee .0)) ≡ image top size (next guarantee b q)
-  unfolding next
-  write-guarantee q i at e h a =
+      → splice (image top size b) at (le 8 (g .0)) ≡ image top size (apply (setGuarantee o g) b)
+  unfolding apply
+  write-guarantee o i at g e h a =
       let p : Part = b .part in
       let gf = f .part-fits .guarantees-fit in
-      let g : List ℕ = le 8 (q .guarantee .0) in
-      ap (λ (s : List ℕ). splice s at g) framed-image
-      ∙ framed-splice (partBytes top p) (8 * i) at g (length-part top p (f .part-fits)) (omega (arith, length-le 8 (q .guarantee .0))) (omega arith)
-      ∙ ap (framed top size b) (part-guarantee top p (f .part-fits) (q .operator) i (8 * i) (q .guarantee) e h refl)
+      let new : List ℕ = le 8 (g .0) in
+      ap (λ (s : List ℕ). splice s at new) framed-image
+      ∙ framed-splice (partBytes top p) (8 * i) at new (length-part top p (f .part-fits)) (omega (arith, length-le 8 (g .0))) (omega arith)
+      ∙ ap (framed top size b) (part-guarantee top p (f .part-fits) o i (8 * i) g e h refl)
       ∙ image-framed _
 
-  -- ---- 5 open a batch: the present part copied over the saved one, then the flag
+  -- ---- a part saved a batch: the present part copied over the saved one, then the flag
 
-  pub write-open : (q : Request) → usedSize top ≤ size
+  pub write-saved : usedSize top ≤ size
       → splice (pasted (image top size b) (savedAt top) (drop presentAt (image top size b)) (partSize top)) flagAt (le 1 1)
-      ≡ image top size (next openBatch b q)
-  unfolding next image sections sectionsWith savedBytes
-  write-open q g =
+      ≡ image top size (apply savePart b)
+  unfolding apply image sections sectionsWith savedBytes
+  write-saved g =
       let ws : List ℕ = bookWidths top size in
       let ss : List (List ℕ) = sections top size b in
       let w = wide-book top size b f in
@@ -178,13 +177,13 @@ module _ (top size : ℕ) (b : Book) (f : Fits b) where
       let two = write-whole ws (set ss 6 y) (wide-set ws ss 6 y w ly) 2 flagAt (le 1 1) (omega arith) (length-le 1 1) (omega arith) in
       ap (λ (s : List ℕ). splice s flagAt (le 1 1)) (copy ∙ ap (splice (flat ss) (savedAt top)) read ∙ one) ∙ two
 
-  -- ---- 6 undo: the saved part copied over the present one and cleared, then the flag
+  -- ---- a part restored: the saved one copied over the present one and cleared, then the flag
 
-  pub write-undo : (q : Request) (p : Part) → usedSize top ≤ size → b .saved ≡ some p
+  pub write-restored : (p : Part) → usedSize top ≤ size → b .saved ≡ some p
       → splice (splice (pasted (image top size b) presentAt (drop (savedAt top) (image top size b)) (partSize top)) (savedAt top) (zeros (partSize top))) flagAt (le 1 0)
-      ≡ image top size (next undo b q)
-  unfolding next image sections sectionsWith savedBytes
-  write-undo q p g e =
+      ≡ image top size (apply restorePart b)
+  unfolding apply image sections sectionsWith savedBytes
+  write-restored p g e =
       let ws : List ℕ = bookWidths top size in
       let ss : List (List ℕ) = sections top size b in
       let w = wide-book top size b f in
@@ -206,12 +205,11 @@ module _ (top size : ℕ) (b : Book) (f : Fits b) where
       ∙ three
       ∙ rw back
 
-  -- ---- 7 keep: the saved part cleared, then the flag
+  -- ---- a saved part dropped: it is cleared, then the flag
 
-  pub write-keep : (q : Request)
-      → splice (splice (image top size b) (savedAt top) (zeros (partSize top))) flagAt (le 1 0) ≡ image top size (next keep b q)
-  unfolding next image sections sectionsWith savedBytes
-  write-keep q =
+  pub write-dropped : splice (splice (image top size b) (savedAt top) (zeros (partSize top))) flagAt (le 1 0) ≡ image top size (apply dropSaved b)
+  unfolding apply image sections sectionsWith savedBytes
+  write-dropped =
       let ws : List ℕ = bookWidths top size in
       let ss : List (List ℕ) = sections top size b in
       let w = wide-book top size b f in
@@ -221,13 +219,13 @@ module _ (top size : ℕ) (b : Book) (f : Fits b) where
       let two = write-whole ws (set ss 6 z) (wide-set ws ss 6 z w lz) 2 flagAt (le 1 0) (omega arith) (length-le 1 0) (omega arith) in
       ap (λ (s : List ℕ). splice s flagAt (le 1 0)) one ∙ two
 
-  -- ---- 8 close gate: a loop over the rows, then the phase
+  -- ---- the gate closed: a loop over the rows, then the phase
 
-  pub write-close : (q : Request) (n at : ℕ) → n ≡ length (b .part .rows) → Each (λ r. r .status < 256) (b .part .rows)
+  pub write-closed : (n at : ℕ) → n ≡ length (b .part .rows) → Each (λ r. r .status < 256) (b .part .rows)
       → at ≡ presentAt + rowAt 0
-      → splice (sweep ended rowWidth (image top size b) at n) phaseAt (le 1 2) ≡ image top size (next closeGate b q)
-  unfolding next
-  write-close q n at e small a =
+      → splice (sweep ended rowWidth (image top size b) at n) phaseAt (le 1 2) ≡ image top size (apply shutGate b)
+  unfolding apply
+  write-closed n at e small a =
       let p : Part = b .part in
       let rf = f .part-fits .rows-fit in
       let after : Fits (withRows b (closed (p .rows))) =
@@ -245,13 +243,12 @@ module _ (top size : ℕ) (b : Book) (f : Fits b) where
       ∙ image-framed (record { guarantees = p .guarantees; rows = closed (p .rows) }))
       ∙ write-phase top size (withRows b (closed (p .rows))) after 2
 
-  -- ---- 9 schedule: the schedule and the count
+  -- ---- a schedule added: the schedule and the count
 
-  pub write-schedule : (q : Request) (n at : ℕ) → n ≡ length (b .schedules) → n < mostSchedules → at ≡ schedulesAt + scheduleWidth * n
-      → splice (splice (image top size b) at (scheduleBytes (scheduled q))) scheduleCountAt (le 2 (n + 1)) ≡ image top size (next schedule b q)
-  unfolding next image sections sectionsWith
-  write-schedule q n at e h a =
-      let x : Schedule = scheduled q in
+  pub write-schedule : (x : Schedule) (n at : ℕ) → n ≡ length (b .schedules) → n < mostSchedules → at ≡ schedulesAt + scheduleWidth * n
+      → splice (splice (image top size b) at (scheduleBytes x)) scheduleCountAt (le 2 (n + 1)) ≡ image top size (apply (addSchedule x) b)
+  unfolding apply image sections sectionsWith
+  write-schedule x n at e h a =
       let xs : List Schedule = b .schedules ++ x ∷ [] in
       let ws : List ℕ = bookWidths top size in
       let ss : List (List ℕ) = sections top size b in
@@ -264,8 +261,8 @@ module _ (top size : ℕ) (b : Book) (f : Fits b) where
       let two = write-whole ws (set ss 4 y) (wide-set ws ss 4 y w ly) 3 scheduleCountAt (le 2 (n + 1)) (omega arith) (length-le 2 _) (omega arith) in
       ap (λ (s : List ℕ). splice s scheduleCountAt (le 2 (n + 1))) (one ∙ rw more) ∙ two ∙ rw m
 
-  -- ---- 10 settle: the phase
+  -- ---- the day settled: the phase
 
-  pub write-settle : (q : Request) → splice (image top size b) phaseAt (le 1 3) ≡ image top size (next settle b q)
-  unfolding next
-  write-settle q = write-phase top size b f 3
+  pub write-settled : splice (image top size b) phaseAt (le 1 3) ≡ image top size (apply endDay b)
+  unfolding apply
+  write-settled = write-phase top size b f 3

@@ -19,13 +19,12 @@ use Rattle.wire.proofs.SweepLaws.{sweep-part, sweep-slots, length-sweep}
 use Rattle.units.specs.declared.Cents.{Cents}
 use Rattle.units.specs.Units.{cents}
 use Rattle.rules.specs.declared.Row.{Row}
-use Rattle.rules.specs.declared.Request.{Request}
 use Rattle.rules.specs.Basics.{if_then_else_, nth, put, Each, nil, cons}
 use Rattle.rules.specs.Limits.{mostOperators, mostAccounts, mostRows}
 use Rattle.rules.specs.Books.{Part, noRow}
-use Rattle.rules.specs.Registration.{pending, seller, buyer, withStatus, mark, closed, proposed}
+use Rattle.rules.specs.Registration.{pending, seller, buyer, withStatus, mark, closed}
 use Rattle.rules.proofs.Rows.RowChanges.{length-mark}
-use Rattle.rules.proofs.Rows.AccountHours.{pending-inside, moved-register, moved-withdraw, moved-close}
+use Rattle.rules.proofs.Rows.AccountHours.{pending-inside, moved-added, moved-withdraw, moved-close}
 use Rattle.image.specs.Layout.{rowWidths, rowWidth, accountWidth, partWidths, rowCountAt, rowAt, netAt, statusIn}
 use Rattle.image.specs.Image.{rowValues, rowBytes, netsBytes, partSections, partBytes}
 use Rattle.image.specs.Changes.{raised, ended}
@@ -82,13 +81,12 @@ module _ (top : ℕ) (p : Part) (f : PartFits p) where
   unfolding partBytes partSections partOver
   over-part rows = refl
 
-  -- the row that register proposes, and the count
-  pub part-register : (q : Request) (n at : ℕ) → n ≡ length (p .rows) → n < mostRows → at ≡ rowAt n
-      → splice (splice (partBytes top p) at (rowBytes (proposed q))) rowCountAt (le 2 (n + 1))
-      ≡ partBytes top (record { guarantees = p .guarantees; rows = p .rows ++ proposed q ∷ [] })
+  -- a pending row more, and the count
+  pub part-row : (r : Row) (n at : ℕ) → pending r ≡ true → n ≡ length (p .rows) → n < mostRows → at ≡ rowAt n
+      → splice (splice (partBytes top p) at (rowBytes r)) rowCountAt (le 2 (n + 1))
+      ≡ partBytes top (record { guarantees = p .guarantees; rows = p .rows ++ r ∷ [] })
   unfolding partBytes partSections
-  part-register q n at e h a =
-      let r : Row = proposed q in
+  part-row r n at waits e h a =
       let rows′ : List Row = p .rows ++ r ∷ [] in
       let ws : List ℕ = partWidths top in
       let ss : List (List ℕ) = partSections top p in
@@ -97,7 +95,7 @@ module _ (top : ℕ) (p : Part) (f : PartFits p) where
       let more : splice (slots rowWidth mostRows rowBytes (p .rows)) (rowWidth * n) (rowBytes r) ≡ slots rowWidth mostRows rowBytes rows′ =
       slots-snoc rowWidth mostRows rowBytes length-row (p .rows) (rowWidth * n) r (omega arith) (omega arith) in
       let nets : netsBytes top rows′ ≡ netsBytes top (p .rows) =
-      nets-kept top (p .rows) rows′ (λ x k. moved-register buyer x k (p .rows) q) (λ x k. moved-register seller x k (p .rows) q) in
+      nets-kept top (p .rows) rows′ (λ x k. moved-added buyer x k (p .rows) (cons waits nil)) (λ x k. moved-added seller x k (p .rows) (cons waits nil)) in
       let y : List ℕ = slots rowWidth mostRows rowBytes rows′ in
       let ly : length y ≡ rowWidth * mostRows = length-slots rowWidth mostRows rowBytes length-row rows′ (omega arith) in
       let one = write-part ws ss w 2 (rowWidth * n) at (rowBytes r) (omega arith) (omega (arith, length-row r)) (omega arith) in

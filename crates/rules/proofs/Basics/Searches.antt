@@ -47,6 +47,10 @@ each-snoc nil p = cons p nil
 each-snoc (cons q e) p = cons q (each-snoc e p)
 
 -- each element changed
+pub each-append {ℓ κ} : {A : Type ℓ} {P : A → Type κ} {xs ys : List A} → Each P xs → Each P ys → Each P (xs ++ ys)
+each-append nil f = f
+each-append (cons p e) f = cons p (each-append e f)
+
 pub each-mapped {ℓ κ} : {A : Type ℓ} {P : A → Type κ} {xs : List A} (f : A → A) → ((x : A) → P x → P (f x)) → Each P xs → Each P (map f xs)
 each-mapped f h nil = nil
 each-mapped f h (cons {x = x} q e) = cons (h x q) (each-mapped f h e)

@@ -8,21 +8,21 @@ use mathlib.Core.Option.{Option, none, some}
 use native.Mathlib.Omega.{arith}
 use Rattle.rules.specs.declared.Schedule.{Schedule}
 use Rattle.rules.specs.declared.Request.{Request}
-use Rattle.rules.specs.Basics.{total, nth}
+use Rattle.rules.specs.Basics.{total, nth, nil, cons}
 use Rattle.rules.specs.Books.{Part, Book, noRow}
 use Rattle.rules.specs.Opening.{opened}
 use Rattle.rules.specs.Requests.{Kind, register, confirm, withdraw, guarantee, openBatch, undo, keep, closeGate, schedule, settle, kindNumber}
-use Rattle.rules.specs.Registration.{moved}
-use Rattle.rules.specs.Calls.{Call, kindIn, requestIn, next, confirmedNumber, scheduled, inputChecks, stateChecks, step}
+use Rattle.rules.specs.Registration.{moved, confirms}
+use Rattle.rules.specs.Calls.{Call, kindIn, requestIn, next, numberFrom, confirmedNumber, scheduled, inputChecks, stateChecks, step, apply}
 use Rattle.rules.specs.Lists.{accepts, after}
 use Rattle.rules.specs.Ledger.{Page, Ledger, blank, newLedger, tradeOf, turn, feed, fed, heard, fedAll, traded}
 use Rattle.rules.proofs.Basics.Searches.{each-nth}
 use Rattle.rules.proofs.Checks.Clearing.{Clear}
-use Rattle.rules.proofs.Checks.Passed.{Passed, Kept, passed-kind, step-cases, passed-11, passed-12, passed-13}
-use Rattle.rules.proofs.Rows.RowTests.{passed-confirm}
+use Rattle.rules.proofs.Checks.Passed.{Passed, Kept, passed-kind, step-cases, passed-11, passed-12, passed-13, passed-16-confirm}
+use Rattle.rules.proofs.Rows.RowTests.{passed-confirm, passed-withdraw}
 use Rattle.rules.proofs.Ledgers.Entries.{entriesFrom}
 use Rattle.rules.proofs.Ledgers.Ranged.{Ranged, confirm-side, opened-ranged, step-ranged}
-use Rattle.rules.proofs.Ledgers.PageAgreement.{SameTrade, same-trade, PartAgrees, register-agrees, confirm-agrees, withdraw-agrees, guarantee-agrees, close-agrees, schedule-agrees}
+use Rattle.rules.proofs.Ledgers.PageAgreement.{SameTrade, same-trade, PartAgrees, rows-added-agrees, confirmed-agrees, withdrawn-agrees, guaranteed-agrees, closed-agrees, scheduled-agrees}
 
 -- ---- what agrees
 
@@ -79,20 +79,23 @@ undone phase xs o p g e s = rw e at s
 
 next-agrees : (k : Kind) (b : Book) (c : Call) (q : Request) (l : Ledger) → kindNumber k ≡ q .kind → Clear (inputChecks b c k q)
     → Clear (stateChecks b k q) → Ranged b → Agrees b l → Agrees (next k b q) (feed k q l)
-unfolding next feed turn
+unfolding apply feed turn confirms
 next-agrees register b c q l e i h r g =
-    record { setup = g .setup; part = register-agrees b q (l .copy) (l .page) (g .part); schedules = g .schedules; saved = g .saved }
+    record { setup = g .setup; part = rows-added-agrees (b .part) (l .page) (cons refl nil) (g .part); schedules = g .schedules; saved = g .saved }
 next-agrees confirm b c q l e i h r g =
+    let found = passed-16-confirm b q h in
     record {
       setup = g .setup;
-      part = confirm-agrees b q (l .copy) (l .page) (g .part) h (confirmed-trade b c q e i h r);
+      part =
+          confirmed-agrees (b .part) (l .page) (g .part) (q .other) (q .account) (q .code) (confirmedNumber b q) (found .0) (tradeOf q)
+          (ap numberFrom (found .1)) (found .1) (passed-confirm b q h .row .is-pending) (confirmed-trade b c q e i h r);
       schedules = g .schedules;
       saved = g .saved;
     }
 next-agrees withdraw b c q l e i h r g =
-    record { setup = g .setup; part = withdraw-agrees b q (l .copy) (l .page) (g .part) h; schedules = g .schedules; saved = g .saved }
+    record { setup = g .setup; part = withdrawn-agrees (b .part) (l .page) (g .part) (q .number) (passed-withdraw b q h .0); schedules = g .schedules; saved = g .saved }
 next-agrees guarantee b c q l e i h r g =
-    record { setup = g .setup; part = guarantee-agrees b q (l .copy) (l .page) (g .part); schedules = g .schedules; saved = g .saved }
+    record { setup = g .setup; part = guaranteed-agrees (b .part) (l .page) (g .part) (q .operator) (q .guarantee); schedules = g .schedules; saved = g .saved }
 next-agrees openBatch b c q l e i h r g =
     record {
       setup = g .setup;
@@ -108,14 +111,14 @@ next-agrees keep b c q l e i h r g = record { setup = g .setup; part = g .part; 
 next-agrees closeGate b c q l e i h r g =
     record {
       setup = g .setup;
-      part = close-agrees b q (l .copy) (l .page) (g .part);
+      part = closed-agrees (b .part) (l .page) (g .part);
       schedules = g .schedules;
       saved = saved-none 2 (b .schedules) (b .saved) (l .copy) (passed-12 b q closeGate refl h);
     }
 next-agrees schedule b c q l e i h r g =
     record {
       setup = g .setup;
-      part = schedule-agrees b q (l .copy) (l .page) (g .part);
+      part = scheduled-agrees (b .part) (l .page) (g .part) _;
       schedules = ap (λ (xs : List Schedule). xs ++ scheduled q ∷ []) (g .schedules);
       saved = saved-later (b .phase) (b .schedules) _ (b .saved) (l .copy) (b .phase) (passed-11 b q schedule h) (g .saved);
     }

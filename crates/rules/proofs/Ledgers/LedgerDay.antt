@@ -10,14 +10,14 @@ use Rattle.units.specs.Units.{milliCents}
 use Rattle.rules.specs.declared.Refusal.{Refusal}
 use Rattle.rules.specs.declared.NetReading.{NetReading}
 use Rattle.rules.specs.declared.ExposureReading.{ExposureReading}
-use Rattle.rules.specs.Basics.{sumOf, within}
-use Rattle.rules.specs.Books.{Book, accountCount, operatorCount}
+use Rattle.rules.specs.Basics.{if_then_else_, sumOf, within}
+use Rattle.rules.specs.Books.{Book, accountCount, operatorCount, periods}
 use Rattle.rules.specs.Opening.{opened, setupOf}
-use Rattle.rules.specs.Requests.{Kind, register, confirm, withdraw, guarantee, openBatch, undo, keep, closeGate, schedule, settle}
+use Rattle.rules.specs.Requests.{settle}
 use Rattle.rules.specs.Registration.{netOf, available}
 use Rattle.rules.specs.Readings.{position, netReading, exposureReading}
 use Rattle.rules.specs.Settlement.{pricesIn, results, balances, registeredTotal, balanceFigure}
-use Rattle.rules.specs.Calls.{Call, Settled, kindIn, settles, refusal, answer, step}
+use Rattle.rules.specs.Calls.{Call, Settled, kindIn, _∈_, workedOut, settles, refusal, answer, step}
 use Rattle.rules.specs.Lists.{after}
 use Rattle.rules.specs.Ledger.{Ledger, newLedger, feed, fed, heard, fedAll, ledgerNet, ledgerExposure, ledgerAvailable}
 use Rattle.rules.proofs.Ledgers.Ranged.{Ranged, opened-ranged, last-ranged}
@@ -38,18 +38,10 @@ never : (w : Settled) → none ≡ some w → ⊥
 never w h = let z : _≡_ {A = ℕ} 0 1 = cc in omega arith
 
 module _ (b : Book) (c : Call) (l : Ledger) (w : Settled) (owned : Owned (b .setup)) (r : Ranged b) (g : Agrees b l) where
-  settles-go : (k : Kind) → settles k b c ≡ some w → SettledBy l c w
-  unfolding settles
-  settles-go register h = absurd (never w h)
-  settles-go confirm h = absurd (never w h)
-  settles-go withdraw h = absurd (never w h)
-  settles-go guarantee h = absurd (never w h)
-  settles-go openBatch h = absurd (never w h)
-  settles-go undo h = absurd (never w h)
-  settles-go keep h = absurd (never w h)
-  settles-go closeGate h = absurd (never w h)
-  settles-go schedule h = absurd (never w h)
-  settles-go settle h =
+  settles-go : (t : Bool) → (if t then some (workedOut b c) else none) ≡ some w → SettledBy l c w
+  unfolding workedOut
+  settles-go false h = absurd (never w h)
+  settles-go true h =
       let t = pricesIn (b .setup) (c .prices) in
       let x : Settled =
       record {
@@ -64,9 +56,9 @@ module _ (b : Book) (c : Call) (l : Ledger) (w : Settled) (owned : Owned (b .set
       })
 
   answer-go : (o : Option Refusal) → answer b c o .settled ≡ some w → SettledBy l c w
-  unfolding answer
+  unfolding answer settles
   answer-go (some x) h = absurd (never w h)
-  answer-go none h = settles-go (kindIn c) h
+  answer-go none h = settles-go (kindIn c ∈ (settle ∷ [])) h
 
   pub settled-by : step b c .settled ≡ some w → SettledBy l c w
   unfolding step
@@ -103,7 +95,7 @@ module _ (s : List ℕ) (cs : List Call) where
   day-setup = fed-all-setup (newLedger s) (heard (opened s) cs)
 
   -- every reading of net
-  pub day-net : (a h : ℕ) → within 1 a (accountCount (setupOf s)) ≡ true → within 1 h (setupOf s .hours) ≡ true
+  pub day-net : (a h : ℕ) → within 1 a (accountCount (setupOf s)) ≡ true → within 1 h (periods (setupOf s)) ≡ true
       → netReading dayBook a h ≡ NetReading.Stands (position (ledgerNet dayLedger a h))
   day-net a h i j = net-read-is-the-ledgers dayBook dayLedger agrees a h (rw day-setup i) (rw day-setup j)
 

@@ -12,7 +12,7 @@ use Rattle.rules.specs.declared.NetReading.{NetReading}
 use Rattle.rules.specs.declared.ExposureReading.{ExposureReading}
 use Rattle.rules.specs.Basics.{within}
 use Rattle.rules.specs.Verdicts.{firstToApply}
-use Rattle.rules.specs.Books.{Book, accountCount, operatorCount}
+use Rattle.rules.specs.Books.{Book, accountCount, operatorCount, periods}
 use Rattle.rules.specs.Registration.{covers, counted, pending, waiting, netOf, accountHour, exposure, available}
 use Rattle.rules.specs.Readings.{position, netReading, exposureReading}
 use Rattle.rules.specs.Settlement.{settled, results, balances, registeredTotal}
@@ -58,7 +58,7 @@ module _ (b : Book) (l : Ledger) (g : Agrees b l) where
   -- ---- readings
 
   -- a net position that is read is the ledger's
-  pub net-read-is-the-ledgers : (a h : ℕ) → within 1 a (accountCount (l .setup)) ≡ true → within 1 h (l .setup .hours) ≡ true
+  pub net-read-is-the-ledgers : (a h : ℕ) → within 1 a (accountCount (l .setup)) ≡ true → within 1 h (periods (l .setup)) ≡ true
       → netReading b a h ≡ NetReading.Stands (position (ledgerNet l a h))
   unfolding netReading firstToApply
   net-read-is-the-ledgers a h i j = rw (g .setup, i, j, net-is-the-ledgers a h)

@@ -1,27 +1,26 @@
--- The ledger's page agrees with the book's part, and each call on the part changes both alike. A confirmed row and the trade of the
+-- The ledger's page agrees with the book's part, and each change of the part changes both alike. A confirmed row and the trade of the
 -- request that confirms it are the same, since the request mirrors the row.
 use Prim.Native.Nat.{ℕ, suc, _+_, _≤_}
 use mathlib.Core.Path.{_≡_, refl, sym, ap, _∙_}
-use mathlib.Core.List.{List, [], _∷_, _++_}
+use mathlib.Core.List.{List, [], _∷_, _++_, append-assoc, append-nil}
+use mathlib.Core.Option.{some}
 use mathlib.Core.Bool.{Bool, true, false, _&&_}
 use native.Mathlib.Omega.{arith}
 use lib.ListN.{length, length-append}
 use lib.Dec.{eqb}
 use borrow.Author.Tests.{eqb-true, eqb-false, ne-eqb, eq-eqb}
+use Rattle.units.specs.declared.Cents.{Cents}
 use Rattle.rules.specs.declared.Row.{Row}
+use Rattle.rules.specs.declared.Schedule.{Schedule}
 use Rattle.rules.specs.declared.Request.{Request}
-use Rattle.rules.specs.Basics.{if_then_else_, nth, within}
-use Rattle.rules.specs.Books.{Part, Book, noRow}
-use Rattle.rules.specs.Requests.{register, confirm, withdraw, guarantee, closeGate, schedule}
-use Rattle.rules.specs.Registration.{proposed, confirms, seller, buyer, bought, sold}
-use Rattle.rules.specs.Calls.{next, confirmedNumber, stateChecks}
-use Rattle.rules.specs.Ledger.{Trade, Page, tradeOf, turn, traded}
+use Rattle.rules.specs.Basics.{if_then_else_, nth, put, indexOf, within, Each, nil, cons}
+use Rattle.rules.specs.Books.{Part, noRow, partGuarantees, partRows}
+use Rattle.rules.specs.Registration.{pending, mark, closed, alike, seller, buyer, bought, sold}
+use Rattle.rules.specs.Ledger.{Trade, Page, pageGuarantees, pagePending, pageTrades, pageSchedules, without, tradeOf, entered, traded}
 use Rattle.rules.proofs.Rows.RowChanges.{length-mark, length-closed}
-use Rattle.rules.proofs.Checks.Clearing.{Clear}
-use Rattle.rules.proofs.Checks.Passed.{passed-16-confirm}
-use Rattle.rules.proofs.Rows.RowTests.{Alike, Mirrored, passed-confirm, passed-withdraw}
+use Rattle.rules.proofs.Rows.RowTests.{Alike, Mirrored}
 use Rattle.rules.proofs.Basics.Totals.{total-snoc}
-use Rattle.rules.proofs.Rows.AccountHours.{moved-register, moved-confirm, moved-withdraw, moved-close}
+use Rattle.rules.proofs.Rows.AccountHours.{moved-added, moved-confirm, moved-withdraw, moved-close}
 use Rattle.rules.proofs.Ledgers.Entries.{entriesOf, entries-register, entries-confirm, entries-withdraw, entries-close}
 
 -- ---- a confirmed row is the trade of the request that confirms it
@@ -78,52 +77,65 @@ pub record PartAgrees (p : Part) (g : Page) : Type 0 where
   pub bought : (a h : ℕ) → bought (p .rows) a h ≡ traded (λ t. t .buyer) (g .trades) a h
   pub sold : (a h : ℕ) → sold (p .rows) a h ≡ traded (λ t. t .seller) (g .trades) a h
 
-module _ (b : Book) (q : Request) (copy g : Page) (s : PartAgrees (b .part) g) where
-  pub register-agrees : PartAgrees (next register b q .part) (turn register q copy g)
-  unfolding next turn
-  register-agrees =
-      let n : g .nextNumber ≡ 1 + length (b .part .rows) = omega (arith, s .nextNumber) in
+-- each change of the part, and what the ledger makes of its page
+module _ (p : Part) (g : Page) (s : PartAgrees p g) where
+  -- a row more
+  row-added-agrees : (r : Row) → pending r ≡ true → PartAgrees (partRows p (p .rows ++ r ∷ [])) (entered g r)
+  row-added-agrees r waits =
+      let n : g .nextNumber ≡ 1 + length (p .rows) = omega (arith, s .nextNumber) in
       record {
         guarantees = s .guarantees;
-        pending = rw (s .pending, n) (sym (entries-register 1 (b .part .rows) (proposed q) refl));
-        nextNumber = omega (arith, s .nextNumber, length-append (b .part .rows) (proposed q ∷ []));
-        bought = λ a h. moved-register buyer a h (b .part .rows) q ∙ s .bought a h;
-        sold = λ a h. moved-register seller a h (b .part .rows) q ∙ s .sold a h;
+        pending = rw (s .pending, n) (sym (entries-register 1 (p .rows) r waits));
+        nextNumber = omega (arith, s .nextNumber, length-append (p .rows) (r ∷ []));
+        bought = λ a h. moved-added buyer a h (p .rows) (cons waits nil) ∙ s .bought a h;
+        sold = λ a h. moved-added seller a h (p .rows) (cons waits nil) ∙ s .sold a h;
       }
 
-  pub confirm-agrees : Clear (stateChecks b confirm q) → SameTrade (nth (b .part .rows) (confirmedNumber b q) noRow) (tradeOf q)
-      → PartAgrees (next confirm b q .part) (turn confirm q copy g)
-  unfolding next turn confirms
-  confirm-agrees h t =
-      let c = passed-confirm b q h in
-      let (i, e) = passed-16-confirm b q h in
+  -- the row of a number is confirmed as that trade: it is the first pending one with these accounts and this code
+  pub confirmed-agrees : (proposer counterparty code number i : ℕ) (t : Trade) → number ≡ suc i
+      → indexOf (alike proposer counterparty code) (p .rows) ≡ some i → pending (nth (p .rows) number noRow) ≡ true
+      → SameTrade (nth (p .rows) number noRow) t
+      → PartAgrees (partRows p (mark number 2 (p .rows)))
+      (pageTrades (pagePending g (without (λ e. alike proposer counterparty code (e .row)) (g .pending))) (g .trades ++ t ∷ []))
+  confirmed-agrees proposer counterparty code number i t n e waits same =
       record {
         guarantees = s .guarantees;
-        pending = rw (s .pending, e) (entries-confirm (q .other) (q .account) (q .code) i (b .part .rows) e);
-        nextNumber = s .nextNumber ∙ ap suc (sym (length-mark (confirmedNumber b q) 2 (b .part .rows)));
+        pending = rw (s .pending, n) (entries-confirm proposer counterparty code i (p .rows) e);
+        nextNumber = s .nextNumber ∙ ap suc (sym (length-mark number 2 (p .rows)));
         bought = λ a h.
-            moved-confirm buyer a h (λ status r. refl) (b .part .rows) (confirmedNumber b q) (c .row .is-pending)
-            ∙ rw (s .bought a h, t .buyer, t .first, t .last, t .quantity) (sym (traded-more (λ t. t .buyer) (g .trades) (tradeOf q) a h));
+            moved-confirm buyer a h (λ status r. refl) (p .rows) number waits
+            ∙ rw (s .bought a h, same .buyer, same .first, same .last, same .quantity) (sym (traded-more (λ t. t .buyer) (g .trades) t a h));
         sold = λ a h.
-            moved-confirm seller a h (λ status r. refl) (b .part .rows) (confirmedNumber b q) (c .row .is-pending)
-            ∙ rw (s .sold a h, t .seller, t .first, t .last, t .quantity) (sym (traded-more (λ t. t .seller) (g .trades) (tradeOf q) a h));
+            moved-confirm seller a h (λ status r. refl) (p .rows) number waits
+            ∙ rw (s .sold a h, same .seller, same .first, same .last, same .quantity) (sym (traded-more (λ t. t .seller) (g .trades) t a h));
       }
 
-  pub withdraw-agrees : Clear (stateChecks b withdraw q) → PartAgrees (next withdraw b q .part) (turn withdraw q copy g)
-  unfolding next turn
-  withdraw-agrees h =
-      let p = passed-withdraw b q h .0 in
+  -- the row of a number is withdrawn
+  pub withdrawn-agrees : (number : ℕ) → pending (nth (p .rows) number noRow) ≡ true
+      → PartAgrees (partRows p (mark number 3 (p .rows))) (pagePending g (without (λ e. eqb (e .number) number) (g .pending)))
+  withdrawn-agrees number waits =
       record {
         guarantees = s .guarantees;
-        pending = rw (s .pending) (entries-withdraw (q .number) (b .part .rows) p);
-        nextNumber = s .nextNumber ∙ ap suc (sym (length-mark (q .number) 3 (b .part .rows)));
-        bought = λ a h. moved-withdraw buyer a h (b .part .rows) (q .number) p ∙ s .bought a h;
-        sold = λ a h. moved-withdraw seller a h (b .part .rows) (q .number) p ∙ s .sold a h;
+        pending = rw (s .pending) (entries-withdraw number (p .rows) waits);
+        nextNumber = s .nextNumber ∙ ap suc (sym (length-mark number 3 (p .rows)));
+        bought = λ a h. moved-withdraw buyer a h (p .rows) number waits ∙ s .bought a h;
+        sold = λ a h. moved-withdraw seller a h (p .rows) number waits ∙ s .sold a h;
       }
 
-  pub guarantee-agrees : PartAgrees (next guarantee b q .part) (turn guarantee q copy g)
-  unfolding next turn
-  guarantee-agrees =
+  -- all pending rows are withdrawn
+  pub closed-agrees : PartAgrees (partRows p (closed (p .rows))) (pagePending g [])
+  closed-agrees =
+      record {
+        guarantees = s .guarantees;
+        pending = sym (entries-close 1 (p .rows));
+        nextNumber = s .nextNumber ∙ ap suc (sym (length-closed (p .rows)));
+        bought = λ a h. moved-close buyer a h (p .rows) ∙ s .bought a h;
+        sold = λ a h. moved-close seller a h (p .rows) ∙ s .sold a h;
+      }
+
+  -- a guarantee is replaced
+  pub guaranteed-agrees : (o : ℕ) (x : Cents) → PartAgrees (partGuarantees p (put (p .guarantees) o x)) (pageGuarantees g (put (g .guarantees) o x))
+  guaranteed-agrees o x =
       record {
         guarantees = rw (s .guarantees);
         pending = s .pending;
@@ -132,18 +144,19 @@ module _ (b : Book) (q : Request) (copy g : Page) (s : PartAgrees (b .part) g) w
         sold = s .sold;
       }
 
-  pub close-agrees : PartAgrees (next closeGate b q .part) (turn closeGate q copy g)
-  unfolding next turn
-  close-agrees =
-      record {
-        guarantees = s .guarantees;
-        pending = sym (entries-close 1 (b .part .rows));
-        nextNumber = s .nextNumber ∙ ap suc (sym (length-closed (b .part .rows)));
-        bought = λ a h. moved-close buyer a h (b .part .rows) ∙ s .bought a h;
-        sold = λ a h. moved-close seller a h (b .part .rows) ∙ s .sold a h;
-      }
-
-  pub schedule-agrees : PartAgrees (b .part) (turn schedule q copy g)
-  unfolding turn
-  schedule-agrees =
+  -- schedules are no part of it
+  pub scheduled-agrees : (xs : List Schedule) → PartAgrees p (pageSchedules g xs)
+  scheduled-agrees xs =
       record { guarantees = s .guarantees; pending = s .pending; nextNumber = s .nextNumber; bought = s .bought; sold = s .sold }
+
+-- rows entered one after the other
+abbrev pub enteredAll : Page → List Row → Page
+enteredAll g [] = g
+enteredAll g (r ∷ rs) = enteredAll (entered g r) rs
+
+-- rows more
+pub rows-added-agrees : (p : Part) (g : Page) {rows : List Row} → Each (λ r. pending r ≡ true) rows → PartAgrees p g
+    → PartAgrees (partRows p (p .rows ++ rows)) (enteredAll g rows)
+rows-added-agrees p g nil s = rw append-nil s
+rows-added-agrees p g (cons {x = r} {xs = rs} waits e) s =
+    rw (← append-assoc (p .rows) (r ∷ []) rs) (rows-added-agrees (partRows p (p .rows ++ r ∷ [])) (entered g r) e (row-added-agrees p g s r waits))

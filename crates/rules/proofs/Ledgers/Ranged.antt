@@ -11,15 +11,15 @@ use Rattle.rules.specs.declared.Counts.{Counts}
 use Rattle.rules.specs.declared.Row.{Row}
 use Rattle.rules.specs.declared.Schedule.{Schedule}
 use Rattle.rules.specs.declared.Request.{Request}
-use Rattle.rules.specs.Basics.{bit, Each, nil}
+use Rattle.rules.specs.Basics.{bit, Each, nil, cons}
 use Rattle.rules.specs.Books.{Part, Book, accountCount, pointCount, countsOf}
 use Rattle.rules.specs.Opening.{opened}
 use Rattle.rules.specs.Requests.{Kind, register, confirm, withdraw, guarantee, openBatch, undo, keep, closeGate, schedule, settle, kindNumber, wantedMap, inRange, faultyBit}
 use Rattle.rules.specs.Registration.{withStatus, proposed}
-use Rattle.rules.specs.Calls.{Call, kindIn, requestIn, next, restored, scheduled, inputChecks, step}
+use Rattle.rules.specs.Calls.{Call, kindIn, requestIn, Change, addRows, setStatus, setGuarantee, savePart, restorePart, dropSaved, shutGate, addSchedule, endDay, scheduled, change, restored, apply, inputChecks, step}
 use Rattle.rules.specs.Lists.{after}
 use Rattle.rules.proofs.Basics.Tests.{within-true}
-use Rattle.rules.proofs.Basics.Searches.{each-snoc}
+use Rattle.rules.proofs.Basics.Searches.{each-snoc, each-append}
 use Rattle.rules.proofs.Rows.RowChanges.{each-mark, each-closed}
 use Rattle.rules.proofs.Checks.Clearing.{Clear}
 use Rattle.rules.proofs.Checks.Passed.{field-in-range, passed-6, Passed, Kept, passed-kind, step-cases}
@@ -108,22 +108,43 @@ restored-parties : (n : ℕ) (o : Option Part) (p : Part) → SavedParties n o �
 restored-parties n none p s e = e
 restored-parties n (some x) p s e = s
 
-next-ranged : (k : Kind) (b : Book) (c : Call) (q : Request) → kindNumber k ≡ q .kind → Clear (inputChecks b c k q)
-    → Ranged b → Ranged (next k b q)
-unfolding next
-next-ranged register b c q e i g =
-    record { rows = each-snoc (g .rows) (proposed-parties b c q e i); saved = g .saved; schedules = g .schedules }
-next-ranged confirm b c q e i g = record { rows = each-mark _ 2 (parties-status _ 2) (g .rows); saved = g .saved; schedules = g .schedules }
-next-ranged withdraw b c q e i g = record { rows = each-mark _ 3 (parties-status _ 3) (g .rows); saved = g .saved; schedules = g .schedules }
-next-ranged guarantee b c q e i g = record { rows = g .rows; saved = g .saved; schedules = g .schedules }
-next-ranged openBatch b c q e i g = record { rows = g .rows; saved = g .rows; schedules = g .schedules }
-next-ranged undo b c q e i g =
+-- what a change adds is between the book's accounts, or on one of its points
+abbrev Adds : Book → Change → Type 0
+Adds b (addRows rows) = Each (Parties (accountCount (b .setup))) rows
+Adds b (setStatus number status) = Unit {0}
+Adds b (setGuarantee o g) = Unit {0}
+Adds b savePart = Unit {0}
+Adds b restorePart = Unit {0}
+Adds b dropSaved = Unit {0}
+Adds b shutGate = Unit {0}
+Adds b (addSchedule x) = OnPoint (pointCount (b .setup)) x
+Adds b endDay = Unit {0}
+
+apply-ranged : (x : Change) (b : Book) → Adds b x → Ranged b → Ranged (apply x b)
+unfolding apply
+apply-ranged (addRows rows) b new g = record { rows = each-append (g .rows) new; saved = g .saved; schedules = g .schedules }
+apply-ranged (setStatus number status) b new g =
+    record { rows = each-mark number status (parties-status _ status) (g .rows); saved = g .saved; schedules = g .schedules }
+apply-ranged (setGuarantee o x) b new g = record { rows = g .rows; saved = g .saved; schedules = g .schedules }
+apply-ranged savePart b new g = record { rows = g .rows; saved = g .rows; schedules = g .schedules }
+apply-ranged restorePart b new g =
     record { rows = restored-parties _ (b .saved) (b .part) (g .saved) (g .rows); saved = tt; schedules = g .schedules }
-next-ranged keep b c q e i g = record { rows = g .rows; saved = tt; schedules = g .schedules }
-next-ranged closeGate b c q e i g = record { rows = each-closed (parties-status _ 3) (g .rows); saved = g .saved; schedules = g .schedules }
-next-ranged schedule b c q e i g =
-    record { rows = g .rows; saved = g .saved; schedules = each-snoc (g .schedules) (scheduled-on-point b c q e i) }
-next-ranged settle b c q e i g = record { rows = g .rows; saved = g .saved; schedules = g .schedules }
+apply-ranged dropSaved b new g = record { rows = g .rows; saved = tt; schedules = g .schedules }
+apply-ranged shutGate b new g = record { rows = each-closed (parties-status _ 3) (g .rows); saved = g .saved; schedules = g .schedules }
+apply-ranged (addSchedule x) b new g = record { rows = g .rows; saved = g .saved; schedules = each-snoc (g .schedules) new }
+apply-ranged endDay b new g = record { rows = g .rows; saved = g .saved; schedules = g .schedules }
+
+change-adds : (k : Kind) (b : Book) (c : Call) (q : Request) → kindNumber k ≡ q .kind → Clear (inputChecks b c k q) → Adds b (change k b q)
+change-adds register b c q e i = cons (proposed-parties b c q e i) nil
+change-adds confirm b c q e i = tt
+change-adds withdraw b c q e i = tt
+change-adds guarantee b c q e i = tt
+change-adds openBatch b c q e i = tt
+change-adds undo b c q e i = tt
+change-adds keep b c q e i = tt
+change-adds closeGate b c q e i = tt
+change-adds schedule b c q e i = scheduled-on-point b c q e i
+change-adds settle b c q e i = tt
 
 pub opened-ranged : (s : List ℕ) → Ranged (opened s)
 unfolding opened
@@ -134,7 +155,7 @@ step-ranged b c g = go (step-cases b c)
   where
     go : Kept b c ⊎ Passed b c → Ranged (step b c .book)
     go (inl kept) = rw (kept .book) g
-    go (inr p) = rw (p .book) (next-ranged (kindIn c) b c (requestIn c) (passed-kind p) (p .input) g)
+    go (inr p) = rw (p .book) (apply-ranged (change (kindIn c) b (requestIn c)) b (change-adds (kindIn c) b c (requestIn c) (passed-kind p) (p .input)) g)
 
 pub last-ranged : (b : Book) (cs : List Call) → Ranged b → Ranged (after b cs)
 unfolding after

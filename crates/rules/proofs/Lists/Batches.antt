@@ -14,9 +14,9 @@ use Rattle.rules.specs.declared.Row.{Row}
 use Rattle.rules.specs.declared.Request.{Request}
 use Rattle.rules.specs.Basics.{if_then_else_}
 use Rattle.rules.specs.Verdicts.{accepted}
-use Rattle.rules.specs.Books.{Part, Book}
+use Rattle.rules.specs.Books.{Part, Book, withRows}
 use Rattle.rules.specs.Requests.{Kind, register, confirm, withdraw, guarantee, openBatch, undo, keep, closeGate, schedule, settle}
-use Rattle.rules.specs.Calls.{Call, requestIn, kindIn, withRows, restored, confirmedNumber, next, given, _∈_, stateChecks, step}
+use Rattle.rules.specs.Calls.{Call, requestIn, kindIn, restored, confirmedNumber, next, given, _∈_, stateChecks, step, apply}
 use Rattle.rules.specs.Lists.{after, acceptsAs, rowsRegistered, endsNoBatch, UndoneBatch, CutOut}
 use Rattle.rules.proofs.Basics.Tests.{and-both, and-spared}
 use Rattle.rules.proofs.Checks.Clearing.{Clear}
@@ -58,7 +58,7 @@ module _ {o b : Book} {n : ℕ} (w : Within o n b) (q : Request) where
   saved-never e = let s = w .saved in let z : _≡_ {A = ℕ} 0 1 = cc in omega arith
 
   within-next : (k : Kind) → k ∈ (undo ∷ keep ∷ []) ≡ false → Clear (stateChecks b k q) → Within o (registers k + n) (next k b q)
-  unfolding next
+  unfolding apply
   within-next register e h = with-rows 1 _ (length-append (b .part .rows) _ ∙ omega arith)
   within-next confirm e h = with-rows 0 _ (length-mark (confirmedNumber b q) 2 (b .part .rows) ∙ sym (zero-add _))
   within-next withdraw e h = with-rows 0 _ (length-mark (q .number) 3 (b .part .rows) ∙ sym (zero-add _))
@@ -90,7 +90,7 @@ within-after {n} b (c ∷ cs) e w =
     rw (add-comm (rowsOf b c), add-assoc) (within-after (step b c .book) cs (t .1) (within-go b c (not-true _ (t .0)) w (step-cases b c)))
 
 within-open : (b : Book) (q : Request) → b .phase ≡ 1 → Within b 0 (next openBatch b q)
-unfolding next
+unfolding apply
 within-open b q e = record { setup = refl; phase = e; schedules = refl; saved = refl; numbers = omega arith }
 
 -- ---- an undone batch
@@ -118,7 +118,7 @@ module _ (b : Book) (opening : Call) (between : List Call) (undoing : Call) (bat
       rw add-zero at (within-after (step b opening .book) between (batch .goes-on) start)
 
   undo-within : (m : ℕ) (x : Book) (q : Request) → Within b m x → next undo x q ≡ b
-  unfolding next
+  unfolding apply
   undo-within m x q w =
       let p = w .phase ∙ sym phase-open in
       let s = sym saved-none in

@@ -1,9 +1,9 @@
 -- What a change of rows does to an account hour: sums over rows change by the share of the one row that is added or marked, and a
 -- pending row has no share in what is moved.
 use Prim.Native.Nat.{ℕ, zero, suc, _+_, _≤_}
-use mathlib.Core.Path.{_≡_, refl, sym, _∙_}
-use mathlib.Core.List.{List, [], _∷_, _++_}
-use mathlib.Core.Bool.{Bool, true, false, _&&_}
+use mathlib.Core.Path.{_≡_, refl, sym, ap, _∙_}
+use mathlib.Core.List.{List, [], _∷_, _++_, append-assoc, append-nil}
+use mathlib.Core.Bool.{Bool, true, false, not, _&&_}
 use native.Mathlib.Nat.{add-zero}
 use native.Mathlib.Omega.{arith}
 use lib.ListN.{length, getD}
@@ -11,11 +11,12 @@ use lib.Dec.{eqb}
 use borrow.Author.Tests.{eqb-true}
 use Rattle.units.specs.Units.{kwh}
 use Rattle.rules.specs.declared.Row.{Row}
-use Rattle.rules.specs.declared.Request.{Request}
-use Rattle.rules.specs.Basics.{if_then_else_, total, nth}
-use Rattle.rules.specs.Books.{noRow}
-use Rattle.rules.specs.Registration.{pending, confirmed, covers, counted, withStatus, mark, closed, proposed, moved, waiting, buyer, seller, bought, sold, netOf, pendingSales, pendingPurchases, accountHour, takes}
-use Rattle.rules.proofs.Basics.Totals.{total-zero, total-cong, total-snoc, total-set, total-map}
+use Rattle.rules.specs.declared.AccountHour.{AccountHour}
+use Rattle.rules.specs.Basics.{if_then_else_, total, find, nth, upTo, Each}
+use Rattle.rules.specs.Books.{Setup, noRow, periods, marginsAt, estimateAt}
+use Rattle.rules.specs.Registration.{pending, confirmed, covers, counted, withStatus, mark, closed, moved, waiting, buyer, seller, bought, sold, netOf, pendingSales, pendingPurchases, accountHour, takes, takesAll, keepsMargins, brokenHour, brokenBy, exposureOf, exposure, exposureWith}
+use Rattle.rules.proofs.Basics.Totals.{total-zero, total-cong, total-same, total-append, total-snoc, total-set, total-map}
+use Rattle.rules.proofs.Basics.Searches.{each-map}
 
 -- ---- shares of a row
 
@@ -70,9 +71,11 @@ module _ (party : Row → ℕ) (a h : ℕ) where
   unfolding moved
   moved-snoc rows r = total-snoc (counted (λ r. confirmed r && covers h r && eqb (party r) a)) rows r
 
-  -- register moves nothing
-  pub moved-register : (rows : List Row) (q : Request) → moved party (rows ++ proposed q ∷ []) a h ≡ moved party rows a h
-  moved-register rows q = moved-snoc rows (proposed q) ∙ add-zero (moved party rows a h)
+  -- rows that are added as pending move nothing
+  pub moved-added : (rows : List Row) {added : List Row} → Each (λ r. pending r ≡ true) added → moved party (rows ++ added) a h ≡ moved party rows a h
+  unfolding moved movedShare
+  moved-added rows {added} e =
+      omega (arith, total-append (movedShare party a h) rows added, total-same (movedShare party a h) (λ r. 0) moved-idle e, total-zero added)
 
   -- confirm moves the row's quantity
   pub moved-confirm : ((status : ℕ) (r : Row) → party (withStatus status r) ≡ party r)
@@ -126,11 +129,6 @@ module _ (side a h : ℕ) where
   unfolding waiting
   waiting-snoc rows r = total-snoc (counted (λ r. pending r && covers h r && eqb (r .proposer) a && eqb (r .side) side)) rows r
 
-  -- register adds the row's quantity
-  pub waiting-register : (rows : List Row) (q : Request)
-      → waiting side (rows ++ proposed q ∷ []) a h ≡ waiting side rows a h + weight side a h (proposed q)
-  waiting-register rows q = waiting-snoc rows (proposed q)
-
   -- a pending row that is confirmed or withdrawn no longer waits
   pub waiting-end : (rows : List Row) (n status : ℕ) → pending (nth rows n noRow) ≡ true → eqb status 1 ≡ false
       → waiting side (mark n status rows) a h + weight side a h (nth rows n noRow) ≡ waiting side rows a h
@@ -158,6 +156,16 @@ module _ (side a h : ℕ) where
       go true = refl
       go false = refl
 
+  waiting-idle : (r : Row) → (pending r ≡ true) × (eqb (r .proposer) a ≡ false) → waitingShare side a h r ≡ 0
+  waiting-idle r e = waiting-held r (e .0) ∙ weight-of-others r (e .1)
+
+  -- rows that others add do not wait on the account
+  pub waiting-added : (rows : List Row) {added : List Row} → Each (λ r. (pending r ≡ true) × (eqb (r .proposer) a ≡ false)) added
+      → waiting side (rows ++ added) a h ≡ waiting side rows a h
+  unfolding waiting waitingShare
+  waiting-added rows {added} e =
+      omega (arith, total-append (waitingShare side a h) rows added, total-same (waitingShare side a h) (λ r. 0) waiting-idle e, total-zero added)
+
   -- what waits on another account than the proposer stands
   pub waiting-of-others : (rows : List Row) (n status : ℕ) → pending (nth rows n noRow) ≡ true → eqb status 1 ≡ false
       → eqb (nth rows n noRow .proposer) a ≡ false → waiting side (mark n status rows) a h ≡ waiting side rows a h
@@ -166,18 +174,14 @@ module _ (side a h : ℕ) where
 
 -- ---- an account hour
 
--- register: net stands, the row is one more of the pending sales or purchases
-pub hour-register : (rows : List Row) (q : Request) (a h : ℕ)
-    → accountHour (rows ++ proposed q ∷ []) a h
-    ≡ record {
-      net = netOf rows a h;
-      sales = kwh (pendingSales rows a h + weight 1 a h (proposed q));
-      purchases = kwh (pendingPurchases rows a h + weight 2 a h (proposed q));
-    }
-hour-register rows q a h =
-    let b = moved-register buyer a h rows q in
-    let s = moved-register seller a h rows q in
-    rw (b, s, waiting-register 1 a h rows q, waiting-register 2 a h rows q)
+-- rows that others add leave an account's hour
+pub hour-added : (rows : List Row) {added : List Row} (a h : ℕ) → Each (λ r. (pending r ≡ true) × (eqb (r .proposer) a ≡ false)) added
+    → accountHour (rows ++ added) a h ≡ accountHour rows a h
+hour-added rows a h e =
+    let waits = each-map (λ r w. w .0) e in
+    let b = moved-added buyer a h rows waits in
+    let s = moved-added seller a h rows waits in
+    rw (b, s, waiting-added 1 a h rows e, waiting-added 2 a h rows e)
 
 -- confirm, for another account than the proposer: the row's quantity is bought or sold, what waits stands
 pub hour-confirm : (rows : List Row) (n a h : ℕ) → pending (nth rows n noRow) ≡ true → eqb (nth rows n noRow .proposer) a ≡ false
@@ -201,6 +205,24 @@ pub hour-takes : (rows : List Row) (r : Row) (a h : ℕ) → accountHour (rows +
 unfolding takes
 hour-takes rows r a h =
     rw (moved-snoc buyer a h rows r, moved-snoc seller a h rows r, waiting-snoc 1 a h rows r, waiting-snoc 2 a h rows r)
+
+-- with rows more it is the hour after those trades
+pub hour-takes-all : (rows added : List Row) (a h : ℕ) → accountHour (rows ++ added) a h ≡ takesAll a h (accountHour rows a h) added
+hour-takes-all rows [] a h = rw append-nil
+hour-takes-all rows (r ∷ rs) a h =
+    ap (λ (l : List Row). accountHour l a h) (sym (append-assoc rows (r ∷ []) rs))
+    ∙ hour-takes-all (rows ++ r ∷ []) rs a h
+    ∙ ap (λ (x : AccountHour). takesAll a h x rs) (hour-takes rows r a h)
+
+-- so a margin that they break is broken with them in, and so exposed are operators with them in
+pub broken-added : (u : Setup) (rows added : List Row) (a : ℕ) → brokenHour u (rows ++ added) a ≡ brokenBy u rows added a
+unfolding brokenHour brokenBy
+broken-added u rows added a =
+    ap (λ (x : ℕ → AccountHour). find (λ h. not (keepsMargins (marginsAt u a h) (x h))) (upTo (periods u))) (λ i h. hour-takes-all rows added a h i)
+
+pub exposure-added : (u : Setup) (rows added : List Row) (o : ℕ) → exposure u (rows ++ added) o ≡ exposureWith u rows added o
+exposure-added u rows added o =
+    ap (λ (x : ℕ → ℕ → AccountHour). exposureOf u (estimateAt u) x o) (λ i a h. hour-takes-all rows added a h i)
 
 -- confirm, for another account than the proposer: it takes the row as one that is confirmed
 pub hour-takes-confirmed : (rows : List Row) (n a h : ℕ) → pending (nth rows n noRow) ≡ true → eqb (nth rows n noRow .proposer) a ≡ false

@@ -13,7 +13,7 @@ use lib.Signed.{_≤ℤ_}
 use borrow.Author.Tests.{ltb-true, leb-true, le-leb}
 use Rattle.units.specs.declared.CentsPerMwh.{CentsPerMwh}
 use Rattle.units.specs.Units.{kwh}
-use Rattle.rules.specs.declared.Account.{Account}
+use Rattle.rules.specs.declared.Margins.{Margins}
 use Rattle.rules.specs.declared.Net.{Net}
 use Rattle.rules.specs.declared.AccountHour.{AccountHour}
 use Rattle.rules.specs.declared.Position.the-variants.{Long, Short}
@@ -55,30 +55,30 @@ module _ (x : AccountHour) where
       rw difference-more (net-below (record { bought = kwh (x .net .bought .0 + x .purchases .0); sold = x .net .sold }) upper)
 
 -- minus lower margin ≤ low, high ≤ upper margin
-pub keeps-margins-signed : (account : Account) (x : AccountHour)
-    → (keepsMargins account x ≡ true) ↔ ((negℤ (pos (account .lower .0)) ≤ℤ low x) × (high x ≤ℤ pos (account .upper .0)))
+pub keeps-margins-signed : (margins : Margins) (x : AccountHour)
+    → (keepsMargins margins x ≡ true) ↔ ((negℤ (pos (margins .lower .0)) ≤ℤ low x) × (high x ≤ℤ pos (margins .upper .0)))
 unfolding keepsMargins
-keeps-margins-signed account x =
-    let l = keeps-lower-margin x (account .lower .0) in
-    let u = keeps-upper-margin x (account .upper .0) in
+keeps-margins-signed margins x =
+    let l = keeps-lower-margin x (margins .lower .0) in
+    let u = keeps-upper-margin x (margins .upper .0) in
     let b = and-both
-    (leb (x .net .sold .0 + x .sales .0) (x .net .bought .0 + account .lower .0))
-    (leb (x .net .bought .0 + x .purchases .0) (x .net .sold .0 + account .upper .0)) in
+    (leb (x .net .sold .0 + x .sales .0) (x .net .bought .0 + margins .lower .0))
+    (leb (x .net .bought .0 + x .purchases .0) (x .net .sold .0 + margins .upper .0)) in
     ((λ e. (l .0 (b .0 e .0), u .0 (b .0 e .1))), (λ h. b .1 (l .1 (h .0), u .1 (h .1))))
 
 -- net itself is within them: low is at most net, high at least net
-pub net-keeps-margins : (account : Account) (x : AccountHour) → keepsMargins account x ≡ true
-    → (negℤ (pos (account .lower .0)) ≤ℤ figure (x .net)) × (figure (x .net) ≤ℤ pos (account .upper .0))
+pub net-keeps-margins : (margins : Margins) (x : AccountHour) → keepsMargins margins x ≡ true
+    → (negℤ (pos (margins .lower .0)) ≤ℤ figure (x .net)) × (figure (x .net) ≤ℤ pos (margins .upper .0))
 unfolding keepsMargins
-net-keeps-margins account x h =
+net-keeps-margins margins x h =
     let n = x .net in
     let b = and-both
-    (leb (n .sold .0 + x .sales .0) (n .bought .0 + account .lower .0))
-    (leb (n .bought .0 + x .purchases .0) (n .sold .0 + account .upper .0)) .0 h in
-    let l : n .sold .0 + x .sales .0 ≤ n .bought .0 + account .lower .0 = leb-true _ _ (b .0) in
-    let u : n .bought .0 + x .purchases .0 ≤ n .sold .0 + account .upper .0 = leb-true _ _ (b .1) in (
-      net-above n (account .lower .0) .0 (le-leb (n .sold .0) (n .bought .0 + account .lower .0) (omega arith)),
-      net-below n (account .upper .0) .0 (le-leb (n .bought .0) (n .sold .0 + account .upper .0) (omega arith)),
+    (leb (n .sold .0 + x .sales .0) (n .bought .0 + margins .lower .0))
+    (leb (n .bought .0 + x .purchases .0) (n .sold .0 + margins .upper .0)) .0 h in
+    let l : n .sold .0 + x .sales .0 ≤ n .bought .0 + margins .lower .0 = leb-true _ _ (b .0) in
+    let u : n .bought .0 + x .purchases .0 ≤ n .sold .0 + margins .upper .0 = leb-true _ _ (b .1) in (
+      net-above n (margins .lower .0) .0 (le-leb (n .sold .0) (n .bought .0 + margins .lower .0) (omega arith)),
+      net-below n (margins .upper .0) .0 (le-leb (n .bought .0) (n .sold .0 + margins .upper .0) (omega arith)),
     )
 
 -- ---- what net lies below zero, the reading of a net position, the account's limit

@@ -6,7 +6,7 @@ use native.Mathlib.Omega.{arith}
 use lib.ListN.{length}
 use borrow.Author.Needs.{needs}
 use Rattle.rules.specs.Basics.{every}
-use Rattle.rules.specs.Books.{Setup, accountCount}
+use Rattle.rules.specs.Books.{Setup, accountCount, periods}
 use Rattle.image.specs.Image.{rowIn}
 use Rattle.image.specs.Valid.{rowOk}
 use Rattle.image.specs.Cells.{rowsFrom}
@@ -17,7 +17,7 @@ use Rattle.audit.proofs.checks.rows_ok.Tie as tie
 abbrev Inv-loop : tie.InvT-loop
 Inv-loop s at n accounts hours ok₀ k₀ left₀ ok k left =
     (k + 18 * left ≤ length s)
-    × ((u : Setup) → accountCount u ≡ accounts → u .hours ≡ hours → every (rowOk u) (rowsFrom s at n) ≡ (ok && every (rowOk u) (rowsFrom s k left)))
+    × ((u : Setup) → accountCount u ≡ accounts → periods u ≡ hours → every (rowOk u) (rowsFrom s at n) ≡ (ok && every (rowOk u) (rowsFrom s k left)))
 
 abbrev μ-loop : tie.MeasureT-loop
 μ-loop s at n accounts hours ok₀ k₀ left₀ ok k left = left

@@ -6,7 +6,7 @@ use native.Mathlib.Omega.{arith}
 use lib.ListN.{length}
 use borrow.Author.Needs.{needs}
 use Rattle.rules.specs.Basics.{every}
-use Rattle.rules.specs.Books.{Setup, pointCount}
+use Rattle.rules.specs.Books.{Setup, pointCount, periods}
 use Rattle.image.specs.Image.{scheduleIn}
 use Rattle.image.specs.Valid.{scheduleOk}
 use Rattle.image.specs.Cells.{schedulesFrom}
@@ -17,7 +17,7 @@ use Rattle.audit.proofs.checks.schedules_ok.Tie as tie
 abbrev Inv-loop : tie.InvT-loop
 Inv-loop s at n points hours ok₀ k₀ left₀ ok k left =
     (k + 11 * left ≤ length s)
-    × ((u : Setup) → pointCount u ≡ points → u .hours ≡ hours → every (scheduleOk u) (schedulesFrom s at n) ≡ (ok && every (scheduleOk u) (schedulesFrom s k left)))
+    × ((u : Setup) → pointCount u ≡ points → periods u ≡ hours → every (scheduleOk u) (schedulesFrom s at n) ≡ (ok && every (scheduleOk u) (schedulesFrom s k left)))
 
 abbrev μ-loop : tie.MeasureT-loop
 μ-loop s at n points hours ok₀ k₀ left₀ ok k left = left

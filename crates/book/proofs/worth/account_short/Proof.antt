@@ -6,9 +6,10 @@ use borrow.Author.Needs.{needs}
 use Rattle.rules.specs.declared.Counts.{Counts}
 use Rattle.rules.specs.Basics.{total, counting}
 use Rattle.rules.specs.Limits.{mostEnergy, mostPrice, mostHours}
+use Rattle.rules.specs.Books.{periods}
 use Rattle.rules.proofs.Basics.CountingLaws.{sum-begins, sum-next, sum-done}
 use Rattle.image.specs.Valid.{bookIn}
-use Rattle.book.specs.Worth.{netWith}
+use Rattle.book.specs.Worth.{addedRows, netWith}
 use Rattle.book.proofs.StateLaws.{book-length, book-is-sound}
 use Rattle.book.proofs.WorthParts.{hours-in}
 use Rattle.book.proofs.ShortLaws.{hourShort, hour-short-read, short-most, short-by-hour}
@@ -16,18 +17,18 @@ use Rattle.book.proofs.worth.account_short.Statement.{statement}
 use Rattle.book.proofs.worth.account_short.Tie as tie
 
 abbrev Inv-loop : tie.InvT-loop
-Inv-loop book account trade n sum₀ hour₀ sum hour =
+Inv-loop book account added n sum₀ hour₀ sum hour =
     let b = bookIn book in
-    (n .hours ≡ b .setup .hours)
+    (n .hours ≡ periods (b .setup))
     × (n .hours ≤ mostHours)
     × (1 ≤ hour)
     × (hour ≤ n .hours + 1)
     × (sum .0 ≤ (hour - 1) * (2 * mostEnergy * mostPrice))
-    × (sum .0 + total (hourShort (b .setup) (netWith (b .part .rows) trade) account) (counting (b .setup .hours + 1 - hour) hour)
-    ≡ total (hourShort (b .setup) (netWith (b .part .rows) trade) account) (counting (b .setup .hours) 1))
+    × (sum .0 + total (hourShort (b .setup) (netWith (b .part .rows) (addedRows added)) account) (counting (periods (b .setup) + 1 - hour) hour)
+    ≡ total (hourShort (b .setup) (netWith (b .part .rows) (addedRows added)) account) (counting (periods (b .setup)) 1))
 
 abbrev μ-loop : tie.MeasureT-loop
-μ-loop book account trade n sum₀ hour₀ sum hour = n .hours + 1 - hour
+μ-loop book account added n sum₀ hour₀ sum hour = n .hours + 1 - hour
 
 counts-requires : tie.Need-counts-requires Inv-loop μ-loop
 counts-requires c κs = omega (arith, book-length _ (c .before .pre .0))

@@ -3,8 +3,9 @@ use mathlib.Core.Path.{ap, _∙_}
 use native.Mathlib.Omega.{arith}
 use borrow.Author.Needs.{needs}
 use Rattle.rules.specs.Opening.{accountsFrom}
+use Rattle.book.specs.Worth.{addedRows}
 use Rattle.book.proofs.StateLaws.{book-length}
-use Rattle.book.proofs.WorthParts.{exposure-joined}
+use Rattle.book.proofs.WorthParts.{exposure-joined, takeable-slight}
 use Rattle.book.proofs.worth.exposure_with.Statement.{statement}
 use Rattle.book.proofs.worth.exposure_with.Tie as tie
 
@@ -18,7 +19,7 @@ accounts-from-requires : tie.Need-accounts-from-requires
 accounts-from-requires c κs = search needs
 
 short-worth-requires : tie.Need-short-worth-requires
-short-worth-requires c κs = search needs
+short-worth-requires c κs = let pre = c .before .before .before .before .pre in (pre .0, takeable-slight _ (pre .1))
 
 slice-aggregate-sales-worth : tie.Need-slice-aggregate-sales-worth
 slice-aggregate-sales-worth c = search needs
@@ -26,11 +27,11 @@ slice-aggregate-sales-worth c = search needs
 sales-worth-requires : tie.Need-sales-worth-requires
 sales-worth-requires c κs = search needs
 
-slice-aggregate-sale-of : tie.Need-slice-aggregate-sale-of
-slice-aggregate-sale-of c = search needs
+slice-aggregate-added-sale : tie.Need-slice-aggregate-added-sale
+slice-aggregate-added-sale c = search needs
 
-sale-of-requires : tie.Need-sale-of-requires
-sale-of-requires c κs =
+added-sale-requires : tie.Need-added-sale-requires
+added-sale-requires c κs =
     let from = c .before .before .before .before in
     let pre = c .before .before .before .before .before .before .before .before .pre in
     (pre .0, c .before .before .before .before .before .before .price-sums .ensures, from .accounts-from .ensures ∙ ap accountsFrom (from .before .counts .ensures), pre .1)
@@ -43,11 +44,11 @@ plus-requires-2 c κs = search needs
 
 returns : tie.Need-returns
 returns c =
-    let own = c .before .before .sale-of .ensures in
+    let own = c .before .before .added-sale .ensures in
     let waits = c .before .before .before .before .sales-worth .ensures in
     let below = c .before .before .before .before .before .before .short-worth .ensures in
     let start = c .before .before .before .before .before .before .before .before .before .before .before in (
-      exposure-joined _ (start .pre .0) (start .args .operator) (start .args .trade) (start .pre .1) _ _ _ _ _ (below .0) (waits .0) (own .0) (c .before .plus .ensures) (c .plus2 .ensures),
+      exposure-joined _ (start .pre .0) (start .args .operator) (addedRows (start .args .added)) (start .pre .1) _ _ _ _ _ (below .0) (waits .0) (own .0) (c .before .plus .ensures) (c .plus2 .ensures),
       omega (arith, c .plus2 .ensures, c .before .plus .ensures, below .1, waits .1, own .1),
     )
 
@@ -61,8 +62,8 @@ exposure-with-spec =
     short-worth-requires
     slice-aggregate-sales-worth
     sales-worth-requires
-    slice-aggregate-sale-of
-    sale-of-requires
+    slice-aggregate-added-sale
+    added-sale-requires
     plus-requires
     plus-requires-2
     returns)

@@ -7,6 +7,7 @@ use borrow.Author.Needs.{needs}
 use Rattle.units.specs.declared.CentsPerMwh.{CentsPerMwh}
 use Rattle.rules.specs.declared.Counts.{Counts}
 use Rattle.rules.specs.Limits.{mostHours}
+use Rattle.rules.specs.Books.{periods}
 use Rattle.image.specs.Valid.{bookIn}
 use Rattle.book.proofs.StateLaws.{book-length, book-is-sound}
 use Rattle.book.proofs.WorthParts.{SummedTo, summed-first, summed-next, summed-done, hours-in, prices-most, cheap-in}
@@ -15,7 +16,7 @@ use Rattle.book.proofs.worth.fill_prices.Tie as tie
 
 abbrev Inv-loop : tie.InvT-loop
 Inv-loop sums₀ book n hour₀ sums hour =
-    (n .hours ≡ bookIn book .setup .hours) × (n .hours ≤ mostHours) × (1 ≤ hour) × (hour ≤ n .hours + 1) × SummedTo (bookIn book .setup) sums hour
+    (n .hours ≡ periods (bookIn book .setup)) × (n .hours ≤ mostHours) × (1 ≤ hour) × (hour ≤ n .hours + 1) × SummedTo (bookIn book .setup) sums hour
 
 abbrev μ-loop : tie.MeasureT-loop
 μ-loop sums₀ book n hour₀ sums hour = n .hours + 1 - hour

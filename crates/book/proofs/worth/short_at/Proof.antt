@@ -1,44 +1,55 @@
--- Where the trade moves nothing of the account the net that was read stands, else the trade is taken; both differ by what the two sums differ.
-use Prim.Native.Nat.{_-_}
-use mathlib.Core.Path.{ap, _∙_}
+-- The net that was read, by itself or with the one trade taken, differs by what the two sums differ.
 use native.Mathlib.Omega.{arith}
 use borrow.Author.Needs.{needs}
-use Rattle.rules.specs.declared.AccountHour.{AccountHour}
-use Rattle.book.proofs.ShortLaws.{net-small, short-moved, short-still}
+use Rattle.rules.specs.Books.{noRow}
+use Rattle.rules.proofs.Basics.Searches.{each-at}
+use Rattle.book.proofs.ShortLaws.{net-small, short-alone, short-one}
 use Rattle.book.proofs.worth.short_at.Statement.{statement}
 use Rattle.book.proofs.worth.short_at.Tie as tie
 
 net-at-requires : tie.Need-net-at-requires
 net-at-requires c κs = search needs
 
-take-requires : tie.Need-take-requires
-take-requires c κs =
-    let read = c .before .before .before .before in
-    let start = read .before .before in
-    let small = net-small _ (start .pre .0) (start .args .account) (start .args .hour) (start .pre .1) (start .pre .2) _ (read .net-at .ensures) in
-    (omega (arith, start .pre .3), omega (arith, start .pre .3), omega (arith, start .pre .3), omega (arith, start .pre .3))
+enum-told : tie.Need-enum-told
+enum-told c = search needs
 
 short-requires : tie.Need-short-requires
 short-requires c κs = search needs
 
+enum-known-added : tie.Need-enum-known-added
+enum-known-added c = search needs
+
+short-with-requires : tie.Need-short-with-requires
+short-with-requires c κs =
+    let read = c .before .before .before in
+    let start = read .before .before in
+    let small = net-small _ (start .pre .0) (start .args .account) (start .args .hour) (start .pre .1) (start .pre .2) _ (read .net-at .ensures) in
+    (small .0, small .1, each-at noRow 0 (rw (c .before .added .given .1) at (start .pre .3)) (omega arith))
+
 returns : tie.Need-returns
 returns c =
-    let read = c .before .before .before .before .before .before in
+    let read = c .before .before .before in
     let start = read .before .before in
-    short-moved _ (start .pre .0) (start .args .account) (start .args .hour) (start .pre .1) (start .pre .2) _ (read .net-at .ensures) (start .args .trade) (start .pre .3) _
-    (c .short .ensures ∙ ap (λ (x : AccountHour). x .net .sold .0 - x .net .bought .0) (c .before .take .ensures))
-
-short-requires-2 : tie.Need-short-requires-2
-short-requires-2 c κs = search needs
+    rw (c .before .enum-told .given .1)
+    (short-alone _ (start .pre .0) (start .args .account) (start .args .hour) (start .pre .1) (start .pre .2) _ (read .net-at .ensures) _ (c .short .ensures))
 
 returns-2 : tie.Need-returns-2
 returns-2 c =
-    let read = c .before .before .before .before .before in
+    let one = c .before .before in
+    let read = one .before .before in
     let start = read .before .before in
-    short-still _ (start .pre .0) (start .args .account) (start .args .hour) (start .pre .1) (start .pre .2) _ (read .net-at .ensures) (start .args .trade) (start .pre .3) _
-    (c .before .if1 .left) (c .short2 .ensures)
+    rw (one .added .given .1)
+    (short-one _ (start .pre .0) (start .args .account) (start .args .hour) (start .pre .1) (start .pre .2) _ (read .net-at .ensures) _ _
+    (each-at noRow 0 (rw (one .added .given .1) at (start .pre .3)) (omega arith)) (c .short-with .ensures))
 
 pub short-at-spec : {M : Type 1} → statement M
 short-at-spec =
     tie.close
-    (tie.spec net-at-requires take-requires short-requires returns short-requires-2 returns-2)
+    (tie.spec
+    net-at-requires
+    enum-told
+    short-requires
+    enum-known-added
+    short-with-requires
+    returns
+    returns-2)

@@ -10,7 +10,7 @@ use Rattle.rules.specs.Books.{accountCount}
 use Rattle.rules.specs.Opening.{countsIn, accountsFrom}
 use Rattle.rules.proofs.Basics.CountingLaws.{sum-begins, sum-next, sum-done}
 use Rattle.image.specs.Valid.{bookIn}
-use Rattle.book.specs.Worth.{shortShare, netWith}
+use Rattle.book.specs.Worth.{addedRows, shortShare, netWith}
 use Rattle.book.proofs.StateLaws.{book-length, book-is-sound}
 use Rattle.book.proofs.WorthParts.{accounts-in}
 use Rattle.book.proofs.ShortLaws.{short-by-account}
@@ -18,7 +18,7 @@ use Rattle.book.proofs.worth.short_worth.Statement.{statement}
 use Rattle.book.proofs.worth.short_worth.Tie as tie
 
 abbrev Inv-loop : tie.InvT-loop
-Inv-loop book operator trade n from sum₀ account₀ sum account =
+Inv-loop book operator added n from sum₀ account₀ sum account =
     let b = bookIn book in
     (n .accounts ≡ accountCount (b .setup))
     × (n .accounts ≤ mostAccounts)
@@ -26,11 +26,11 @@ Inv-loop book operator trade n from sum₀ account₀ sum account =
     × (1 ≤ account)
     × (account ≤ n .accounts + 1)
     × (sum .0 ≤ (account - 1) * (mostHours * (2 * mostEnergy * mostPrice)))
-    × (sum .0 + total (shortShare (b .setup) (netWith (b .part .rows) trade) operator) (counting (accountCount (b .setup) + 1 - account) account)
-    ≡ total (shortShare (b .setup) (netWith (b .part .rows) trade) operator) (counting (accountCount (b .setup)) 1))
+    × (sum .0 + total (shortShare (b .setup) (netWith (b .part .rows) (addedRows added)) operator) (counting (accountCount (b .setup) + 1 - account) account)
+    ≡ total (shortShare (b .setup) (netWith (b .part .rows) (addedRows added)) operator) (counting (accountCount (b .setup)) 1))
 
 abbrev μ-loop : tie.MeasureT-loop
-μ-loop book operator trade n from sum₀ account₀ sum account = n .accounts + 1 - account
+μ-loop book operator added n from sum₀ account₀ sum account = n .accounts + 1 - account
 
 counts-requires : tie.Need-counts-requires Inv-loop μ-loop
 counts-requires c κs = omega (arith, book-length _ (c .before .pre .0))

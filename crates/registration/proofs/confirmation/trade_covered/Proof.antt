@@ -2,6 +2,7 @@
 -- of the account's operator with the trade taken.
 use mathlib.Core.Path.{_∙_}
 use borrow.Author.Needs.{needs}
+use Rattle.rules.specs.Basics.{nil, cons}
 use Rattle.registration.proofs.ConfirmationLaws.{purchase-frees-none, trade-takeable, sale-covered}
 use Rattle.registration.proofs.confirmation.trade_covered.Statement.{statement}
 use Rattle.registration.proofs.confirmation.trade_covered.Tie as tie
@@ -17,7 +18,7 @@ operator-of-requires c κs = search needs
 exposure-with-requires : tie.Need-exposure-with-requires
 exposure-with-requires c κs =
     let pre = c .before .before .before .before .pre in
-    (pre .0, trade-takeable _ _ (pre .0) (pre .1) _ (pre .2))
+    (pre .0, cons (trade-takeable _ _ (pre .0) (pre .1) _ (pre .2)) nil)
 
 in-force-covers-requires : tie.Need-in-force-covers-requires
 in-force-covers-requires c κs = search needs

@@ -1,10 +1,6 @@
--- A guarantee that is no lower covers what was covered; a lower one is held against the exposure with no trade taken.
-use mathlib.Core.Path.{refl, _∙_}
-use native.Mathlib.Omega.{arith}
-use Rattle.rules.specs.Books.{Book, noRow}
-use Rattle.image.specs.Valid.{bookIn}
-use Rattle.book.proofs.WorthLaws.{with-none}
-use Rattle.registration.proofs.CoverLaws.{settled-takeable}
+-- A guarantee that is no lower covers what was covered; a lower one is held against the exposure with nothing added.
+use mathlib.Core.Path.{_∙_}
+use Rattle.rules.specs.Basics.{nil}
 use Rattle.registration.proofs.LodgingLaws.{no-lower-covers}
 use borrow.Author.Needs.{needs}
 use Rattle.registration.proofs.lodging.covers_exposure.Statement.{statement}
@@ -20,24 +16,16 @@ returns c =
     let pre = start .pre in
     no-lower-covers _ (pre .0) (start .args .number) _ _ (pre .2) (pre .3) (held .lodged .ensures .0) (c .if1 .taken)
 
-no-trade-requires : tie.Need-no-trade-requires
-no-trade-requires c κs = search needs
-
 exposure-with-requires : tie.Need-exposure-with-requires
 exposure-with-requires c κs =
-    let pre = c .before .before .before .before .before .before .pre in
-    (pre .0, rw (c .no-trade .ensures) (settled-takeable _ noRow (omega arith) refl))
+    let pre = c .before .before .before .before .before .pre in
+    (pre .0, nil)
 
 is-covered-requires : tie.Need-is-covered-requires
 is-covered-requires c κs = search needs
 
 returns-2 : tie.Need-returns-2
-returns-2 c =
-    let owed = c .before in
-    let start = owed .before .before .before .before .before .before .before in
-    let book : Book = bookIn (start .args .book .now) in
-    c .is-covered .ensures
-    ∙ rw (owed .exposure-with .ensures .0, owed .before .no-trade .ensures, with-none (book .setup) (start .args .number) (book .part .rows))
+returns-2 c = c .is-covered .ensures ∙ rw (c .before .exposure-with .ensures .0)
 
 pub covers-exposure-spec : {M : Type 1} → statement M
 covers-exposure-spec =
@@ -45,7 +33,6 @@ covers-exposure-spec =
     (tie.spec
     lodged-requires
     returns
-    no-trade-requires
     exposure-with-requires
     is-covered-requires
     returns-2)

@@ -2,34 +2,36 @@
 use Prim.Native.Nat.{_+_, _-_, _≤_}
 use mathlib.Core.Path.{_≡_, _∙_, sym, ap}
 use mathlib.Core.Bool.{not}
+use mathlib.Core.List.{[], _∷_}
 use native.Mathlib.Omega.{arith}
 use borrow.Author.Needs.{needs}
 use Rattle.rules.specs.Basics.{find, counting}
 use Rattle.rules.specs.Limits.{mostHours}
-use Rattle.rules.specs.Books.{accountAt}
+use Rattle.rules.specs.Books.{accountAt, marginsOf}
+use Rattle.rules.specs.Registration.{brokenBy}
 use Rattle.image.specs.Valid.{bookIn}
-use Rattle.book.proofs.BookRows.{setup-tabled, account-read, accounts-read, hours-few}
-use Rattle.registration.specs.Margins.{brokenBy, broken}
+use Rattle.book.proofs.BookRows.{setup-tabled, margins-read, accounts-read, hours-few}
+use Rattle.registration.specs.Margins.{broken}
 use Rattle.registration.proofs.SearchLaws.{find-done, find-here, find-next}
 use Rattle.registration.proofs.MarginLaws.{hour-room, breaks, broken-by-span, breaks-tested}
 use Rattle.registration.proofs.margins.first_broken.Statement.{statement}
 use Rattle.registration.proofs.margins.first_broken.Tie as tie
 
 abbrev Inv-loop : tie.InvT-loop
-Inv-loop book waits trade number owner hour₀ hour =
+Inv-loop book waits trade number own hour₀ hour =
     let b = bookIn book in
-    (owner ≡ accountAt (b .setup) number)
+    (own ≡ marginsOf (accountAt (b .setup) number))
     × (trade .first ≤ hour)
     × (hour ≤ trade .last + 1)
     × (trade .last ≤ mostHours)
-    × (brokenBy (b .setup) (b .part .rows) trade number
+    × (brokenBy (b .setup) (b .part .rows) (trade ∷ []) number
     ≡ find (breaks (b .setup) (b .part .rows) trade number) (counting (trade .last + 1 - hour) hour))
 
 abbrev μ-loop : tie.MeasureT-loop
-μ-loop book waits trade number owner hour₀ hour = trade .last + 1 - hour
+μ-loop book waits trade number own hour₀ hour = trade .last + 1 - hour
 
-account-requires : tie.Need-account-requires Inv-loop μ-loop
-account-requires c κs =
+margins-requires : tie.Need-margins-requires Inv-loop μ-loop
+margins-requires c κs =
     let pre = c .before .before .pre in
     (setup-tabled _ (pre .0) .whole, pre .3, accounts-read _ (pre .0) _ (pre .4) .0)
 
@@ -37,7 +39,7 @@ loop-holds : tie.Need-loop-holds Inv-loop μ-loop
 loop-holds c =
     let start = c .before .before .before in
     let pre = start .pre in (
-      account-read _ (pre .0) _ (start .args .number) (c .account .ensures),
+      margins-read _ (pre .0) _ (start .args .number) (c .margins .ensures),
       search needs,
       search needs,
       omega (arith, hours-few _ (pre .0)),
@@ -95,7 +97,7 @@ first-broken-spec =
     (tie.spec
     Inv-loop
     μ-loop
-    account-requires
+    margins-requires
     loop-holds
     held-hour-requires
     take-requires

@@ -1,6 +1,7 @@
 -- A purchase that waits exposes nobody. Of a sale, what is owed is the exposure of the account's operator with the row taken.
 use mathlib.Core.Path.{_∙_}
 use borrow.Author.Needs.{needs}
+use Rattle.rules.specs.Basics.{nil, cons}
 use Rattle.image.proofs.Keeping.Easing.{purchase-exposes-none}
 use Rattle.registration.proofs.CoverLaws.{still-covered}
 use Rattle.registration.proofs.proposal.row_covered.Statement.{statement}
@@ -15,7 +16,7 @@ operator-of-requires : tie.Need-operator-of-requires
 operator-of-requires c κs = search needs
 
 exposure-with-requires : tie.Need-exposure-with-requires
-exposure-with-requires c κs = search needs
+exposure-with-requires c κs = let pre = c .before .before .before .before .pre in (pre .0, cons (pre .1) nil)
 
 in-force-covers-requires : tie.Need-in-force-covers-requires
 in-force-covers-requires c κs = search needs

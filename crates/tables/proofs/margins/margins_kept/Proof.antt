@@ -7,7 +7,7 @@ use borrow.Author.Needs.{needs}
 use Rattle.rules.specs.declared.Counts.{Counts}
 use Rattle.rules.specs.declared.Row.{Row}
 use Rattle.rules.specs.Basics.{every, nth, counting}
-use Rattle.rules.specs.Books.{noAccount}
+use Rattle.rules.specs.Books.{noAccount, marginsOf}
 use Rattle.rules.specs.Opening.{countsIn, setupOf, accountsIn}
 use Rattle.rules.specs.Limits.{mostHours}
 use Rattle.rules.proofs.Basics.CountingLaws.{every-done, every-next, every-fails, every-same}
@@ -25,7 +25,7 @@ Inv-loop book table n number₀ number =
     × (number ≤ countsIn book .accounts + 1)
     × ((rows : List Row) → SumsOf mostHours rows table
     → marginsKept (setupOf book) rows
-    ≡ every (λ a. accountKeeps rows (nth (accountsIn book) a noAccount) (countsIn book .hours) a) (counting (countsIn book .accounts + 1 - number) number))
+    ≡ every (λ a. accountKeeps rows (marginsOf (nth (accountsIn book) a noAccount)) (countsIn book .hours) a) (counting (countsIn book .accounts + 1 - number) number))
 
 abbrev μ-loop : tie.MeasureT-loop
 μ-loop book table n number₀ number = countsIn book .accounts + 1 - number
@@ -43,8 +43,8 @@ loop-holds c =
       λ rows sums. margins-by-account _ rows ∙ every-same _ _ _ _ (omega arith),
     )
 
-account-requires : tie.Need-account-requires Inv-loop μ-loop
-account-requires c κs = search needs
+margins-requires : tie.Need-margins-requires Inv-loop μ-loop
+margins-requires c κs = search needs
 
 hours-kept-requires : tie.Need-hours-kept-requires Inv-loop μ-loop
 hours-kept-requires c κs = search needs
@@ -59,7 +59,7 @@ loop-again : tie.Need-loop-again Inv-loop μ-loop
 loop-again c =
     let l = c .before .before .before .before .before .loop in
     let kept = c .before .hours-kept in
-    let read = c .before .before .account .ensures in (
+    let read = c .before .before .margins .ensures in (
       l .inv .0,
       l .inv .1,
       search needs,
@@ -73,7 +73,7 @@ returns : tie.Need-returns Inv-loop μ-loop
 returns c rows sums =
     let l = c .before .before .before .before .before .loop in
     let kept = c .before .hours-kept in
-    let read = c .before .before .account .ensures in
+    let read = c .before .before .margins .ensures in
     sym (l .inv .4 rows sums
     ∙ every-fails _ _ _ (omega arith) (account-kept rows _ _ _ _ _ read (l .inv .1) (kept .ensures rows sums) ∙ c .if2 .left))
 
@@ -88,7 +88,7 @@ margins-kept-spec =
     μ-loop
     counts-requires
     loop-holds
-    account-requires
+    margins-requires
     hours-kept-requires
     add-number
     loop-less
