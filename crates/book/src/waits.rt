@@ -15,7 +15,7 @@ use crate::state::PENDING;
 use crate::state::row_count;
 use crate::state::row_place;
 use image::cells::add_range;
-use image::layout::STATUS_IN;
+use image::rows::STATUS_IN;
 use image::rows::row_at;
 use rules::AccountHour;
 use rules::Row;

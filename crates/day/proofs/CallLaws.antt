@@ -13,11 +13,11 @@ use Rattle.rules.specs.declared.Reading.the-variants.{Read, Unread}
 use Rattle.rules.specs.Basics.{bit}
 use Rattle.rules.specs.Verdicts.{refused}
 use Rattle.rules.specs.Requests.{room, reading, fieldBytes, write}
-use Rattle.rules.specs.Calls.{Call, step}
+use Rattle.rules.specs.Calls.{Call, Answer, carried, step}
 use Rattle.rules.proofs.Records.RoundTrip.{read-writes-back}
-use Rattle.image.specs.Valid.{isBook, bookIn}
+use Rattle.image.specs.Valid.{bookBytes, isBook, bookIn}
 use Rattle.settlement.specs.Settling.{settleRecord, settleCall}
-use Rattle.day.specs.Doors.{Answered, inBytes, callAnswer, callWith}
+use Rattle.day.specs.Doors.{callAnswer, callWith}
 use Rattle.day.proofs.DoorLaws.{call-on-book, call-on-no-book}
 use Rattle.day.proofs.Stages.{record-refused, call-refused}
 use Rattle.day.proofs.RequestLaws.{unread-checks, buffers-stay, other-kind, AnsweredSaying}
@@ -35,19 +35,19 @@ settle-record s q b e k = sym (read-writes-back s q b e) ∙ settle-bytes q k
 
 -- so that the call is the settle of what it was lent
 settle-answered : (s bytes prices results balances : List ℕ) (q : Request) → isBook s ≡ true → Bytes bytes → reading bytes ≡ Read q → q .kind ≡ 10
-    → callAnswer s (callWith bytes prices results balances) ≡ inBytes (step (bookIn s) (settleCall prices results balances))
+    → callAnswer s (callWith bytes prices results balances) ≡ carried bookBytes (step (bookIn s) (settleCall prices results balances))
 settle-answered s bytes prices results balances q h b e k =
     call-on-book s (callWith bytes prices results balances) h
-    ∙ ap (λ (x : List ℕ). inBytes (step (bookIn s) (callWith x prices results balances))) (settle-record bytes q b e k)
+    ∙ ap (λ (x : List ℕ). carried bookBytes (step (bookIn s) (callWith x prices results balances))) (settle-record bytes q b e k)
 
 -- ---- an answer in parts
 
 -- the outcome, and the bytes of the book and of the two buffers
-abbrev pub InParts : Answered → Outcome → List ℕ → List ℕ → List ℕ → Type 0
+abbrev pub InParts : Answer (List ℕ) → Outcome → List ℕ → List ℕ → List ℕ → Type 0
 InParts x o t results balances = (o ≡ x .outcome) × ((t ≡ x .book) × ((results ≡ x .results) × (balances ≡ x .balances)))
 
 -- the same, and the bytes are a book
-abbrev pub BookInParts : Answered → Outcome → List ℕ → List ℕ → List ℕ → Type 0
+abbrev pub BookInParts : Answer (List ℕ) → Outcome → List ℕ → List ℕ → List ℕ → Type 0
 BookInParts x o t results balances =
     (o ≡ x .outcome) × ((t ≡ x .book) × ((results ≡ x .results) × ((balances ≡ x .balances) × (isBook t ≡ true))))
 
@@ -72,7 +72,7 @@ module _ (s : List ℕ) (c : Call) (h : isBook s ≡ true) where
 -- of a settle
 pub settle-parts : (s bytes prices results balances : List ℕ) (q : Request) → isBook s ≡ true → Bytes bytes → reading bytes ≡ Read q → q .kind ≡ 10
     → (o : Outcome) (t newResults newBalances : List ℕ)
-    → BookInParts (inBytes (step (bookIn s) (settleCall prices results balances))) o t newResults newBalances
+    → BookInParts (carried bookBytes (step (bookIn s) (settleCall prices results balances))) o t newResults newBalances
     → BookInParts (callAnswer s (callWith bytes prices results balances)) o t newResults newBalances
 settle-parts s bytes prices results balances q h b e k o t newResults newBalances x =
     rw (settle-answered s bytes prices results balances q h b e k) x

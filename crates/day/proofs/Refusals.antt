@@ -13,9 +13,10 @@ use Rattle.rules.specs.Verdicts.{Check, _⇒_, _⇒↑_, applies, firstToApply,
 use Rattle.rules.specs.Books.{Book}
 use Rattle.rules.specs.Requests.{readChecks}
 use Rattle.rules.specs.Calls.{Call, inputChecks, stateChecks, checks, refusal, answer, step}
-use Rattle.rules.specs.Lists.{runs}
+use Rattle.rules.specs.Lists.{Run, runs}
 use Rattle.rules.proofs.Basics.Tests.{and-both}
-use Rattle.day.specs.Doors.{Answered, inBytes}
+use Rattle.rules.proofs.Lists.Carrying.{carriedRun}
+use Rattle.image.specs.Valid.{bookBytes}
 
 -- ---- the number of a check
 
@@ -58,14 +59,14 @@ applies-above (c ∷ cs) h r e =
 -- ---- a call, and a list of calls
 
 -- the verdict is not 1
-abbrev pub NotOne : Answered → Type 0
-NotOne x = numbers (x .outcome) .0 ≡ 1 → ⊥
+abbrev pub NotOne : {B : Type 0} → Run B → Type 0
+NotOne x = numbers (x .answer .outcome) .0 ≡ 1 → ⊥
 
 refusal-above : (b : Book) (c : Call) (r : Refusal) → refusal b c ≡ some r → 1 < refusalNumbers r .0
 unfolding refusal every
 refusal-above b c r e = applies-above (checks b c) (ap (every (ltb 1)) (ranks-of-a-call b c)) r e
 
-step-not-one : (b : Book) (c : Call) → NotOne (inBytes (step b c))
+step-not-one : (b : Book) (c : Call) → numbers (step b c .outcome) .0 ≡ 1 → ⊥
 unfolding step answer
 step-not-one b c h = go (refusal b c) refl h
   where
@@ -73,7 +74,7 @@ step-not-one b c h = go (refusal b c) refl h
     go (some r) e h = omega (arith, refusal-above b c r e)
     go none e h = omega arith
 
-pub runs-not-one : (b : Book) (cs : List Call) → Each NotOne (map inBytes (runs b cs))
+pub runs-not-one : (b : Book) (cs : List Call) → Each NotOne (map (carriedRun bookBytes) (runs step b cs))
 unfolding runs
 runs-not-one b [] = nil
 runs-not-one b (c ∷ cs) = cons (step-not-one b c) (runs-not-one (step b c .book) cs)

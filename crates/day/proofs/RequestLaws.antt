@@ -20,7 +20,7 @@ use Rattle.rules.specs.Verdicts.{_⇒_, _⇒↑_, firstToApply, checked, refuse
 use Rattle.rules.specs.Books.{Book, countsOf}
 use Rattle.rules.specs.Opening.{countsIn}
 use Rattle.rules.specs.Requests.{Kind, settle, kindNumber, kindOf, requestOf, readChecks, readingOf, reading, Fits, faultyBit, sameAccounts, rangeChecks}
-use Rattle.rules.specs.Calls.{Call, requestIn, kindIn, _∈_, inputChecks, refusal}
+use Rattle.rules.specs.Calls.{Call, Answer, refusedOn, requestIn, kindIn, _∈_, inputChecks, refusal}
 use Rattle.rules.proofs.Basics.Tests.{within-true}
 use Rattle.rules.proofs.Checks.Clearing.{checked-same, clear, spared, spared↑}
 use Rattle.rules.proofs.Checks.Passed.{kind-number}
@@ -29,7 +29,7 @@ use Rattle.image.specs.Valid.{isBook, bookIn, bookBytes}
 use Rattle.book.specs.Kinds.{decided, outcomeOn, bookAfter, Ready}
 use Rattle.book.proofs.BookRows.{counts-in}
 use Rattle.book.proofs.Answers.{Answered as KindAnswered}
-use Rattle.day.specs.Doors.{Answered, refusedOn, callAnswer}
+use Rattle.day.specs.Doors.{callAnswer}
 use Rattle.day.proofs.Stages.{input-refused, state-decides, call-refused, call-decided}
 
 -- ---- what a record reads as, and what its own checks find
@@ -108,7 +108,7 @@ module _ (s : List ℕ) (c : Call) (h : isBook s ≡ true) (q : Request) (e : re
     pub buffers-stay : (callAnswer s c .results ≡ c .results) × (callAnswer s c .balances ≡ c .balances)
     buffers-stay =
         let x = call-decided s c h other (refusal (bookIn s) c) refl in
-        (ap (λ (x : Answered). x .results) x, ap (λ (x : Answered). x .balances) x)
+        (ap (λ (x : Answer (List ℕ)). x .results) x, ap (λ (x : Answer (List ℕ)). x .balances) x)
 
 -- ---- a request that was read is ready where it is in range
 
@@ -157,14 +157,14 @@ module _ (q : Request) (s : List ℕ) (h : isBook s ≡ true) (low : 1 ≤ q .ki
   -- out of range
   pub refused-saying : (r : Refusal) → firstToApply (rangeChecks (countsOf (bookIn s .setup)) q) ≡ some r → AnsweredSaying q s (refused r) s
   refused-saying r f = (
-    (λ c e. ap (λ (x : Answered). x .outcome) (sym (range-answered s c h q e low high r f))),
-    ((λ c e. ap (λ (x : Answered). x .book) (sym (range-answered s c h q e low high r f))), h),
+    (λ c e. ap (λ (x : Answer (List ℕ)). x .outcome) (sym (range-answered s c h q e low high r f))),
+    ((λ c e. ap (λ (x : Answer (List ℕ)). x .book) (sym (range-answered s c h q e low high r f))), h),
   )
 
   -- in range: as its kind is answered
   pub kind-saying : firstToApply (rangeChecks (countsOf (bookIn s .setup)) q) ≡ none → (o : Outcome) (t : List ℕ)
       → KindAnswered (kindOf (q .kind)) s q o t → AnsweredSaying q s o t
   kind-saying f o t k = (
-    (λ c e. k .0 ∙ ap (λ (x : Answered). x .outcome) (sym (kind-answered s c h q e low high f))),
-    ((λ c e. k .1 .0 ∙ ap (λ (x : Answered). x .book) (sym (kind-answered s c h q e low high f))), k .1 .1),
+    (λ c e. k .0 ∙ ap (λ (x : Answer (List ℕ)). x .outcome) (sym (kind-answered s c h q e low high f))),
+    ((λ c e. k .1 .0 ∙ ap (λ (x : Answer (List ℕ)). x .book) (sym (kind-answered s c h q e low high f))), k .1 .1),
   )

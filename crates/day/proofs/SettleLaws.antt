@@ -17,7 +17,7 @@ use Rattle.rules.specs.Books.{Book, operatorCount}
 use Rattle.rules.specs.Requests.{Kind, settle, filled}
 use Rattle.rules.specs.Registration.{netOf}
 use Rattle.rules.specs.Settlement.{pricesIn, settled, balance, results, balances, balanceFigure, balanceBytes, figuresIn}
-use Rattle.rules.specs.Calls.{Call, Settled, kindIn, requestIn, workedOut, settles, refusal, answer, balancesAfter, _∈_, inputChecks, step}
+use Rattle.rules.specs.Calls.{Call, Settled, drawnUp, kindIn, requestIn, workedOut, settles, refusal, answer, balancesAfter, _∈_, inputChecks, step, settlement}
 use Rattle.rules.specs.Lists.{isAcceptance, accepts, acceptsAs}
 use Rattle.rules.proofs.Basics.Tests.{and-both}
 use Rattle.rules.proofs.Basics.Searches.{each-map, any-none, counting-length}
@@ -52,25 +52,25 @@ module _ (b : Book) (c : Call) where
   balances-many = length-map (upTo (operatorCount (b .setup))) _ ∙ counting-length (operatorCount (b .setup)) 1
 
   worked-go : (k : Kind) → k ≡ settle → settles k b c ≡ some worked
-  unfolding settles workedOut
+  unfolding settles drawnUp
   worked-go k e = rw e
 
   writes-go : (o : Option Refusal) → kindIn c ≡ settle → isAcceptance (answer b c o .outcome .verdict) ≡ true
-      → (answer b c o .settled ≡ some worked) × (answer b c o .balances ≡ filled (balanceBytes (worked .balances)) (c .balances))
-  unfolding answer
+      → (workedOut b c o ≡ some worked) × (answer b c o .balances ≡ filled (balanceBytes (worked .balances)) (c .balances))
+  unfolding answer workedOut
   writes-go (some r) e h = let z : _≡_ {A = ℕ} 0 1 = cc in absurd (omega arith)
   writes-go none e h =
       let w = worked-go (kindIn c) e in (w, ap (λ (o : Option Settled). balancesAfter o (c .balances)) w)
 
-  module _ (h : acceptsAs (settle ∷ []) b c ≡ true) where
-    both : (accepts b c ≡ true) × (kindIn c ∈ (settle ∷ []) ≡ true)
-    both = and-both (accepts b c) (kindIn c ∈ (settle ∷ [])) .0 h
+  module _ (h : acceptsAs step (settle ∷ []) b c ≡ true) where
+    both : (accepts step b c ≡ true) × (kindIn c ∈ (settle ∷ []) ≡ true)
+    both = and-both (accepts step b c) (kindIn c ∈ (settle ∷ [])) .0 h
 
     is-settle : kindIn c ≡ settle
     is-settle = the-kind (kindIn c) settle (both .1)
 
-    pub settle-writes : (step b c .settled ≡ some worked) × (step b c .balances ≡ filled (balanceBytes (worked .balances)) (c .balances))
-    unfolding step
+    pub settle-writes : (settlement b c ≡ some worked) × (step b c .balances ≡ filled (balanceBytes (worked .balances)) (c .balances))
+    unfolding step settlement
     settle-writes = writes-go (refusal b c) is-settle (both .0)
 
     -- every price is in range

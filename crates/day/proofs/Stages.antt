@@ -10,10 +10,10 @@ use Rattle.rules.specs.Limits.{mostHours, bookSize}
 use Rattle.rules.specs.Verdicts.{Check, applies, firstToApply, outcomeOf}
 use Rattle.rules.specs.Books.{Book}
 use Rattle.rules.specs.Requests.{Kind, register, confirm, withdraw, guarantee, openBatch, undo, keep, closeGate, schedule, settle, readChecks, unlessRefused}
-use Rattle.rules.specs.Calls.{Call, requestIn, kindIn, next, given, _∈_, inputChecks, stateChecks, checks, refusal, settles, answer, step}
+use Rattle.rules.specs.Calls.{Call, carried, refusedOn, requestIn, kindIn, next, given, _∈_, inputChecks, stateChecks, checks, refusal, settles, answer, step}
 use Rattle.image.specs.Valid.{isBook, bookBytes, bookIn}
 use Rattle.image.proofs.Round.{book-is-image}
-use Rattle.day.specs.Doors.{inBytes, refusedOn, callAnswer}
+use Rattle.day.specs.Doors.{callAnswer}
 use Rattle.day.proofs.DoorLaws.{call-on-book}
 
 -- ---- checks in a row
@@ -69,7 +69,7 @@ module _ (s : List ℕ) (c : Call) (h : isBook s ≡ true) where
   unfolding step answer
   call-refused r e = call-on-book s c h ∙ rw (e, ← book-is-image mostHours bookSize s h .0)
 
-  pub call-accepted : refusal (bookIn s) c ≡ none → callAnswer s c ≡ inBytes (answer (bookIn s) c none)
+  pub call-accepted : refusal (bookIn s) c ≡ none → callAnswer s c ≡ carried bookBytes (answer (bookIn s) c none)
   unfolding step
   call-accepted e = call-on-book s c h ∙ rw e
 

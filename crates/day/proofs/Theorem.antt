@@ -1,11 +1,10 @@
 -- Demand 3 whole. From an accepted opening the book's bytes are those of a valid plain book after every call, and the ledger agrees with
 -- that book; each clause is a law of such a book, said on its bytes.
-use Prim.Native.Nat.{ℕ, zero, suc, _+_}
+use Prim.Native.Nat.{ℕ}
 use mathlib.Core.Path.{_≡_, refl, sym, ap, _∙_, fun-ext}
 use mathlib.Core.List.{List, [], _∷_, _++_, map}
 use mathlib.Core.Option.{none}
 use mathlib.Core.Bool.{true}
-use lib.ListN.{length, take, drop}
 use lib.IntN.{pos}
 use Rattle.rules.specs.declared.Net.{Net}
 use Rattle.rules.specs.Basics.{sumOf, upTo, Each}
@@ -15,42 +14,30 @@ use Rattle.rules.specs.Opening.{setupOf, setupRefusal, openRefusal, opened}
 use Rattle.rules.specs.Requests.{settle}
 use Rattle.rules.specs.Registration.{netOf, figure}
 use Rattle.rules.specs.Settlement.{pricesIn, registeredTotal, figuresIn}
-use Rattle.rules.specs.Calls.{Call, step}
-use Rattle.rules.specs.Lists.{after, acceptsAs}
-use Rattle.rules.specs.Ledger.{newLedger, fedAll, ledgerNet}
+use Rattle.rules.specs.Calls.{Call, Answer, step}
+use Rattle.rules.specs.Lists.{runs, after, acceptsAs, UndoneBatch, CutOut}
+use Rattle.rules.specs.Ledger.{newLedger, fedAll, ledgerAfter, ledgerNet}
 use Rattle.rules.proofs.Checks.Clearing.{clear, clear-applies}
 use Rattle.rules.proofs.Ledgers.Agreement.{day-agrees}
 use Rattle.rules.proofs.Ledgers.LedgerReadings.{net-is-the-ledgers, hour-is-the-ledgers, exposure-is-the-ledgers, available-is-the-ledgers}
 use Rattle.rules.proofs.Ledgers.LedgerDay.{dayBook, dayLedger, day-setup, day-settled}
 use Rattle.rules.proofs.Settling.SettledTotal.{Owned}
 use Rattle.rules.proofs.Basics.Searches.{each-map}
-use Rattle.rules.proofs.Lists.Batches.{undone-batch-cut-out}
+use Rattle.rules.proofs.Lists.CallLists.{cut-out}
+use Rattle.rules.proofs.Lists.Batches.{undo-restores}
+use Rattle.rules.proofs.Lists.Carrying.{runs-carried, after-carried, heard-carried, accepts-carried, undone-carried}
 use Rattle.image.specs.Valid.{bookBytes}
-use Rattle.image.proofs.Setups.SetupRanges.{each-split, each-join}
+use Rattle.image.proofs.Setups.SetupRanges.{each-split}
 use Rattle.image.proofs.Setups.SetupAgain.{accepted-in-range}
 use Rattle.image.proofs.Keeping.Opened.{opened-valid}
-use Rattle.image.proofs.Keeping.Reachable.{OfBytes, after-valid, reachable-valid, reachable-setup, reachable-nets-cancel, reachable-nets-within-margins, reachable-margins-kept, reachable-covered}
+use Rattle.image.proofs.Keeping.Reachable.{OfBytes, reachable-valid, reachable-setup, reachable-nets-cancel, reachable-nets-within-margins, reachable-margins-kept, reachable-covered}
 use Rattle.book.specs.Doors.{openBytes}
-use Rattle.day.specs.Doors.{Answered, inBytes, callAnswer}
-use Rattle.day.specs.Lists.{answersOn, bytesAfter, acceptsOnAs, ledgerOn, UndoneOn, CutOutOn}
+use Rattle.day.specs.Doors.{callAnswer}
 use Rattle.day.specs.Promise.{Promise}
-use Rattle.day.proofs.Images.{call-on-image, accepts-as-on-image, answers-on-image, bytes-after-image, heard-on-image, undone-on-image}
+use Rattle.day.proofs.Images.{call-on-image, books-in-bytes}
 use Rattle.day.proofs.SettleLaws.{settle-writes, written-total}
 use Rattle.day.proofs.Refusals.{runs-not-one}
 use Rattle.day.proofs.Readings.{net-answer-agrees, exposure-answer-agrees}
-
--- ---- the first of changed elements, and those past them
-
-module _ {A B : Type 0} (f : A → B) where
-  take-map : (n : ℕ) (xs : List A) → take n (map f xs) ≡ map f (take n xs)
-  take-map zero xs = refl
-  take-map (suc n) [] = refl
-  take-map (suc n) (x ∷ xs) = ap (λ (ys : List B). f x ∷ ys) (take-map n xs)
-
-  drop-map : (n : ℕ) (xs : List A) → drop n (map f xs) ≡ map f (drop n xs)
-  drop-map zero xs = refl
-  drop-map (suc n) [] = refl
-  drop-map (suc n) (x ∷ xs) = drop-map n xs
 
 -- ---- a list from the bytes of the opened book
 
@@ -69,11 +56,11 @@ module _ (setup : List ℕ) (h : setupRefusal setup ≡ none) where
       }
 
   module _ (cs : List Call) (bytes : OfBytes cs) where
-    bytes-are : bytesAfter fresh cs ≡ bookBytes (dayBook setup cs)
-    bytes-are = bytes-after-image (opened setup) (opened-valid setup h) cs bytes
+    bytes-are : after callAnswer fresh cs ≡ bookBytes (dayBook setup cs)
+    bytes-are = after-carried books-in-bytes (opened setup) cs bytes (opened-valid setup h)
 
-    ledger-is : ledgerOn setup fresh cs ≡ dayLedger setup cs
-    ledger-is = ap (fedAll (newLedger setup)) (heard-on-image (opened setup) (opened-valid setup h) cs bytes)
+    ledger-is : ledgerAfter callAnswer setup fresh cs ≡ dayLedger setup cs
+    ledger-is = ap (fedAll (newLedger setup)) (heard-carried books-in-bytes (opened setup) cs bytes (opened-valid setup h))
 
     nets-are : netOf (dayBook setup cs .part .rows) ≡ ledgerNet (dayLedger setup cs)
     nets-are = fun-ext (λ a. fun-ext (λ k. net-is-the-ledgers (dayBook setup cs) (dayLedger setup cs) (day-agrees setup cs) a k))
@@ -86,17 +73,17 @@ module _ (setup : List ℕ) (h : setupRefusal setup ≡ none) where
         ∙ reachable-nets-cancel setup h cs bytes k
 
     -- an accepted settle on the bytes after the list
-    settle-total : (c : Call) → acceptsOnAs (settle ∷ []) (bytesAfter fresh cs) c ≡ true
-        → sumOf (figuresIn (operatorCount (setupOf setup)) (callAnswer (bytesAfter fresh cs) c .balances))
+    settle-total : (c : Call) → acceptsAs callAnswer (settle ∷ []) (after callAnswer fresh cs) c ≡ true
+        → sumOf (figuresIn (operatorCount (setupOf setup)) (callAnswer (after callAnswer fresh cs) c .balances))
         ≡ registeredTotal (setupOf setup) (ledgerNet (dayLedger setup cs)) (pricesIn (setupOf setup) (c .prices)) (dayLedger setup cs .page .schedules)
     settle-total c e =
         let b = dayBook setup cs in
         let v = reachable-valid setup h cs bytes in
-        let accepted : acceptsAs (settle ∷ []) b c ≡ true = sym (accepts-as-on-image b v (settle ∷ []) c) ∙ (rw bytes-are at e) in
+        let accepted : acceptsAs step (settle ∷ []) b c ≡ true = sym (accepts-carried books-in-bytes (settle ∷ []) b c v) ∙ (rw bytes-are at e) in
         let answer = ap (λ (s : List ℕ). callAnswer s c) bytes-are ∙ call-on-image b v c in
         let count : operatorCount (setupOf setup) ≡ operatorCount (b .setup) = ap (λ (u : Setup). operatorCount u) (sym (reachable-setup setup h cs bytes)) in
         let l = dayLedger setup cs in
-        ap (λ (x : Answered). sumOf (figuresIn (operatorCount (setupOf setup)) (x .balances))) answer
+        ap (λ (x : Answer (List ℕ)). sumOf (figuresIn (operatorCount (setupOf setup)) (x .balances))) answer
         ∙ ap (λ (n : ℕ). sumOf (figuresIn n (step b c .balances))) count
         ∙ written-total b c accepted v
         ∙ day-settled setup cs owned c _ (settle-writes b c accepted .0) .total
@@ -105,37 +92,18 @@ module _ (setup : List ℕ) (h : setupRefusal setup ≡ none) where
   -- an undone batch cut out of the list
   batch-cut-out : (before : List Call) (opening : Call) (between : List Call) (undoing : Call) (rest : List Call)
       → OfBytes (before ++ (opening ∷ between ++ undoing ∷ []) ++ rest)
-      → UndoneOn (bytesAfter fresh before) opening between undoing
-      → CutOutOn fresh before (opening ∷ between ++ undoing ∷ []) rest
+      → UndoneBatch callAnswer (after callAnswer fresh before) opening between undoing
+      → CutOut callAnswer fresh before (opening ∷ between ++ undoing ∷ []) rest
   batch-cut-out before opening between undoing rest bytes batch =
-      let b = opened setup in
-      let v = opened-valid setup h in
       let out : List Call = opening ∷ between ++ undoing ∷ [] in
-      let all = each-split (before ++ out) rest bytes in
-      let parts = each-split before out (all .0) in
-      let opens = each-split (opening ∷ between) (undoing ∷ []) (parts .1) in
-      let fewer = each-join (parts .0) (all .1) in
-      let there = bytes-after-image b v before (parts .0) in
-      let undone = undone-on-image (after b before) (after-valid b before (parts .0) v) opening between undoing (opens .0) (rw there at batch) in
-      let cut = undone-batch-cut-out b before opening between undoing rest undone in
-      let long = answers-on-image b v (before ++ out ++ rest) bytes in
-      let short = answers-on-image b v (before ++ rest) fewer in
-      record {
-        same-before =
-            ap (take (length before)) long
-            ∙ take-map inBytes (length before) _
-            ∙ ap (map inBytes) (cut .same-before)
-            ∙ sym (ap (take (length before)) short ∙ take-map inBytes (length before) _);
-        same-after =
-            ap (drop (length before + length out)) long
-            ∙ drop-map inBytes (length before + length out) _
-            ∙ ap (map inBytes) (cut .same-after)
-            ∙ sym (ap (drop (length before)) short ∙ drop-map inBytes (length before) _);
-        same-bytes =
-            bytes-after-image b v (before ++ out ++ rest) bytes
-            ∙ ap (λ (x : Book). bookBytes x) (cut .same-book)
-            ∙ sym (bytes-after-image b v (before ++ rest) fewer);
-      }
+      let b : Book = dayBook setup before in
+      let parts = each-split before out (each-split (before ++ out) rest bytes .0) in
+      let v = reachable-valid setup h before (parts .0) in
+      let there = bytes-are before (parts .0) in
+      let opens = each-split (opening ∷ between) (undoing ∷ []) (parts .1) .0 in
+      let undone = undone-carried books-in-bytes b opening between undoing opens v (rw there at batch) in
+      let same = after-carried books-in-bytes b out (parts .1) v ∙ ap (λ (x : Book). bookBytes x) (undo-restores b opening between undoing undone) in
+      cut-out callAnswer fresh before out rest (ap (λ (s : List ℕ). after callAnswer s out) there ∙ same ∙ sym there)
 
   fresh-promise : (cs : List Call) → OfBytes cs → Promise setup fresh cs
   fresh-promise cs bytes =
@@ -179,6 +147,6 @@ module _ (setup book : List ℕ) (h : openRefusal setup book ≡ none) where
   whole-list cs bytes = rw opened-bytes (fresh-promise setup setup-accepted cs bytes)
 
   -- and no call of such a list answers 1
-  pub no-call-answers-1 : (cs : List Call) → OfBytes cs → Each (λ x. numbers (x .outcome) .0 ≡ 1 → ⊥) (answersOn (openBytes setup book) cs)
+  pub no-call-answers-1 : (cs : List Call) → OfBytes cs → Each (λ x. numbers (x .answer .outcome) .0 ≡ 1 → ⊥) (runs callAnswer (openBytes setup book) cs)
   no-call-answers-1 cs bytes =
-      rw (opened-bytes, answers-on-image (opened setup) (opened-valid setup setup-accepted) cs bytes) (runs-not-one (opened setup) cs)
+      rw (opened-bytes, runs-carried books-in-bytes (opened setup) cs bytes (opened-valid setup setup-accepted)) (runs-not-one (opened setup) cs)

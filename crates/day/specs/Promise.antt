@@ -13,45 +13,54 @@ use Rattle.rules.specs.Requests.{settle}
 use Rattle.rules.specs.Registration.{figure, low, high}
 use Rattle.rules.specs.Settlement.{pricesIn, registeredTotal, figuresIn}
 use Rattle.rules.specs.Calls.{Call}
-use Rattle.rules.specs.Ledger.{ledgerNet, ledgerHour, ledgerExposure, ledgerAvailable}
+use Rattle.rules.specs.Lists.{after, acceptsAs, UndoneBatch, CutOut}
+use Rattle.rules.specs.Ledger.{Ledger, ledgerAfter, ledgerNet, ledgerHour, ledgerExposure, ledgerAvailable}
 use Rattle.book.specs.Doors.{netAnswer, exposureAnswer}
 use Rattle.day.specs.Doors.{callAnswer}
-use Rattle.day.specs.Lists.{bytesAfter, acceptsOnAs, ledgerOn, UndoneOn, CutOutOn}
 use Rattle.day.specs.Readings.{ledgerNetReading, ledgerExposureReading}
 
-pub record Promise (setup start : List ℕ) (cs : List Call) : Type 0 where
-  -- after the list every reading of net equals the ledger's: the signed sum of the account's confirmed trades that no undo struck
-  pub net-readings : (a h : ℕ) → netAnswer (bytesAfter start cs) a h ≡ ledgerNetReading (ledgerOn setup start cs) a h
-  -- and every reading of exposure
-  pub exposure-readings : (o : ℕ) → exposureAnswer (bytesAfter start cs) o ≡ ledgerExposureReading (ledgerOn setup start cs) o
-  -- in each hour net positions sum to zero
-  pub nets-sum-to-zero : (h : ℕ)
-      → sumOf (map (λ a. figure (ledgerNet (ledgerOn setup start cs) a h)) (upTo (accountCount (setupOf setup)))) ≡ pos 0
-  -- each net position is within its margins
-  pub nets-within-margins : (a h : ℕ) → 1 ≤ a → a ≤ accountCount (setupOf setup) → 1 ≤ h → h ≤ periods (setupOf setup)
-      → (negℤ (pos (lowerAt (setupOf setup) a h .0)) ≤ℤ figure (ledgerNet (ledgerOn setup start cs) a h))
-      × (figure (ledgerNet (ledgerOn setup start cs) a h) ≤ℤ pos (upperAt (setupOf setup) a h .0))
-  -- with the account's own pending rows too: minus lower margin ≤ low, high ≤ upper margin
-  pub pending-within-margins : (a h : ℕ) → 1 ≤ a → a ≤ accountCount (setupOf setup) → 1 ≤ h → h ≤ periods (setupOf setup)
-      → (negℤ (pos (lowerAt (setupOf setup) a h .0)) ≤ℤ low (ledgerHour (ledgerOn setup start cs) a h))
-      × (high (ledgerHour (ledgerOn setup start cs) a h) ≤ℤ pos (upperAt (setupOf setup) a h .0))
-  -- no exposure is above the available guarantee
-  pub exposures-covered : (o : ℕ) → 1 ≤ o → o ≤ operatorCount (setupOf setup)
-      → ledgerExposure (ledgerOn setup start cs) o ≤ ledgerAvailable (ledgerOn setup start cs) o
-  -- with an undone batch cut out (an accepted open, the next accepted undo with no accepted keep between, and all between) the list
-  -- gives the same answers outside it and leaves the same book
-  pub undone-batches-cut-out : (before : List Call) (opening : Call) (between : List Call) (undoing : Call) (rest : List Call)
-      → cs ≡ before ++ (opening ∷ between ++ undoing ∷ []) ++ rest
-      → UndoneOn (bytesAfter start before) opening between undoing
-      → CutOutOn start before (opening ∷ between ++ undoing ∷ []) rest
-  -- the balances that an accepted settle wrote total the registered schedules at their prices, registered being what the rules give 0 on
-  -- the ledger's schedules and net: injections and mixed withdrawals at zone price, other withdrawals at PUN, withdrawals negative
-  pub balances-total : (before : List Call) (c : Call) (rest : List Call)
-      → cs ≡ before ++ c ∷ rest
-      → acceptsOnAs (settle ∷ []) (bytesAfter start before) c ≡ true
-      → sumOf (figuresIn (operatorCount (setupOf setup)) (callAnswer (bytesAfter start before) c .balances))
-      ≡ registeredTotal
-      (setupOf setup)
-      (ledgerNet (ledgerOn setup start before))
-      (pricesIn (setupOf setup) (c .prices))
-      (ledgerOn setup start before .page .schedules)
+module _ (setup start : List ℕ) where
+  -- the book's bytes after a list of calls
+  abbrev pub book : List Call → List ℕ
+  book cs = after callAnswer start cs
+
+  -- the ledger of the list
+  abbrev pub ledger : List Call → Ledger
+  ledger cs = ledgerAfter callAnswer setup start cs
+
+  pub record Promise (cs : List Call) : Type 0 where
+    -- after the list every reading of net equals the ledger's: the signed sum of the account's confirmed trades that no undo struck
+    pub net-readings : (a h : ℕ) → netAnswer (book cs) a h ≡ ledgerNetReading (ledger cs) a h
+    -- and every reading of exposure
+    pub exposure-readings : (o : ℕ) → exposureAnswer (book cs) o ≡ ledgerExposureReading (ledger cs) o
+    -- in each hour net positions sum to zero
+    pub nets-sum-to-zero : (h : ℕ)
+        → sumOf (map (λ a. figure (ledgerNet (ledger cs) a h)) (upTo (accountCount (setupOf setup)))) ≡ pos 0
+    -- each net position is within its margins
+    pub nets-within-margins : (a h : ℕ) → 1 ≤ a → a ≤ accountCount (setupOf setup) → 1 ≤ h → h ≤ periods (setupOf setup)
+        → (negℤ (pos (lowerAt (setupOf setup) a h .0)) ≤ℤ figure (ledgerNet (ledger cs) a h))
+        × (figure (ledgerNet (ledger cs) a h) ≤ℤ pos (upperAt (setupOf setup) a h .0))
+    -- with the account's own pending rows too: minus lower margin ≤ low, high ≤ upper margin
+    pub pending-within-margins : (a h : ℕ) → 1 ≤ a → a ≤ accountCount (setupOf setup) → 1 ≤ h → h ≤ periods (setupOf setup)
+        → (negℤ (pos (lowerAt (setupOf setup) a h .0)) ≤ℤ low (ledgerHour (ledger cs) a h))
+        × (high (ledgerHour (ledger cs) a h) ≤ℤ pos (upperAt (setupOf setup) a h .0))
+    -- no exposure is above the available guarantee
+    pub exposures-covered : (o : ℕ) → 1 ≤ o → o ≤ operatorCount (setupOf setup)
+        → ledgerExposure (ledger cs) o ≤ ledgerAvailable (ledger cs) o
+    -- with an undone batch cut out (an accepted open, the next accepted undo with no accepted keep between, and all between) the list
+    -- gives the same answers outside it and leaves the same book
+    pub undone-batches-cut-out : (before : List Call) (opening : Call) (between : List Call) (undoing : Call) (rest : List Call)
+        → cs ≡ before ++ (opening ∷ between ++ undoing ∷ []) ++ rest
+        → UndoneBatch callAnswer (book before) opening between undoing
+        → CutOut callAnswer start before (opening ∷ between ++ undoing ∷ []) rest
+    -- the balances that an accepted settle wrote total the registered schedules at their prices, registered being what the rules give 0 on
+    -- the ledger's schedules and net: injections and mixed withdrawals at zone price, other withdrawals at PUN, withdrawals negative
+    pub balances-total : (before : List Call) (c : Call) (rest : List Call)
+        → cs ≡ before ++ c ∷ rest
+        → acceptsAs callAnswer (settle ∷ []) (book before) c ≡ true
+        → sumOf (figuresIn (operatorCount (setupOf setup)) (callAnswer (book before) c .balances))
+        ≡ registeredTotal
+        (setupOf setup)
+        (ledgerNet (ledger before))
+        (pricesIn (setupOf setup) (c .prices))
+        (ledger before .page .schedules)

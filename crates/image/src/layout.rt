@@ -36,8 +36,6 @@ pub const GUARANTEE_WIDTH: usize = 8;
 
 pub const ROW_WIDTH: usize = 18;
 
-pub const STATUS_IN: usize = 17;
-
 // Rows that may have numbers in a day.
 pub const MOST_ROWS: usize = rules::limits::MOST_ROWS as usize;
 

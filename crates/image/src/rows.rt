@@ -1,13 +1,31 @@
-// Rows in bytes.
+// Rows in bytes: where each field stands in a row, and a row read and written.
 ghost use mathlib.Core.Path.{_≡_};
 ghost use Prim.Native.Nat.{_+_, _≤_};
 ghost use lib.ListN.{length, take, drop};
-ghost use Rattle.image.specs.Image.{rowIn};
+ghost use Rattle.wire.specs.Parts.{Small};
+ghost use Rattle.image.specs.Layout.{rowWidths};
+ghost use Rattle.image.specs.Image.{rowIn, rowValues, rowBytes};
+use crate::layout::ROW_WIDTH;
 use rules::Row;
 use units::Kwh;
 use wire::numbers::get_u8;
 use wire::numbers::get_u32;
 use wire::numbers::get_u64;
+
+// Where a field stands in a row, which begins with its proposer.
+pub const COUNTERPARTY_IN: usize = 1;
+
+pub const CODE_IN: usize = 2;
+
+pub const SIDE_IN: usize = 10;
+
+pub const FIRST_IN: usize = 11;
+
+pub const LAST_IN: usize = 12;
+
+pub const QUANTITY_IN: usize = 13;
+
+pub const STATUS_IN: usize = 17;
 
 // The row in the 18 bytes from `at` on.
 pub fn row_at(s: &[u8], at: usize) -> Row
@@ -16,12 +34,41 @@ pub fn row_at(s: &[u8], at: usize) -> Row
 {
     Row {
         proposer: get_u8(s, at),
-        counterparty: get_u8(s, at + 1),
-        code: get_u64(s, at + 2),
-        side: get_u8(s, at + 10),
-        first: get_u8(s, at + 11),
-        last: get_u8(s, at + 12),
-        quantity: Kwh(get_u32(s, at + 13)),
-        status: get_u8(s, at + 17),
+        counterparty: get_u8(s, at + COUNTERPARTY_IN),
+        code: get_u64(s, at + CODE_IN),
+        side: get_u8(s, at + SIDE_IN),
+        first: get_u8(s, at + FIRST_IN),
+        last: get_u8(s, at + LAST_IN),
+        quantity: Kwh(get_u32(s, at + QUANTITY_IN)),
+        status: get_u8(s, at + STATUS_IN),
     }
+}
+
+// The 18 bytes of a row.
+pub fn row_bytes(r: Row) -> [u8; ROW_WIDTH]
+    requires { ⌜ Small rowWidths (rowValues r) ⌝ }
+    ensures { λ b. ⌜ b ≡ rowBytes r ⌝ }
+{
+    let code = r.code;
+    let quantity = r.quantity.0;
+    [
+        r.proposer,
+        r.counterparty,
+        (code % 256) as u8,
+        (code / 256 % 256) as u8,
+        (code / 256 / 256 % 256) as u8,
+        (code / 256 / 256 / 256 % 256) as u8,
+        (code / 256 / 256 / 256 / 256 % 256) as u8,
+        (code / 256 / 256 / 256 / 256 / 256 % 256) as u8,
+        (code / 256 / 256 / 256 / 256 / 256 / 256 % 256) as u8,
+        (code / 256 / 256 / 256 / 256 / 256 / 256 / 256 % 256) as u8,
+        r.side,
+        r.first,
+        r.last,
+        (quantity % 256) as u8,
+        (quantity / 256 % 256) as u8,
+        (quantity / 256 / 256 % 256) as u8,
+        (quantity / 256 / 256 / 256 % 256) as u8,
+        r.status,
+    ]
 }

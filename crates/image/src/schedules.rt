@@ -1,13 +1,25 @@
-// Schedules in bytes.
+// Schedules in bytes: where each field stands in a schedule, and a schedule read and written.
 ghost use mathlib.Core.Path.{_≡_};
 ghost use Prim.Native.Nat.{_+_, _≤_};
 ghost use lib.ListN.{length, take, drop};
-ghost use Rattle.image.specs.Image.{scheduleIn};
+ghost use Rattle.wire.specs.Parts.{Small};
+ghost use Rattle.image.specs.Layout.{scheduleWidths};
+ghost use Rattle.image.specs.Image.{scheduleIn, scheduleValues, scheduleBytes};
+use crate::layout::SCHEDULE_WIDTH;
 use rules::Schedule;
 use units::CentsPerMwh;
 use units::Kwh;
 use wire::numbers::get_u8;
 use wire::numbers::get_u32;
+
+// Where a field stands in a schedule, which begins with its point.
+pub const SIDE_IN: usize = 1;
+
+pub const HOUR_IN: usize = 2;
+
+pub const QUANTITY_IN: usize = 3;
+
+pub const PRICE_IN: usize = 7;
 
 // The schedule in the 11 bytes from `at` on.
 pub fn schedule_at(s: &[u8], at: usize) -> Schedule
@@ -16,9 +28,31 @@ pub fn schedule_at(s: &[u8], at: usize) -> Schedule
 {
     Schedule {
         point: get_u8(s, at),
-        side: get_u8(s, at + 1),
-        hour: get_u8(s, at + 2),
-        quantity: Kwh(get_u32(s, at + 3)),
-        price: CentsPerMwh(get_u32(s, at + 7)),
+        side: get_u8(s, at + SIDE_IN),
+        hour: get_u8(s, at + HOUR_IN),
+        quantity: Kwh(get_u32(s, at + QUANTITY_IN)),
+        price: CentsPerMwh(get_u32(s, at + PRICE_IN)),
     }
+}
+
+// The 11 bytes of a schedule.
+pub fn schedule_bytes(x: Schedule) -> [u8; SCHEDULE_WIDTH]
+    requires { ⌜ Small scheduleWidths (scheduleValues x) ⌝ }
+    ensures { λ b. ⌜ b ≡ scheduleBytes x ⌝ }
+{
+    let quantity = x.quantity.0;
+    let price = x.price.0;
+    [
+        x.point,
+        x.side,
+        x.hour,
+        (quantity % 256) as u8,
+        (quantity / 256 % 256) as u8,
+        (quantity / 256 / 256 % 256) as u8,
+        (quantity / 256 / 256 / 256 % 256) as u8,
+        (price % 256) as u8,
+        (price / 256 % 256) as u8,
+        (price / 256 / 256 % 256) as u8,
+        (price / 256 / 256 / 256 % 256) as u8,
+    ]
 }

@@ -1,6 +1,6 @@
 -- A row proposed: the tests of register in the order of their numbers, each on the book as it would be, and the row's 18 bytes with the
 -- count as all that is written.
-use Prim.Native.Nat.{ℕ, _+_, _/_, _%_, _≤_, _<_}
+use Prim.Native.Nat.{ℕ, _+_, _≤_, _<_}
 use mathlib.Core.Path.{_≡_, refl, sym, ap, _∙_}
 use mathlib.Core.List.{List, [], _∷_, _++_}
 use mathlib.Core.Option.{none, some}
@@ -11,8 +11,7 @@ use lib.Dec.{leb}
 use borrow.Author.Tests.{eq-eqb, le-leb, lt-leb}
 use Rattle.wire.specs.Numbers.{le}
 use Rattle.wire.specs.Regions.{splice}
-use Rattle.wire.specs.Parts.{flat, pieces, pack, Small}
-use Rattle.wire.proofs.NumberLaws.{byte}
+use Rattle.wire.specs.Parts.{Small}
 use Rattle.rules.specs.declared.Row.{Row}
 use Rattle.rules.specs.declared.Request.{Request}
 use Rattle.rules.specs.declared.Refusal.the-variants.{AlreadyPending, RowsFull, MarginBroken, Uncovered}
@@ -103,39 +102,6 @@ pub few-rows : (b : Book) (q : Request) → decided register b q ≡ none → le
 few-rows b q d = passed-15 b q (decided-clear register b q d)
 
 -- ---- what is written
-
--- the 18 bytes of a row whose values fit them
-pub row-literal : (r : Row) → Small rowWidths (rowValues r)
-    → r .proposer
-    ∷ r .counterparty
-    ∷ r .code % 256
-    ∷ r .code / 256 % 256
-    ∷ r .code / 256 / 256 % 256
-    ∷ r .code / 256 / 256 / 256 % 256
-    ∷ r .code / 256 / 256 / 256 / 256 % 256
-    ∷ r .code / 256 / 256 / 256 / 256 / 256 % 256
-    ∷ r .code / 256 / 256 / 256 / 256 / 256 / 256 % 256
-    ∷ r .code / 256 / 256 / 256 / 256 / 256 / 256 / 256 % 256
-    ∷ r .side
-    ∷ r .first
-    ∷ r .last
-    ∷ r .quantity .0 % 256
-    ∷ r .quantity .0 / 256 % 256
-    ∷ r .quantity .0 / 256 / 256 % 256
-    ∷ r .quantity .0 / 256 / 256 / 256 % 256
-    ∷ r .status
-    ∷ []
-    ≡ rowBytes r
-unfolding rowBytes pack pieces flat le
-row-literal r s =
-    rw (
-      byte (r .proposer) (s .0),
-      byte (r .counterparty) (s .1 .0),
-      byte (r .side) (s .1 .1 .1 .0),
-      byte (r .first) (s .1 .1 .1 .1 .0),
-      byte (r .last) (s .1 .1 .1 .1 .1 .0),
-      byte (r .status) (s .1 .1 .1 .1 .1 .1 .1 .0),
-    )
 
 pub registered-answered : (s t : List ℕ) (h : isBook s ≡ true) (q : Request) (n : ℕ) → Ready register (bookIn s) q
     → decided register (bookIn s) q ≡ none → n ≡ length (bookIn s .part .rows) → n < mostRows

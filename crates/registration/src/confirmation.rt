@@ -34,7 +34,7 @@ use book::state::phase;
 use book::state::row_place;
 use book::worth::Added;
 use book::worth::exposure_with;
-use image::layout::STATUS_IN;
+use image::rows::STATUS_IN;
 use image::rows::row_at;
 use rules::Checked;
 use rules::Outcome;

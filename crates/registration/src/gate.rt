@@ -20,7 +20,7 @@ use image::layout::PHASE_AT;
 use image::layout::PRESENT_AT;
 use image::layout::ROW_WIDTH;
 use image::layout::ROWS_IN;
-use image::layout::STATUS_IN;
+use image::rows::STATUS_IN;
 use rules::Checked;
 use rules::Outcome;
 use rules::Verdict;

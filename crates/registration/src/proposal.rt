@@ -37,6 +37,7 @@ use image::layout::PRESENT_AT;
 use image::layout::ROW_COUNT_IN;
 use image::layout::ROW_WIDTH;
 use image::layout::ROWS_IN;
+use image::rows::row_bytes;
 use rules::Checked;
 use rules::Outcome;
 use rules::Refusal;
@@ -116,35 +117,6 @@ fn register_fault(book: &[u8], request: Request) -> Checked
         return Checked::Fails(Refusal::RowsFull);
     }
     weighed(book, &waits, request)
-}
-
-// The 18 bytes of a row.
-fn row_bytes(r: Row) -> [u8; ROW_WIDTH]
-    requires { ⌜ Small rowWidths (rowValues r) ⌝ }
-    ensures { λ b. ⌜ b ≡ rowBytes r ⌝ }
-{
-    let code = r.code;
-    let quantity = r.quantity.0;
-    [
-        r.proposer,
-        r.counterparty,
-        (code % 256) as u8,
-        (code / 256 % 256) as u8,
-        (code / 256 / 256 % 256) as u8,
-        (code / 256 / 256 / 256 % 256) as u8,
-        (code / 256 / 256 / 256 / 256 % 256) as u8,
-        (code / 256 / 256 / 256 / 256 / 256 % 256) as u8,
-        (code / 256 / 256 / 256 / 256 / 256 / 256 % 256) as u8,
-        (code / 256 / 256 / 256 / 256 / 256 / 256 / 256 % 256) as u8,
-        r.side,
-        r.first,
-        r.last,
-        (quantity % 256) as u8,
-        (quantity / 256 % 256) as u8,
-        (quantity / 256 / 256 % 256) as u8,
-        (quantity / 256 / 256 / 256 % 256) as u8,
-        r.status,
-    ]
 }
 
 // Puts a row after the `n` that stand, and counts it.

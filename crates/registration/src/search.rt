@@ -14,7 +14,9 @@ use book::state::row_count;
 use image::layout::PRESENT_AT;
 use image::layout::ROW_WIDTH;
 use image::layout::ROWS_IN;
-use image::layout::STATUS_IN;
+use image::rows::CODE_IN;
+use image::rows::COUNTERPARTY_IN;
+use image::rows::STATUS_IN;
 use wire::numbers::get_u8;
 use wire::numbers::get_u64;
 
@@ -23,12 +25,12 @@ fn alike_at(book: &[u8], at: usize, proposer: u8, counterparty: u8, code: u64) -
     requires { ⌜ at + 18 ≤ length (now book) ⌝ }
     ensures { λ b. ⌜ b ≡ alike proposer counterparty code (rowIn (take 18 (drop at (now (book .entry))))) ⌝ }
 {
-    if get_u64(book, at + 2) != code {
+    if get_u64(book, at + CODE_IN) != code {
         return false;
     }
     let status = get_u8(book, at + STATUS_IN);
     let first = get_u8(book, at);
-    let second = get_u8(book, at + 1);
+    let second = get_u8(book, at + COUNTERPARTY_IN);
     (status == PENDING) & (first == proposer) & (second == counterparty)
 }
 

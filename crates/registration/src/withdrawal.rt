@@ -13,7 +13,7 @@ use book::state::WITHDRAWN;
 use book::state::phase;
 use book::state::row_count;
 use book::state::row_place;
-use image::layout::STATUS_IN;
+use image::rows::STATUS_IN;
 use rules::Checked;
 use rules::Outcome;
 use rules::Refusal;

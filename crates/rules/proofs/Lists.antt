@@ -3,3 +3,5 @@
 pub mod CallLists
 -- Batches: an undone batch gives back the book of its open, so that a list without it says the same.
 pub mod Batches
+-- Carrying: a list on books of two forms on which calls answer alike.
+pub mod Carrying

@@ -176,23 +176,30 @@ pub record Settled : Type 0 where
   pub results : List ℕ
   pub balances : List Balance
 
-unfoldable pub workedOut : Book → Call → Settled
-workedOut b c =
+unfoldable pub drawnUp : Book → Call → Settled
+drawnUp b c =
     let t = pricesIn (b .setup) (c .prices) in
     let net = netOf (b .part .rows) in
     record { results = results (b .setup) net t (b .schedules); balances = balances (b .setup) net t (b .schedules) }
 
 -- no other kind works anything out
 unfoldable pub settles : Kind → Book → Call → Option Settled
-settles k b c = if k ∈ (settle ∷ []) then some (workedOut b c) else none
+settles k b c = if k ∈ (settle ∷ []) then some (drawnUp b c) else none
 
--- the outcome, the book, and the two output buffers as the call leaves them; and what settle worked out
-pub record Answer : Type 0 where
+-- what a call answers on a book of any form: the outcome, and the book and the two output buffers as the call leaves them
+pub record Answer (B : Type 0) : Type 0 where
   pub outcome : Outcome
-  pub book : Book
+  pub book : B
   pub results : List ℕ
   pub balances : List ℕ
-  pub settled : Option Settled
+
+-- the same answer, with the book in another form
+abbrev pub carried : {A B : Type 0} → (A → B) → Answer A → Answer B
+carried form x = record { outcome = x .outcome; book = form (x .book); results = x .results; balances = x .balances }
+
+-- a refusal changes nothing
+abbrev pub refusedOn : {B : Type 0} → Refusal → B → Call → Answer B
+refusedOn r b c = record { outcome = refused r; book = b; results = c .results; balances = c .balances }
 
 -- results and balances fill the first places of their buffers, the rest is unchanged
 abbrev pub resultsAfter : Option Settled → List ℕ → List ℕ
@@ -203,10 +210,9 @@ abbrev pub balancesAfter : Option Settled → List ℕ → List ℕ
 balancesAfter none buffer = buffer
 balancesAfter (some w) buffer = filled (balanceBytes (w .balances)) buffer
 
--- a refusal changes nothing
-unfoldable pub answer : Book → Call → Option Refusal → Answer
-answer b c (some r) =
-    record { outcome = refused r; book = b; results = c .results; balances = c .balances; settled = none }
+-- the answer, by what the call is refused for
+unfoldable pub answer : Book → Call → Option Refusal → Answer Book
+answer b c (some r) = refusedOn r b c
 answer b c none =
     let w = settles (kindIn c) b c in
     record {
@@ -214,9 +220,17 @@ answer b c none =
       book = next (kindIn c) b (requestIn c);
       results = resultsAfter w (c .results);
       balances = balancesAfter w (c .balances);
-      settled = w;
     }
 
 -- one call on a book
-unfoldable pub step : Book → Call → Answer
+unfoldable pub step : Book → Call → Answer Book
 step b c = answer b c (refusal b c)
+
+-- what the call works out, by what it is refused for
+unfoldable pub workedOut : Book → Call → Option Refusal → Option Settled
+workedOut b c (some r) = none
+workedOut b c none = settles (kindIn c) b c
+
+-- what an accepted settle worked out; any other call works out nothing
+unfoldable pub settlement : Book → Call → Option Settled
+settlement b c = workedOut b c (refusal b c)

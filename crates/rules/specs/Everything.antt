@@ -7,10 +7,11 @@ use Rattle.rules.specs.Opening.{priceIn, operatorIn, accountIn, pointIn,
 use Rattle.rules.specs.Requests.{bits, mapOf, room, offset, fieldIn, requestOf, more, unreadable, readChecks, reading, fieldBytes, write, writeOutcome, written, inRange, faultyField, faultyBit, sameAccounts}
 use Rattle.rules.specs.Registration.{mark, closed, alike, confirms, withdraws, mirrors, moved, waiting, takes, keepsMargins, brokenHour, ofOperator, exposureOf, available, covered}
 use Rattle.rules.specs.Settlement.{pricesIn, placed, insert, prioritised, used, judge, judged, settled, resultAt, results, ofRegistered, gained, lost, balances, injectionsWorth, withdrawalsWorth, registeredTotal, balanceBytes}
-use Rattle.rules.specs.Calls.{apply, given, inputChecks, stateChecks, checks, refusal, workedOut, settles, answer, step}
+use Rattle.rules.specs.Calls.{apply, given, inputChecks, stateChecks, checks, refusal, drawnUp, settles, answer, step, workedOut, settlement}
 use Rattle.rules.specs.Readings.{position, netReading, exposureReading}
+use Rattle.rules.specs.Lists.{runs, after, rowsRegistered, heard, endsNoBatch}
 use Rattle.rules.specs.Replay.{itemsWithin, items, callOf, numbered, answerLines, calls, day, replay, digits, decimal, signedDecimal, lineText, text}
-use Rattle.rules.specs.Ledger.{blank, newLedger, without, turn, feed, fed, heard, fedAll, traded, ledgerNet, ledgerWaiting, ledgerHour, ledgerExposure, ledgerAvailable, ledgerSettled}
+use Rattle.rules.specs.Ledger.{blank, newLedger, without, turn, feed, fed, fedAll, traded, ledgerNet, ledgerWaiting, ledgerHour, ledgerExposure, ledgerAvailable, ledgerSettled}
 
 unfoldable pub everything : Unit {0}
 unfolding number numberAt le signed flat pieces pack
@@ -23,8 +24,9 @@ unfolding number numberAt le signed flat pieces pack
     mark closed alike confirms withdraws mirrors moved waiting takes keepsMargins brokenHour ofOperator exposureOf available covered
     pricesIn placed insert prioritised used judge judged settled resultAt results ofRegistered gained lost balances
     injectionsWorth withdrawalsWorth registeredTotal balanceBytes
-    apply given inputChecks stateChecks checks refusal workedOut settles answer step
+    apply given inputChecks stateChecks checks refusal drawnUp settles answer step workedOut settlement
     position netReading exposureReading
+    runs after rowsRegistered heard endsNoBatch
     itemsWithin items callOf numbered answerLines calls day replay digits decimal signedDecimal lineText text
-    blank newLedger without turn feed fed heard fedAll traded ledgerNet ledgerWaiting ledgerHour ledgerExposure ledgerAvailable ledgerSettled
+    blank newLedger without turn feed fed fedAll traded ledgerNet ledgerWaiting ledgerHour ledgerExposure ledgerAvailable ledgerSettled
 everything = tt

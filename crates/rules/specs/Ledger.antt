@@ -17,13 +17,13 @@ use Rattle.rules.specs.declared.Verdict.{Verdict}
 use Rattle.rules.specs.declared.Verdict.the-variants.{Accepted, Refused}
 use Rattle.rules.specs.Basics.{if_then_else_, total, put, within}
 use Rattle.rules.specs.Limits.{thousand}
-use Rattle.rules.specs.Books.{Setup, Book, estimateAt, guaranteeAt, maintenanceAt}
+use Rattle.rules.specs.Books.{Setup, estimateAt, guaranteeAt, maintenanceAt}
 use Rattle.rules.specs.Opening.{setupOf, guaranteesOf}
 use Rattle.rules.specs.Requests.{Kind, register, confirm, withdraw, guarantee, openBatch, undo, keep, closeGate, schedule, settle, kindOf, requestOf}
 use Rattle.rules.specs.Registration.{proposed, alike, counted, covers, exposureOf}
 use Rattle.rules.specs.Settlement.{Judged, settled}
-use Rattle.rules.specs.Lists.{accepts}
-use Rattle.rules.specs.Calls.{Call, _∈_, scheduled, step}
+use Rattle.rules.specs.Lists.{heard}
+use Rattle.rules.specs.Calls.{Call, Answer, _∈_, scheduled}
 
 -- a trade: who sells to whom, in which hours, how much in each
 pub record Trade : Type 0 where
@@ -133,15 +133,14 @@ fed record′ false l = l
 
 -- ---- a list of calls
 
--- each record of the list, and whether the book accepted it
-unfoldable pub heard : Book → List Call → List (List ℕ × Bool)
-heard b [] = []
-heard b (c ∷ cs) = (c .bytes, accepts b c) ∷ heard (step b c .book) cs
-
 -- the ledger after records, each with whether it was accepted
 unfoldable pub fedAll : Ledger → List (List ℕ × Bool) → Ledger
 fedAll l [] = l
 fedAll l (x ∷ xs) = fedAll (fed (x .0) (x .1) l) xs
+
+-- the ledger after a list of calls on a book: it hears only the set-up's bytes, each record and whether it was accepted
+abbrev pub ledgerAfter : {B : Type 0} → (B → Call → Answer B) → List ℕ → B → List Call → Ledger
+ledgerAfter answer setup b cs = fedAll (newLedger setup) (heard answer b cs)
 
 -- ---- what the ledger says
 

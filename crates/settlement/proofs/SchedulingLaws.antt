@@ -1,5 +1,5 @@
 -- A schedule handed in: its 11 bytes with the count are all that is written, and they make the image of the next book.
-use Prim.Native.Nat.{ℕ, _+_, _*_, _/_, _%_}
+use Prim.Native.Nat.{ℕ, _+_, _*_}
 use mathlib.Core.Path.{_≡_, refl, sym, ap, _∙_}
 use mathlib.Core.List.{List, [], _∷_}
 use mathlib.Core.Option.{none}
@@ -8,8 +8,7 @@ use native.Mathlib.Omega.{arith}
 use lib.ListN.{length}
 use Rattle.wire.specs.Numbers.{le}
 use Rattle.wire.specs.Regions.{splice}
-use Rattle.wire.specs.Parts.{flat, pieces, pack, Small}
-use Rattle.wire.proofs.NumberLaws.{byte}
+use Rattle.wire.specs.Parts.{Small}
 use Rattle.rules.specs.declared.Schedule.{Schedule}
 use Rattle.rules.specs.declared.Request.{Request}
 use Rattle.rules.specs.Limits.{mostHours, bookSize}
@@ -35,24 +34,6 @@ pub ready-fits : (s : List ℕ) (q : Request) (x : Schedule) → isBook s ≡ tr
 ready-fits s q x h r e =
     rw e (schedule-small (bookIn s .setup) (scheduled q) (book-is-sound s h .setup-sound)
     (scheduled-sound (bookIn s) bare q (sym (r .of-kind)) (ready-input schedule (bookIn s) q r bare refl)))
-
--- the 11 bytes of a schedule whose values fit them
-pub schedule-literal : (x : Schedule) → Small scheduleWidths (scheduleValues x)
-    → x .point
-    ∷ x .side
-    ∷ x .hour
-    ∷ x .quantity .0 % 256
-    ∷ x .quantity .0 / 256 % 256
-    ∷ x .quantity .0 / 256 / 256 % 256
-    ∷ x .quantity .0 / 256 / 256 / 256 % 256
-    ∷ x .price .0 % 256
-    ∷ x .price .0 / 256 % 256
-    ∷ x .price .0 / 256 / 256 % 256
-    ∷ x .price .0 / 256 / 256 / 256 % 256
-    ∷ []
-    ≡ scheduleBytes x
-unfolding scheduleBytes pack pieces flat le
-schedule-literal x s = rw (byte (x .point) (s .0), byte (x .side) (s .1 .0), byte (x .hour) (s .1 .1 .0))
 
 -- what an accepted schedule writes
 pub scheduled-answered : (s t : List ℕ) (h : isBook s ≡ true) (q : Request) (n : ℕ) → Ready schedule (bookIn s) q

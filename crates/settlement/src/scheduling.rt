@@ -21,6 +21,7 @@ use book::state::schedule_count;
 use image::layout::SCHEDULE_COUNT_AT;
 use image::layout::SCHEDULE_WIDTH;
 use image::layout::SCHEDULES_AT;
+use image::schedules::schedule_bytes;
 use rules::Checked;
 use rules::Outcome;
 use rules::Refusal;
@@ -58,28 +59,6 @@ fn schedule_fault(book: &[u8]) -> Checked
         return Checked::Fails(Refusal::SchedulesFull);
     }
     Checked::Clear
-}
-
-// The 11 bytes of a schedule.
-fn schedule_bytes(x: Schedule) -> [u8; SCHEDULE_WIDTH]
-    requires { ⌜ Small scheduleWidths (scheduleValues x) ⌝ }
-    ensures { λ b. ⌜ b ≡ scheduleBytes x ⌝ }
-{
-    let quantity = x.quantity.0;
-    let price = x.price.0;
-    [
-        x.point,
-        x.side,
-        x.hour,
-        (quantity % 256) as u8,
-        (quantity / 256 % 256) as u8,
-        (quantity / 256 / 256 % 256) as u8,
-        (quantity / 256 / 256 / 256 % 256) as u8,
-        (price % 256) as u8,
-        (price / 256 % 256) as u8,
-        (price / 256 / 256 % 256) as u8,
-        (price / 256 / 256 / 256 % 256) as u8,
-    ]
 }
 
 // Puts a schedule after the `n` that stand, and counts it.

@@ -17,7 +17,7 @@ use Rattle.rules.specs.Verdicts.{Numbers, numbers}
 use Rattle.rules.specs.Books.{Book, operatorCount}
 use Rattle.rules.specs.Requests.{Kind, register, confirm, withdraw, guarantee, openBatch, undo, keep, closeGate, schedule, settle, kindNumber, requestOf}
 use Rattle.rules.specs.Settlement.{results, figuresIn}
-use Rattle.rules.specs.Calls.{Call, kindIn, settles, refusal, answer, resultsAfter, _∈_, step}
+use Rattle.rules.specs.Calls.{Call, kindIn, settles, refusal, answer, resultsAfter, _∈_, step, workedOut, settlement}
 use Rattle.rules.specs.Lists.{isAcceptance, accepts, acceptsAs}
 use Rattle.rules.specs.Replay.{callOf, answered, answerLines, settledLines, lineText, text}
 use Rattle.rules.proofs.Basics.Searches.{each-map, counting-length}
@@ -52,13 +52,13 @@ module _ (b : Book) (item : List ℕ) where
       ∙ ap (λ (x : List ℕ). getD x 2 0) (sym (record-bytes item))
       ∙ getD-take (recordLength item) item 2 0 l
 
-  settles-go : (t : Bool) → accepts b (callOf item) ≡ t → (t && kindIn (callOf item) ∈ (settle ∷ [])) ≡ (t && eqb (getD item 2 0) 10)
+  settles-go : (t : Bool) → accepts step b (callOf item) ≡ t → (t && kindIn (callOf item) ∈ (settle ∷ [])) ≡ (t && eqb (getD item 2 0) 10)
   settles-go true e = rw (third-byte (accepts-passed b (callOf item) e)) (or-false (eqb (getD item 2 0) 10))
   settles-go false e = refl
 
   -- an item settles where it is accepted and its third byte is 10
-  pub settles-by-third : acceptsAs (settle ∷ []) b (callOf item) ≡ (accepts b (callOf item) && eqb (getD item 2 0) 10)
-  settles-by-third = settles-go (accepts b (callOf item)) refl
+  pub settles-by-third : acceptsAs step (settle ∷ []) b (callOf item) ≡ (accepts step b (callOf item) && eqb (getD item 2 0) 10)
+  settles-by-third = settles-go (accepts step b (callOf item)) refl
 
 -- nothing without a third byte does
 pub short-settles-nothing : (t : Bool) (item : List ℕ) → length item ≤ 2 → false ≡ (t && eqb (getD item 2 0) 10)
@@ -85,30 +85,30 @@ module _ (b : Book) (c : Call) where
   others settle h = let z : _≡_ {A = ℕ} 0 1 = cc in absurd (omega arith)
 
   unsettled-go : (o : Option Refusal) → (isAcceptance (answer b c o .outcome .verdict) && kindIn c ∈ (settle ∷ [])) ≡ false
-      → answer b c o .settled ≡ none
-  unfolding answer
+      → workedOut b c o ≡ none
+  unfolding answer workedOut
   unsettled-go (some r) h = refl
   unsettled-go none h = others (kindIn c) h
 
   -- a call that is no accepted settle works out nothing
-  unsettled : acceptsAs (settle ∷ []) b c ≡ false → step b c .settled ≡ none
-  unfolding step
+  unsettled : acceptsAs step (settle ∷ []) b c ≡ false → settlement b c ≡ none
+  unfolding step settlement
   unsettled h = unsettled-go (refusal b c) h
 
-  results-go : (o : Option Refusal) → answer b c o .results ≡ resultsAfter (answer b c o .settled) (c .results)
-  unfolding answer
+  results-go : (o : Option Refusal) → answer b c o .results ≡ resultsAfter (workedOut b c o) (c .results)
+  unfolding answer workedOut
   results-go (some r) = refl
   results-go none = refl
 
-  results-by : step b c .results ≡ resultsAfter (step b c .settled) (c .results)
-  unfolding step
+  results-by : step b c .results ≡ resultsAfter (settlement b c) (c .results)
+  unfolding step settlement
   results-by = results-go (refusal b c)
 
   results-many : length (worked b c .results) ≡ length (b .schedules)
   unfolding results
   results-many = length-map (upTo (length (b .schedules))) _ ∙ counting-length (length (b .schedules)) 1
 
-  module _ (v : valid b ≡ true) (h : acceptsAs (settle ∷ []) b c ≡ true) where
+  module _ (v : valid b ≡ true) (h : acceptsAs step (settle ∷ []) b c ≡ true) where
     small : SmallBalances (worked b c .balances)
     small = each-map (λ z m. omega arith) (balances-small b c h v)
 
@@ -118,7 +118,7 @@ module _ (b : Book) (c : Call) where
 
     -- and the two buffers print its lines
     settled-prints : settledText (length (b .schedules)) (step b c .results) (operatorCount (b .setup)) (step b c .balances)
-        ≡ text (settledLines (step b c .settled))
+        ≡ text (settledLines (settlement b c))
     settled-prints =
         rw (← balances-many b c, ← results-many, results-by, settle-writes b c h .0, settle-writes b c h .1) (settled-text (worked b c) (c .results) (c .balances) small)
 
@@ -139,22 +139,22 @@ module _ (number : ℕ) (o : Outcome) (v : Numbers) (t : Bool) (n : ℕ) (rs : L
 -- ---- an item
 
 module _ (b : Book) (v : valid b ≡ true) (item : List ℕ) where
-  prints-go : (number : ℕ) (t : Bool) → acceptsAs (settle ∷ []) b (callOf item) ≡ t
+  prints-go : (number : ℕ) (t : Bool) → acceptsAs step (settle ∷ []) b (callOf item) ≡ t
       → answerText number (step b (callOf item) .outcome) t (length (b .schedules)) (step b (callOf item) .results) (operatorCount (b .setup)) (step b (callOf item) .balances)
-      ≡ text (answerLines number (step b (callOf item)))
+      ≡ text (answerLines number b (callOf item))
   unfolding answerText answerLines text
   prints-go number true e = rw (settled-prints b (callOf item) v e)
   prints-go number false e = rw (unsettled b (callOf item) e) (sym (append-nil _))
 
   module _ {o : Outcome} {t : Bool} (outcome : o ≡ step b (callOf item) .outcome) (flag : t ≡ (isAcceptance (o .verdict) && eqb (getD item 2 0) 10)) where
     -- the test of the code is whether the item settles
-    flagged : acceptsAs (settle ∷ []) b (callOf item) ≡ t
+    flagged : acceptsAs step (settle ∷ []) b (callOf item) ≡ t
     flagged = settles-by-third b item ∙ sym (flag ∙ rw outcome)
 
     -- what the code prints is the answer's lines
     pub answer-prints : (number n m : ℕ) {rs bs : List ℕ} → n ≡ length (b .schedules) → m ≡ operatorCount (b .setup)
         → rs ≡ step b (callOf item) .results → bs ≡ step b (callOf item) .balances
-        → answerText number o t n rs m bs ≡ text (answerLines number (step b (callOf item)))
+        → answerText number o t n rs m bs ≡ text (answerLines number b (callOf item))
     answer-prints number n m en em er eb = rw (en, em, er, eb, outcome) (prints-go number t flagged)
 
     -- where it settles the figures are small, as the code asks

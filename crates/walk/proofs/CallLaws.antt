@@ -8,12 +8,12 @@ use lib.ListN.{length, take, drop, replicate, length-drop}
 use lib.Seq.{take-all}
 use Rattle.rules.specs.declared.Outcome.{Outcome}
 use Rattle.rules.specs.Limits.{mostSchedules, mostOperators}
-use Rattle.rules.specs.Calls.{Call, step}
+use Rattle.rules.specs.Calls.{Call, carried, step}
 use Rattle.rules.specs.Replay.{callOf}
 use Rattle.items.specs.Stream.{recordLength}
 use Rattle.items.proofs.StreamLaws.{call-parts}
-use Rattle.image.specs.Valid.{isBook, bookIn}
-use Rattle.day.specs.Doors.{inBytes, callAnswer, callWith}
+use Rattle.image.specs.Valid.{isBook, bookBytes, bookIn}
+use Rattle.day.specs.Doors.{callAnswer, callWith}
 use Rattle.day.proofs.DoorLaws.{call-on-book}
 use Rattle.day.proofs.CallLaws.{BookInParts}
 
@@ -24,13 +24,13 @@ module _ (s item : List ℕ) (h : isBook s ≡ true) where
 
   called-as : {n : ℕ} {results balances : List ℕ} → n ≡ recordLength item → results ≡ replicate mostSchedules 0
       → balances ≡ replicate (8 * mostOperators) 0
-      → callAnswer s (callWith (take n item) (take (length item - n) (drop n item)) results balances) ≡ inBytes (step (bookIn s) (callOf item))
+      → callAnswer s (callWith (take n item) (take (length item - n) (drop n item)) results balances) ≡ carried bookBytes (step (bookIn s) (callOf item))
   called-as {n} en er eb =
-      call-on-book s _ h ∙ rw (rest-whole n, en, er, eb) (ap (λ (c : Call). inBytes (step (bookIn s) c)) (sym (call-parts item)))
+      call-on-book s _ h ∙ rw (rest-whole n, en, er, eb) (ap (λ (c : Call). carried bookBytes (step (bookIn s) c)) (sym (call-parts item)))
 
   -- a call with them is the item's
   pub item-called : {n : ℕ} {results balances : List ℕ} → n ≡ recordLength item → results ≡ replicate mostSchedules 0
       → balances ≡ replicate (8 * mostOperators) 0 → {o : Outcome} {t rs bs : List ℕ}
       → BookInParts (callAnswer s (callWith (take n item) (take (length item - n) (drop n item)) results balances)) o t rs bs
-      → BookInParts (inBytes (step (bookIn s) (callOf item))) o t rs bs
+      → BookInParts (carried bookBytes (step (bookIn s) (callOf item))) o t rs bs
   item-called en er eb x = rw (called-as en er eb) at x

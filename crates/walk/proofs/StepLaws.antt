@@ -71,7 +71,7 @@ no-line out = record { put = sym (splice-none out 0); behind = refl }
 
 module _ (b : Book) (n : ℕ) (s : List ℕ) (at : ℕ) where
   pub step-whole : (from end : ℕ) → foundAt s at ≡ Whole from end
-      → stepAt b n s at ≡ goesOnAfter (answerLines n (step b (callOf (itemIn s from end)))) (step b (callOf (itemIn s from end)) .book) end
+      → stepAt b n s at ≡ goesOnAfter (answerLines n b (callOf (itemIn s from end))) (step b (callOf (itemIn s from end)) .book) end
   unfolding stepAt itemStep
   step-whole from end f = rw f
 

@@ -63,7 +63,7 @@ unfoldable pub itemStep : Book → ℕ → List ℕ → Found → Step
 itemStep b n s End = endsAfter []
 itemStep b n s Cut = endsAfter (cut n ∷ [])
 itemStep b n s (Whole from end) =
-    let a = step b (callOf (itemIn s from end)) in goesOnAfter (answerLines n a) (a .book) end
+    let c = callOf (itemIn s from end) in goesOnAfter (answerLines n b c) (step b c .book) end
 
 -- item n, which begins at an offset of the stream
 unfoldable pub stepAt : Book → ℕ → List ℕ → ℕ → Step

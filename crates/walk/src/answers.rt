@@ -94,7 +94,7 @@ fn answer_with(
     requires { ⌜ isBook (now book) ≡ true ⌝ }
     requires { ⌜ stepRoom ≤ length (now out) ⌝ }
     requires { ⌜ (now results ≡ replicate mostSchedules 0) × (now balances ≡ replicate (8 * mostOperators) 0) ⌝ }
-    ensures lines { λ r. ⌜ Written (now (out .entry)) 0 (text (answerLines number (step (bookIn (now (book .entry))) (callOf (now (item .entry)))))) (now (out .exit)) r ⌝ }
+    ensures lines { λ r. ⌜ Written (now (out .entry)) 0 (text (answerLines number (bookIn (now (book .entry))) (callOf (now (item .entry))))) (now (out .exit)) r ⌝ }
     ensures bound { λ r. ⌜ r ≤ stepRoom ⌝ }
     ensures book { λ _. ⌜ now (book .exit) ≡ bookBytes (step (bookIn (now (book .entry))) (callOf (now (item .entry))) .book) ⌝ }
     ensures still { λ _. ⌜ isBook (now (book .exit)) ≡ true ⌝ }
@@ -119,7 +119,7 @@ fn answer_with(
 pub fn answer_item(item: &[u8], number: u64, book: &mut [u8], out: &mut [u8]) -> usize
     requires { ⌜ isBook (now book) ≡ true ⌝ }
     requires { ⌜ stepRoom ≤ length (now out) ⌝ }
-    ensures lines { λ r. ⌜ Written (now (out .entry)) 0 (text (answerLines number (step (bookIn (now (book .entry))) (callOf (now (item .entry)))))) (now (out .exit)) r ⌝ }
+    ensures lines { λ r. ⌜ Written (now (out .entry)) 0 (text (answerLines number (bookIn (now (book .entry))) (callOf (now (item .entry))))) (now (out .exit)) r ⌝ }
     ensures bound { λ r. ⌜ r ≤ stepRoom ⌝ }
     ensures book { λ _. ⌜ now (book .exit) ≡ bookBytes (step (bookIn (now (book .entry))) (callOf (now (item .entry))) .book) ⌝ }
     ensures still { λ _. ⌜ isBook (now (book .exit)) ≡ true ⌝ }

@@ -10,7 +10,7 @@ use lib.Signed.{_≤ℤ_}
 use borrow.Author.Tests.{leb-true}
 use Rattle.wire.specs.Numbers.{Bytes}
 use Rattle.rules.specs.declared.Row.{Row}
-use Rattle.rules.specs.Basics.{upTo, Each, nil, cons}
+use Rattle.rules.specs.Basics.{upTo, Each}
 use Rattle.rules.specs.Books.{Book, marginsAt, accountCount, operatorCount, periods, lowerAt, upperAt}
 use Rattle.rules.specs.Opening.{setupOf, setupRefusal, opened}
 use Rattle.rules.specs.Registration.{netOf, accountHour, figure, low, high, exposure, available, covered}
@@ -19,6 +19,7 @@ use Rattle.rules.specs.Lists.{after}
 use Rattle.rules.proofs.Basics.Searches.{each-map}
 use Rattle.rules.proofs.Rows.Balanced.{Parties, parties, totalℤ, nets-cancel}
 use Rattle.rules.proofs.Rows.SignedReading.{keeps-margins-signed, net-keeps-margins}
+use Rattle.rules.proofs.Lists.CallLists.{after-keeps}
 use Rattle.image.specs.Valid.{valid}
 use Rattle.image.proofs.Sound.Soundness.{SoundRow}
 use Rattle.image.proofs.Sound.SoundBooks.{sound}
@@ -82,34 +83,32 @@ abbrev pub OfBytes : List Call → Type 0
 OfBytes cs = Each (λ c. Bytes (c .bytes)) cs
 
 -- any list of calls leaves a valid book valid
-pub after-valid : (b : Book) (cs : List Call) → OfBytes cs → valid b ≡ true → valid (after b cs) ≡ true
-unfolding after
-after-valid b [] nil v = v
-after-valid b (c ∷ cs) (cons bytes rest) v = after-valid (step b c .book) cs rest (keeps-valid b c bytes v)
+pub after-valid : (b : Book) (cs : List Call) → OfBytes cs → valid b ≡ true → valid (after step b cs) ≡ true
+after-valid b cs bytes v = after-keeps step {Good = λ x. valid x ≡ true} (λ x c. keeps-valid x c) b cs bytes v
 
 -- and its set-up as it was
-pub after-setup : (b : Book) (cs : List Call) → after b cs .setup ≡ b .setup
+pub after-setup : (b : Book) (cs : List Call) → after step b cs .setup ≡ b .setup
 unfolding after
 after-setup b [] = refl
 after-setup b (c ∷ cs) = after-setup (step b c .book) cs ∙ no-call-changes-setup b c
 
 -- from the book that accepted set-up bytes open
 module _ (s : List ℕ) (h : setupRefusal s ≡ none) (cs : List Call) (bytes : OfBytes cs) where
-  pub reachable-valid : valid (after (opened s) cs) ≡ true
+  pub reachable-valid : valid (after step (opened s) cs) ≡ true
   reachable-valid = after-valid (opened s) cs bytes (opened-valid s h)
 
-  pub reachable-setup : after (opened s) cs .setup ≡ setupOf s
+  pub reachable-setup : after step (opened s) cs .setup ≡ setupOf s
   unfolding opened
   reachable-setup = after-setup (opened s) cs
 
-  pub reachable-nets-cancel : NetsCancel (after (opened s) cs)
-  reachable-nets-cancel = valid-nets-cancel (after (opened s) cs) reachable-valid
+  pub reachable-nets-cancel : NetsCancel (after step (opened s) cs)
+  reachable-nets-cancel = valid-nets-cancel (after step (opened s) cs) reachable-valid
 
-  pub reachable-margins-kept : MarginsKept (after (opened s) cs)
-  reachable-margins-kept = valid-margins-kept (after (opened s) cs) reachable-valid
+  pub reachable-margins-kept : MarginsKept (after step (opened s) cs)
+  reachable-margins-kept = valid-margins-kept (after step (opened s) cs) reachable-valid
 
-  pub reachable-nets-within-margins : NetsWithinMargins (after (opened s) cs)
-  reachable-nets-within-margins = valid-nets-within-margins (after (opened s) cs) reachable-valid
+  pub reachable-nets-within-margins : NetsWithinMargins (after step (opened s) cs)
+  reachable-nets-within-margins = valid-nets-within-margins (after step (opened s) cs) reachable-valid
 
-  pub reachable-covered : Covered (after (opened s) cs)
-  reachable-covered = valid-covered (after (opened s) cs) reachable-valid
+  pub reachable-covered : Covered (after step (opened s) cs)
+  reachable-covered = valid-covered (after step (opened s) cs) reachable-valid

@@ -14,8 +14,8 @@ use Rattle.rules.specs.Opening.{opened}
 use Rattle.rules.specs.Requests.{Kind, register, confirm, withdraw, guarantee, openBatch, undo, keep, closeGate, schedule, settle, kindNumber}
 use Rattle.rules.specs.Registration.{moved, confirms}
 use Rattle.rules.specs.Calls.{Call, kindIn, requestIn, next, numberFrom, confirmedNumber, scheduled, inputChecks, stateChecks, step, apply}
-use Rattle.rules.specs.Lists.{accepts, after}
-use Rattle.rules.specs.Ledger.{Page, Ledger, blank, newLedger, tradeOf, turn, feed, fed, heard, fedAll, traded}
+use Rattle.rules.specs.Lists.{accepts, after, runs, heard}
+use Rattle.rules.specs.Ledger.{Page, Ledger, blank, newLedger, tradeOf, turn, feed, fed, fedAll, traded, ledgerAfter}
 use Rattle.rules.proofs.Basics.Searches.{each-nth}
 use Rattle.rules.proofs.Checks.Clearing.{Clear}
 use Rattle.rules.proofs.Checks.Passed.{Passed, Kept, passed-kind, step-cases, passed-11, passed-12, passed-13, passed-16-confirm}
@@ -133,20 +133,20 @@ next-agrees settle b c q l e i h r g =
 -- ---- a call, and a list of calls
 
 pub step-agrees : (b : Book) (c : Call) (l : Ledger) → Ranged b → Agrees b l
-    → Agrees (step b c .book) (fed (c .bytes) (accepts b c) l)
+    → Agrees (step b c .book) (fed (c .bytes) (accepts step b c) l)
 unfolding fed
 step-agrees b c l r g = go (step-cases b c)
   where
-    go : Kept b c ⊎ Passed b c → Agrees (step b c .book) (fed (c .bytes) (accepts b c) l)
+    go : Kept b c ⊎ Passed b c → Agrees (step b c .book) (fed (c .bytes) (accepts step b c) l)
     go (inl kept) = rw (kept .book, kept .outcome) g
     go (inr p) =
         rw (p .book, p .outcome) (next-agrees (kindIn c) b c (requestIn c) l (passed-kind p) (p .input) (p .state) r g)
 
-pub list-agrees : (b : Book) (l : Ledger) (cs : List Call) → Ranged b → Agrees b l → Agrees (after b cs) (fedAll l (heard b cs))
-unfolding after fedAll heard
+pub list-agrees : (b : Book) (l : Ledger) (cs : List Call) → Ranged b → Agrees b l → Agrees (after step b cs) (fedAll l (heard step b cs))
+unfolding after fedAll heard runs
 list-agrees b l [] r g = g
 list-agrees b l (c ∷ cs) r g = list-agrees (step b c .book) _ cs (step-ranged b c r) (step-agrees b c l r g)
 
 -- a day's ledger, fed only the set-up, the records and whether each was accepted, agrees with its book after any list of calls
-pub day-agrees : (s : List ℕ) (cs : List Call) → Agrees (after (opened s) cs) (fedAll (newLedger s) (heard (opened s) cs))
+pub day-agrees : (s : List ℕ) (cs : List Call) → Agrees (after step (opened s) cs) (ledgerAfter step s (opened s) cs)
 day-agrees s cs = list-agrees (opened s) (newLedger s) cs (opened-ranged s) (opened-agrees s)

@@ -17,9 +17,9 @@ use Rattle.rules.specs.Requests.{settle}
 use Rattle.rules.specs.Registration.{netOf, available}
 use Rattle.rules.specs.Readings.{position, netReading, exposureReading}
 use Rattle.rules.specs.Settlement.{pricesIn, results, balances, registeredTotal, balanceFigure}
-use Rattle.rules.specs.Calls.{Call, Settled, kindIn, _∈_, workedOut, settles, refusal, answer, step}
-use Rattle.rules.specs.Lists.{after}
-use Rattle.rules.specs.Ledger.{Ledger, newLedger, feed, fed, heard, fedAll, ledgerNet, ledgerExposure, ledgerAvailable}
+use Rattle.rules.specs.Calls.{Call, drawnUp, Settled, kindIn, _∈_, workedOut, settles, refusal, step, settlement}
+use Rattle.rules.specs.Lists.{after, heard}
+use Rattle.rules.specs.Ledger.{Ledger, newLedger, feed, fed, fedAll, ledgerNet, ledgerExposure, ledgerAvailable, ledgerAfter}
 use Rattle.rules.proofs.Ledgers.Ranged.{Ranged, opened-ranged, last-ranged}
 use Rattle.rules.proofs.Ledgers.Agreement.{Agrees, day-agrees}
 use Rattle.rules.proofs.Ledgers.LedgerReadings.{net-read-is-the-ledgers, exposure-read-is-the-ledgers, available-is-the-ledgers, results-are-the-ledgers, balances-are-the-ledgers, total-is-the-ledgers}
@@ -38,8 +38,8 @@ never : (w : Settled) → none ≡ some w → ⊥
 never w h = let z : _≡_ {A = ℕ} 0 1 = cc in omega arith
 
 module _ (b : Book) (c : Call) (l : Ledger) (w : Settled) (owned : Owned (b .setup)) (r : Ranged b) (g : Agrees b l) where
-  settles-go : (t : Bool) → (if t then some (workedOut b c) else none) ≡ some w → SettledBy l c w
-  unfolding workedOut
+  settles-go : (t : Bool) → (if t then some (drawnUp b c) else none) ≡ some w → SettledBy l c w
+  unfolding drawnUp
   settles-go false h = absurd (never w h)
   settles-go true h =
       let t = pricesIn (b .setup) (c .prices) in
@@ -55,14 +55,14 @@ module _ (b : Book) (c : Call) (l : Ledger) (w : Settled) (owned : Owned (b .set
         total = book-total b t owned r ∙ total-is-the-ledgers b l g t ∙ rw (g .setup);
       })
 
-  answer-go : (o : Option Refusal) → answer b c o .settled ≡ some w → SettledBy l c w
-  unfolding answer settles
-  answer-go (some x) h = absurd (never w h)
-  answer-go none h = settles-go (kindIn c ∈ (settle ∷ [])) h
+  worked-go : (o : Option Refusal) → workedOut b c o ≡ some w → SettledBy l c w
+  unfolding workedOut settles
+  worked-go (some x) h = absurd (never w h)
+  worked-go none h = settles-go (kindIn c ∈ (settle ∷ [])) h
 
-  pub settled-by : step b c .settled ≡ some w → SettledBy l c w
-  unfolding step
-  settled-by h = answer-go (refusal b c) h
+  pub settled-by : settlement b c ≡ some w → SettledBy l c w
+  unfolding settlement
+  settled-by h = worked-go (refusal b c) h
 
 -- ---- the set-up stands all day
 
@@ -81,18 +81,18 @@ fed-all-setup l (x ∷ xs) = fed-all-setup (fed (x .0) (x .1) l) xs ∙ fed-setu
 module _ (s : List ℕ) (cs : List Call) where
   -- the book after the calls
   abbrev pub dayBook : Book
-  dayBook = after (opened s) cs
+  dayBook = after step (opened s) cs
 
   -- the ledger, fed only the set-up, the records and whether each was accepted
   abbrev pub dayLedger : Ledger
-  dayLedger = fedAll (newLedger s) (heard (opened s) cs)
+  dayLedger = ledgerAfter step s (opened s) cs
 
   agrees : Agrees dayBook dayLedger
   agrees = day-agrees s cs
 
   pub day-setup : dayLedger .setup ≡ setupOf s
   unfolding newLedger
-  day-setup = fed-all-setup (newLedger s) (heard (opened s) cs)
+  day-setup = fed-all-setup (newLedger s) (heard step (opened s) cs)
 
   -- every reading of net
   pub day-net : (a h : ℕ) → within 1 a (accountCount (setupOf s)) ≡ true → within 1 h (periods (setupOf s)) ≡ true
@@ -109,6 +109,6 @@ module _ (s : List ℕ) (cs : List Call) where
   day-available o = available-is-the-ledgers dayBook dayLedger agrees o
 
   -- an accepted settle
-  pub day-settled : Owned (setupOf s) → (c : Call) (w : Settled) → step dayBook c .settled ≡ some w → SettledBy dayLedger c w
+  pub day-settled : Owned (setupOf s) → (c : Call) (w : Settled) → settlement dayBook c ≡ some w → SettledBy dayLedger c w
   day-settled owned c w h =
       settled-by dayBook c dayLedger w (rw (agrees .setup, day-setup) owned) (last-ranged (opened s) cs (opened-ranged s)) agrees h

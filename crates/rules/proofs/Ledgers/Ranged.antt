@@ -157,7 +157,7 @@ step-ranged b c g = go (step-cases b c)
     go (inl kept) = rw (kept .book) g
     go (inr p) = rw (p .book) (apply-ranged (change (kindIn c) b (requestIn c)) b (change-adds (kindIn c) b c (requestIn c) (passed-kind p) (p .input)) g)
 
-pub last-ranged : (b : Book) (cs : List Call) → Ranged b → Ranged (after b cs)
+pub last-ranged : (b : Book) (cs : List Call) → Ranged b → Ranged (after step b cs)
 unfolding after
 last-ranged b [] g = g
 last-ranged b (c ∷ cs) g = last-ranged (step b c .book) cs (step-ranged b c g)

@@ -12,12 +12,12 @@ use lib.ListN.{length, length-append}
 use borrow.Author.Tests.{not-true}
 use Rattle.rules.specs.declared.Row.{Row}
 use Rattle.rules.specs.declared.Request.{Request}
-use Rattle.rules.specs.Basics.{if_then_else_}
+use Rattle.rules.specs.Basics.{if_then_else_, total, every}
 use Rattle.rules.specs.Verdicts.{accepted}
 use Rattle.rules.specs.Books.{Part, Book, withRows}
 use Rattle.rules.specs.Requests.{Kind, register, confirm, withdraw, guarantee, openBatch, undo, keep, closeGate, schedule, settle}
 use Rattle.rules.specs.Calls.{Call, requestIn, kindIn, restored, confirmedNumber, next, given, _∈_, stateChecks, step, apply}
-use Rattle.rules.specs.Lists.{after, acceptsAs, rowsRegistered, endsNoBatch, UndoneBatch, CutOut}
+use Rattle.rules.specs.Lists.{after, acceptsAs, rowsRegistered, endsNoBatch, UndoneBatch, CutOut, runs}
 use Rattle.rules.proofs.Basics.Tests.{and-both, and-spared}
 use Rattle.rules.proofs.Checks.Clearing.{Clear}
 use Rattle.rules.proofs.Checks.Passed.{Passed, Kept, step-cases, passed-11, passed-12}
@@ -31,7 +31,7 @@ use Rattle.rules.proofs.Lists.CallLists.{after-append, cut-out, kept-re
 pub the-kind : (k j : Kind) → k ∈ (j ∷ []) ≡ true → k ≡ j
 the-kind k j h = same-kind k j (sym (or-false _) ∙ h)
 
-passed-as : (b : Book) (c : Call) (k : Kind) → acceptsAs (k ∷ []) b c ≡ true → Passed b c × (kindIn c ≡ k)
+passed-as : (b : Book) (c : Call) (k : Kind) → acceptsAs step (k ∷ []) b c ≡ true → Passed b c × (kindIn c ≡ k)
 passed-as b c k h = let w = and-both _ _ .0 h in (accepts-passed b c (w .0), the-kind (kindIn c) k (w .1))
 
 -- ---- while a batch is open
@@ -73,17 +73,17 @@ module _ {o b : Book} {n : ℕ} (w : Within o n b) (q : Request) where
 
 -- the rows that one call registers
 abbrev rowsOf : Book → Call → ℕ
-rowsOf b c = if acceptsAs (register ∷ []) b c then 1 else 0
+rowsOf b c = if acceptsAs step (register ∷ []) b c then 1 else 0
 
-within-go : {o : Book} {n : ℕ} (b : Book) (c : Call) → acceptsAs (undo ∷ keep ∷ []) b c ≡ false → Within o n b → Kept b c ⊎ Passed b c
+within-go : {o : Book} {n : ℕ} (b : Book) (c : Call) → acceptsAs step (undo ∷ keep ∷ []) b c ≡ false → Within o n b → Kept b c ⊎ Passed b c
     → Within o (rowsOf b c + n) (step b c .book)
 within-go b c e w (inl kept) = rw (kept-refused kept, kept .book, zero-add) w
 within-go b c e w (inr p) =
     rw (passed-accepted p, p .book) (within-next w (requestIn c) (kindIn c) (and-spared _ _ (passed-accepted p) e) (p .state))
 
-within-after : {o : Book} {n : ℕ} (b : Book) (cs : List Call) → endsNoBatch b cs ≡ true → Within o n b
-    → Within o (rowsRegistered b cs + n) (after b cs)
-unfolding endsNoBatch after rowsRegistered
+within-after : {o : Book} {n : ℕ} (b : Book) (cs : List Call) → endsNoBatch step b cs ≡ true → Within o n b
+    → Within o (rowsRegistered step b cs + n) (after step b cs)
+unfolding endsNoBatch after rowsRegistered runs every total
 within-after b [] e w = rw zero-add w
 within-after {n} b (c ∷ cs) e w =
     let t = and-both _ _ .0 e in
@@ -95,12 +95,12 @@ within-open b q e = record { setup = refl; phase = e; schedules = refl; saved = 
 
 -- ---- an undone batch
 
-module _ (b : Book) (opening : Call) (between : List Call) (undoing : Call) (batch : UndoneBatch b opening between undoing) where
+module _ (b : Book) (opening : Call) (between : List Call) (undoing : Call) (batch : UndoneBatch step b opening between undoing) where
   opened-batch : Passed b opening × (kindIn opening ≡ openBatch)
   opened-batch = passed-as b opening openBatch (batch .opens)
 
-  undone-batch : Passed (after b (opening ∷ between)) undoing × (kindIn undoing ≡ undo)
-  undone-batch = passed-as (after b (opening ∷ between)) undoing undo (batch .undoes)
+  undone-batch : Passed (after step b (opening ∷ between)) undoing × (kindIn undoing ≡ undo)
+  undone-batch = passed-as (after step b (opening ∷ between)) undoing undo (batch .undoes)
 
   step-open : step b opening .book ≡ next openBatch b (requestIn opening)
   step-open = opened-batch .0 .book ∙ ap (λ (k : Kind). next k b (requestIn opening)) (opened-batch .1)
@@ -111,7 +111,7 @@ module _ (b : Book) (opening : Call) (between : List Call) (undoing : Call) (bat
   saved-none : b .saved ≡ none
   saved-none = passed-12 b (requestIn opening) openBatch refl (rw (opened-batch .1) at (opened-batch .0 .state))
 
-  within-batch : Within b (rowsRegistered (after b (opening ∷ [])) between) (after b (opening ∷ between))
+  within-batch : Within b (rowsRegistered step (after step b (opening ∷ [])) between) (after step b (opening ∷ between))
   unfolding after
   within-batch =
       let start : Within b 0 (step b opening .book) = rw step-open (within-open b (requestIn opening) phase-open) in
@@ -131,21 +131,21 @@ module _ (b : Book) (opening : Call) (between : List Call) (undoing : Call) (bat
       }
 
   -- undo gives back the book as it was before the open, whole, whatever was called in between
-  pub undo-restores : after b (opening ∷ between ++ undoing ∷ []) ≡ b
+  pub undo-restores : after step b (opening ∷ between ++ undoing ∷ []) ≡ b
   unfolding after
   undo-restores =
-      after-append b (opening ∷ between) (undoing ∷ [])
+      after-append step b (opening ∷ between) (undoing ∷ [])
       ∙ undone-batch .0 .book
-      ∙ ap (λ (k : Kind). next k (after b (opening ∷ between)) (requestIn undoing)) (undone-batch .1)
+      ∙ ap (λ (k : Kind). next k (after step b (opening ∷ between)) (requestIn undoing)) (undone-batch .1)
       ∙ undo-within _ _ (requestIn undoing) within-batch
 
   -- and gives the number of rows registered since
-  pub undo-counts : step (after b (opening ∷ between)) undoing .outcome ≡ accepted (rowsRegistered (after b (opening ∷ [])) between)
+  pub undo-counts : step (after step b (opening ∷ between)) undoing .outcome ≡ accepted (rowsRegistered step (after step b (opening ∷ [])) between)
   unfolding given
   undo-counts =
-      let x = after b (opening ∷ between) in
+      let x = after step b (opening ∷ between) in
       let saved : restored (x .saved) (x .part) ≡ b .part = ap (λ (o : Option Part). restored o (x .part)) (within-batch .saved) in
-      let count : length (x .part .rows) - length (restored (x .saved) (x .part) .rows) ≡ rowsRegistered (after b (opening ∷ [])) between
+      let count : length (x .part .rows) - length (restored (x .saved) (x .part) .rows) ≡ rowsRegistered step (after step b (opening ∷ [])) between
       = rw saved (omega (arith, within-batch .numbers)) in
       undone-batch .0 .outcome
       ∙ ap (λ (k : Kind). accepted (given k x (requestIn undoing))) (undone-batch .1)
@@ -153,6 +153,6 @@ module _ (b : Book) (opening : Call) (between : List Call) (undoing : Call) (bat
 
 -- the undone batch cut out of a list, whatever stands before and after it
 pub undone-batch-cut-out : (b : Book) (before : List Call) (opening : Call) (between : List Call) (undoing : Call) (rest : List Call)
-    → UndoneBatch (after b before) opening between undoing → CutOut b before (opening ∷ between ++ undoing ∷ []) rest
+    → UndoneBatch step (after step b before) opening between undoing → CutOut step b before (opening ∷ between ++ undoing ∷ []) rest
 undone-batch-cut-out b before opening between undoing rest batch =
-    cut-out b before (opening ∷ between ++ undoing ∷ []) rest (undo-restores (after b before) opening between undoing batch)
+    cut-out step b before (opening ∷ between ++ undoing ∷ []) rest (undo-restores (after step b before) opening between undoing batch)

@@ -1,8 +1,8 @@
 -- The bytes are those of each value, by nested division.
-use Rattle.settlement.proofs.SchedulingLaws.{schedule-literal}
+use Rattle.image.proofs.Writing.Literals.{schedule-literal}
 use borrow.Author.Needs.{needs}
-use Rattle.settlement.proofs.scheduling.schedule_bytes.Statement.{statement}
-use Rattle.settlement.proofs.scheduling.schedule_bytes.Tie as tie
+use Rattle.image.proofs.schedules.schedule_bytes.Statement.{statement}
+use Rattle.image.proofs.schedules.schedule_bytes.Tie as tie
 
 cast-t5 : tie.Need-cast-t5
 cast-t5 c = search needs

@@ -1,8 +1,8 @@
 -- The bytes are those of each value, by nested division.
-use Rattle.registration.proofs.ProposalLaws.{row-literal}
+use Rattle.image.proofs.Writing.Literals.{row-literal}
 use borrow.Author.Needs.{needs}
-use Rattle.registration.proofs.proposal.row_bytes.Statement.{statement}
-use Rattle.registration.proofs.proposal.row_bytes.Tie as tie
+use Rattle.image.proofs.rows.row_bytes.Statement.{statement}
+use Rattle.image.proofs.rows.row_bytes.Tie as tie
 
 cast-t5 : tie.Need-cast-t5
 cast-t5 c = search needs
