@@ -1,7 +1,7 @@
 -- Bytes are a book exactly where each section stands: the tests of a valid book and those of its image, gathered by section.
 use Prim.Native.Nat.{ℕ, zero, suc, _+_, _-_, _*_, _≤_, _<_}
 use mathlib.Core.Path.{_≡_, refl, sym, ap, _∙_}
-use mathlib.Core.List.{List, map}
+use mathlib.Core.List.{List, [], _∷_, map}
 use mathlib.Core.Bool.{Bool, true, false, not, _&&_, _||_}
 use native.Mathlib.Omega.{arith}
 use lib.ListN.{length, getD, take, drop, length-map}
@@ -12,22 +12,22 @@ use Rattle.wire.specs.Regions.{zerosFrom}
 use Rattle.wire.specs.Parts.{chunks}
 use Rattle.wire.proofs.SlotLaws.{length-chunks, chunks-front}
 use Rattle.rules.specs.declared.Row.{Row}
-use Rattle.rules.specs.Basics.{if_then_else_, any, every, isSome, within}
+use Rattle.rules.specs.Basics.{if_then_else_, any, every, allOf, isSome}
 use Rattle.rules.specs.Limits.{mostHours, mostOperators, mostSchedules, bookSize}
 use Rattle.rules.specs.Books.{Setup, Part, Book}
-use Rattle.rules.specs.Opening.{countsIn, operatorsFrom, setupLength, setupOf}
+use Rattle.rules.specs.Opening.{countsIn, setupOf}
 use Rattle.rules.specs.Registration.{pending}
-use Rattle.rules.proofs.Basics.Tests.{test-same, and-both}
-use Rattle.image.specs.Layout.{setupRoom, scheduleWidth, partSize, usedSize, phaseAt, flagAt, scheduleCountAt, schedulesAt, presentAt, savedAt}
+use Rattle.rules.proofs.Basics.Tests.{test-same, and-both, Holds, _and_, no-more, all-holds, holds-all, chained-all, chain-holds, holds-chain}
+use Rattle.image.specs.Layout.{scheduleWidth, partSize, usedSize, phaseAt, flagAt, scheduleCountAt, schedulesAt, presentAt, savedAt}
 use Rattle.image.specs.Image.{scheduleIn, savedIn, decode}
-use Rattle.image.specs.Valid.{setupOk, scheduleOk, partOk, follows, savedOk, bookTests, valid, isBook}
+use Rattle.image.specs.Valid.{scheduleOk, partOk, follows, savedOk, bookTests, valid, isBook}
 use Rattle.image.specs.Cells.{schedulesFrom, partAt}
-use Rattle.image.proofs.Sound.Soundness.{all-holds, holds-all, sound-setup}
+use Rattle.image.proofs.Sound.Soundness.{sound-setup}
 use Rattle.image.proofs.Round.{length-book}
 use Rattle.image.proofs.Reading.Places.{bookAt, decode-places}
 use Rattle.image.proofs.Setups.SetupAgain.{setup-in-front}
-use Rattle.audit.specs.Plain.{noneLodged, partPlain, savedPlain, bookPlainTests, bookPlain}
-use Rattle.audit.specs.Stands.{setupStands, rowsOf, partStands, savedStands, schedulesStand, phaseStands}
+use Rattle.audit.specs.Plain.{partPlain, savedPlain, bookPlainTests, bookPlain}
+use Rattle.audit.specs.Stands.{setupStandTests, setupStands, rowsOf, partStands, savedStands, schedulesStandTests, schedulesStand, phaseStandTests, phaseStands}
 use Rattle.audit.proofs.Local.{is-book-local}
 use Rattle.audit.proofs.PartStands.{part-places, few-rows}
 use Rattle.audit.proofs.StandLaws.{fails-with, setup-known}
@@ -45,15 +45,15 @@ unfolding schedulesFrom
 schedules-there s h = ap (map scheduleIn) (chunks-front scheduleWidth (numberAt s scheduleCountAt 2) 2816 (drop schedulesAt s) (omega arith))
 
 pub too-many-schedules : (s : List ℕ) → mostSchedules < numberAt s scheduleCountAt 2 → false ≡ schedulesStand s
-unfolding schedulesStand
+unfolding schedulesStand allOf
 too-many-schedules s h = rw (lt-leb (numberAt s scheduleCountAt 2) mostSchedules h)
 
 pub schedules-by-tests : (s : List ℕ) (n : ℕ) {each zeros : Bool} → n ≡ numberAt s scheduleCountAt 2 → n ≤ mostSchedules
     → each ≡ every (scheduleOk (setupOf s)) (schedulesFrom s schedulesAt n)
     → zeros ≡ zerosFrom s (schedulesAt + scheduleWidth * n) (scheduleWidth * mostSchedules - scheduleWidth * n)
     → (each && zeros) ≡ schedulesStand s
-unfolding schedulesStand
-schedules-by-tests s n e h t z = rw (t, z, ← e, le-leb n mostSchedules h)
+unfolding schedulesStand allOf
+schedules-by-tests s n {each} {zeros} e h t z = chained-all each (zeros ∷ []) ∙ rw (t, z, ← e, le-leb n mostSchedules h)
 
 -- ---- the saved part
 
@@ -129,12 +129,6 @@ module _ (s : List ℕ) where
   abbrev phase : ℕ
   phase = getD s phaseAt 0
 
-  abbrev lodged : Bool
-  lodged = noneLodged s (operatorsFrom (countsIn s)) (countsIn s .operators)
-
-  abbrev behind : Bool
-  behind = zerosFrom s (setupLength (countsIn s)) (setupRoom - setupLength (countsIn s))
-
   present-rows : countsIn s .operators ≤ mostOperators → partStands s presentAt ≡ true → here .part .rows ≡ rowsOf s presentAt
   present-rows o t = ap (λ (p : Part). p .rows) (part-places s presentAt (countsIn s .operators) o (few-rows s presentAt t))
 
@@ -148,64 +142,48 @@ module _ (s : List ℕ) where
   none-open : (eqb phase 1 || not (isSome (here .saved))) ≡ (eqb phase 1 || eqb (getD s flagAt 0) 0)
   none-open = ap (λ (t : Bool). eqb phase 1 || t) (no-part (getD s flagAt 0) mostHours (countsIn s .operators) (take (partSize mostHours) (drop (savedAt mostHours) s)))
 
-  valid-stands : length s ≡ bookSize → valid here ≡ true → bookPlain mostHours bookSize s ≡ true → Stand s
-  unfolding valid bookPlain setupStands partStands savedStands schedulesStand phaseStands
-  valid-stands l v p =
-      let t = all-holds (bookTests here) v in
-      let q = all-holds (bookPlainTests mostHours bookSize s) p in
-      let f = setup-in-front s (sound-setup (here .setup) (t .0)) in
-      let a : setupStands s ≡ true = and-both (setupOk (here .setup)) (lodged && behind) .1 (t .0, and-both lodged behind .1 (q .1 .0, q .0)) in
+  valid-stands : length s ≡ bookSize → Holds (bookTests here) → Holds (bookPlainTests mostHours bookSize s) → Stand s
+  unfolding setupStands partStands savedStands schedulesStand phaseStands
+  valid-stands l (setup and phased and part and saved and count and schedules and ended and early and batch and _)
+      (behind-setup and bare and flagged and behind-schedules and plain and saved-plain and spare and _) =
+      let f = setup-in-front s (sound-setup (here .setup) setup) in
+      let a : setupStands s ≡ true = holds-all (setupStandTests s) (setup and bare and behind-setup and no-more) in
       let k = setup-known s l a in
       let b : partStands s presentAt ≡ true =
-      and-both (partOk (setupOf s) (here .part)) (partPlain mostHours (countsIn s .operators) s presentAt) .1 (ap (λ (u : Setup). partOk u (here .part)) (sym f) ∙ t .1 .1 .0, q .1 .1 .1 .1 .0) in
+      and-both (partOk (setupOf s) (here .part)) (partPlain mostHours (countsIn s .operators) s presentAt) .1 (ap (λ (u : Setup). partOk u (here .part)) (sym f) ∙ part, plain) in
       let e = present-rows (k .operators-high) b in
-      let few : numberAt s scheduleCountAt 2 ≤ mostSchedules = omega (arith, schedule-count s, leb-true (length (here .schedules)) mostSchedules (t .1 .1 .1 .1 .0)) in
+      let few : numberAt s scheduleCountAt 2 ≤ mostSchedules = omega (arith, schedule-count s, leb-true (length (here .schedules)) mostSchedules count) in
       let each : every (scheduleOk (setupOf s)) (schedulesFrom s schedulesAt (numberAt s scheduleCountAt 2)) ≡ true =
-      ap (every (scheduleOk (setupOf s))) (sym (schedules-there s few)) ∙ ap (λ (u : Setup). every (scheduleOk u) (here .schedules)) (sym f) ∙ t .1 .1 .1 .1 .1 .0 in
+      ap (every (scheduleOk (setupOf s))) (sym (schedules-there s few)) ∙ ap (λ (u : Setup). every (scheduleOk u) (here .schedules)) (sym f) ∙ schedules in
       record {
         setup-stands = a;
         part-stands = b;
         saved-stands =
             saved-there s (k .operators-high) (rowsOf s presentAt) (getD s flagAt 0)
-            (ap (λ (r : List Row). savedOk (setupOf s) r (here .saved)) (sym e) ∙ ap (λ (u : Setup). savedOk u (here .part .rows) (here .saved)) (sym f) ∙ t .1 .1 .1 .0)
-            (q .1 .1 .1 .1 .1 .0);
-        schedules-stand = and-both (leb (numberAt s scheduleCountAt 2) mostSchedules) _ .1 (le-leb _ _ few, and-both _ _ .1 (each, q .1 .1 .1 .0));
-        phase-stands =
-            and-both _ _ .1 (
-              and-both _ _ .1 (
-                and-both _ _ .1 (and-both _ _ .1 (t .1 .0, q .1 .1 .0), sym (none-left e) ∙ t .1 .1 .1 .1 .1 .1 .0),
-                sym none-yet ∙ t .1 .1 .1 .1 .1 .1 .1 .0,
-              ),
-              sym none-open ∙ t .1 .1 .1 .1 .1 .1 .1 .1 .0,
-            );
-        spare-zero = q .1 .1 .1 .1 .1 .1 .0;
+            (ap (λ (r : List Row). savedOk (setupOf s) r (here .saved)) (sym e) ∙ ap (λ (u : Setup). savedOk u (here .part .rows) (here .saved)) (sym f) ∙ saved)
+            saved-plain;
+        schedules-stand = holds-all (schedulesStandTests s) (le-leb _ _ few and each and behind-schedules and no-more);
+        phase-stands = holds-all (phaseStandTests s) (phased and flagged and (sym (none-left e) ∙ ended) and (sym none-yet ∙ early) and (sym none-open ∙ batch) and no-more);
+        spare-zero = spare;
       }
 
-  stands-valid : length s ≡ bookSize → Stand s → (valid here ≡ true) × (bookPlain mostHours bookSize s ≡ true)
-  unfolding valid bookPlain setupStands partStands savedStands schedulesStand phaseStands
-  stands-valid l d =
-      let n : ℕ = numberAt s scheduleCountAt 2 in
-      let a = and-both (setupOk (here .setup)) (lodged && behind) .0 (d .setup-stands) in
-      let a1 = and-both lodged behind .0 (a .1) in
-      let f = setup-in-front s (sound-setup (here .setup) (a .0)) in
+  stands-valid : length s ≡ bookSize → Stand s → Holds (setupStandTests s) → Holds (schedulesStandTests s) → Holds (phaseStandTests s)
+      → (valid here ≡ true) × (bookPlain mostHours bookSize s ≡ true)
+  unfolding valid bookPlain partStands savedStands
+  stands-valid l d (setup and bare and behind-setup and _) (count and each and behind-schedules and _) (phased and flagged and ended and early and batch and _) =
+      let f = setup-in-front s (sound-setup (here .setup) setup) in
       let k = setup-known s l (d .setup-stands) in
       let b = and-both (partOk (setupOf s) (here .part)) (partPlain mostHours (countsIn s .operators) s presentAt) .0 (d .part-stands) in
       let e = present-rows (k .operators-high) (d .part-stands) in
       let c = saved-here s (k .operators-high) (rowsOf s presentAt) (getD s flagAt 0) (d .saved-stands) in
-      let g = and-both (leb n mostSchedules) _ .0 (d .schedules-stand) in
-      let g1 = and-both (every (scheduleOk (setupOf s)) (schedulesFrom s schedulesAt n)) _ .0 (g .1) in
-      let few : n ≤ mostSchedules = leb-true _ _ (g .0) in
-      let h4 = and-both _ (eqb phase 1 || eqb (getD s flagAt 0) 0) .0 (d .phase-stands) in
-      let h3 = and-both _ (not (eqb phase 1) || eqb n 0) .0 (h4 .0) in
-      let h2 = and-both _ (eqb phase 1 || not (any pending (rowsOf s presentAt))) .0 (h3 .0) in
-      let h1 = and-both (within 1 phase 3) (leb (getD s flagAt 0) 1) .0 (h2 .0) in
+      let few : numberAt s scheduleCountAt 2 ≤ mostSchedules = leb-true _ _ count in
       let part = ap (λ (u : Setup). partOk u (here .part)) f ∙ b .0 in
       let saved =
       ap (λ (u : Setup). savedOk u (here .part .rows) (here .saved)) f ∙ ap (λ (r : List Row). savedOk (setupOf s) r (here .saved)) e ∙ c .0 in
-      let count = ap (λ (m : ℕ). leb m mostSchedules) (schedule-count s) ∙ g .0 in
-      let each = ap (λ (u : Setup). every (scheduleOk u) (here .schedules)) f ∙ ap (every (scheduleOk (setupOf s))) (schedules-there s few) ∙ g1 .0 in (
-        holds-all (bookTests here) (a .0, (h1 .0, (part, (saved, (count, (each, (none-left e ∙ h2 .1, (none-yet ∙ h3 .1, (none-open ∙ h4 .1, tt))))))))),
-        holds-all (bookPlainTests mostHours bookSize s) (a1 .1, (a1 .0, (h1 .1, (g1 .1, (b .1, (c .1, (d .spare-zero, tt))))))),
+      let counted = ap (λ (m : ℕ). leb m mostSchedules) (schedule-count s) ∙ count in
+      let schedules = ap (λ (u : Setup). every (scheduleOk u) (here .schedules)) f ∙ ap (every (scheduleOk (setupOf s))) (schedules-there s few) ∙ each in (
+        holds-all (bookTests here) (setup and phased and part and saved and counted and schedules and (none-left e ∙ ended) and (none-yet ∙ early) and (none-open ∙ batch) and no-more),
+        holds-all (bookPlainTests mostHours bookSize s) (behind-setup and bare and flagged and behind-schedules and b .1 and c .1 and d .spare-zero and no-more),
       )
 
 module _ (s : List ℕ) (b : Bytes s) where
@@ -213,14 +191,18 @@ module _ (s : List ℕ) (b : Bytes s) where
   tests = is-book-local mostHours bookSize s b (omega arith)
 
   pub book-stands : isBook s ≡ true → Stand s
+  unfolding valid bookPlain
   book-stands t =
       let w = and-both (eqb (length s) bookSize && valid (decode mostHours bookSize s)) (bookPlain mostHours bookSize s) .0 (sym tests ∙ t) in
       let v = and-both (eqb (length s) bookSize) (valid (decode mostHours bookSize s)) .0 (w .0) in
-      valid-stands s (length-book mostHours bookSize s t) (ap valid (sym (decode-places mostHours bookSize s)) ∙ v .1) (w .1)
+      valid-stands s (length-book mostHours bookSize s t)
+      (all-holds (bookTests (bookAt mostHours s)) (ap valid (sym (decode-places mostHours bookSize s)) ∙ v .1))
+      (all-holds (bookPlainTests mostHours bookSize s) (w .1))
 
   pub stands-book : length s ≡ bookSize → Stand s → isBook s ≡ true
+  unfolding setupStands schedulesStand phaseStands
   stands-book l d =
-      let w = stands-valid s l d in
+      let w = stands-valid s l d (all-holds (setupStandTests s) (d .setup-stands)) (all-holds (schedulesStandTests s) (d .schedules-stand)) (all-holds (phaseStandTests s) (d .phase-stands)) in
       tests ∙ rw (eq-eqb (length s) bookSize l, ap valid (decode-places mostHours bookSize s) ∙ w .0, w .1)
 
   -- bytes of another length are no book
@@ -236,16 +218,16 @@ module _ (s : List ℕ) (b : Bytes s) where
       → schedules ≡ schedulesStand s → phase ≡ phaseStands s → spare ≡ zerosFrom s (usedSize mostHours) (bookSize - usedSize mostHours)
       → ((schedules && phase) && spare) ≡ isBook s
   rest-decides {schedules} {phase} {spare} l a p v e f z =
-      test-same _ _ (λ t.
-      let w = and-both (schedules && phase) spare .0 t in
-      let u = and-both schedules phase .0 (w .0) in
-      stands-book l (record {
+      test-same _ _ (λ t. stands-book l (by-rest (chain-holds schedules (phase ∷ spare ∷ []) t))) (λ t.
+      let d = book-stands t in
+      holds-chain ((e ∙ d .schedules-stand) and (f ∙ d .phase-stands) and (z ∙ d .spare-zero) and no-more))
+    where
+      by-rest : Holds (schedules ∷ phase ∷ spare ∷ []) → Stand s
+      by-rest (schedules-hold and phase-holds and spare-holds and _) = record {
         setup-stands = a;
         part-stands = p;
         saved-stands = v;
-        schedules-stand = sym e ∙ u .0;
-        phase-stands = sym f ∙ u .1;
-        spare-zero = sym z ∙ w .1;
-      })) (λ t.
-      let d = book-stands t in
-      and-both (schedules && phase) spare .1 (and-both schedules phase .1 (e ∙ d .schedules-stand, f ∙ d .phase-stands), z ∙ d .spare-zero))
+        schedules-stand = sym e ∙ schedules-hold;
+        phase-stands = sym f ∙ phase-holds;
+        spare-zero = sym z ∙ spare-holds;
+      }

@@ -1,7 +1,7 @@
 -- The tests of a row and of a schedule as code joins them, from the left, by the counts of a set-up.
 use Prim.Native.Nat.{ℕ, _^_, _<_}
-use mathlib.Core.Path.{_≡_, sym, _∙_}
-use mathlib.Core.Bool.{Bool, true, not, _&&_, and-assoc, and-true}
+use mathlib.Core.Path.{_≡_, _∙_}
+use mathlib.Core.Bool.{Bool, not}
 use mathlib.Core.List.{List, [], _∷_}
 use lib.Dec.{eqb, leb, ltb}
 use borrow.Author.Tests.{lt-ltb}
@@ -10,17 +10,8 @@ use Rattle.rules.specs.declared.Schedule.{Schedule}
 use Rattle.rules.specs.Basics.{allOf, within}
 use Rattle.rules.specs.Limits.{mostEnergy, mostPrice}
 use Rattle.rules.specs.Books.{Setup, accountCount, pointCount, periods}
+use Rattle.rules.proofs.Basics.Tests.{chained, chained-all}
 use Rattle.image.specs.Valid.{rowOk, scheduleOk}
-
--- tests joined onto one that stands before them
-abbrev pub joined : Bool → List Bool → Bool
-joined t [] = t
-joined t (s ∷ ss) = joined (t && s) ss
-
-pub joined-all : (t : Bool) (ss : List Bool) → joined t ss ≡ t && allOf ss
-unfolding allOf
-joined-all t [] = sym (and-true t)
-joined-all t (s ∷ ss) = joined-all (t && s) ss ∙ and-assoc t s (allOf ss)
 
 -- the tests of a row but its first, and but that of its code
 abbrev pub rowRest : ℕ → ℕ → Row → List Bool
@@ -36,16 +27,16 @@ rowRest accounts hours r =
 
 -- a code in its 8 bytes is in range
 pub row-by-counts : (u : Setup) (r : Row) (accounts hours : ℕ) → accountCount u ≡ accounts → periods u ≡ hours → r .code < 256 ^ 8
-    → joined (within 1 (r .proposer) accounts) (rowRest accounts hours r) ≡ rowOk u r
+    → chained (within 1 (r .proposer) accounts) (rowRest accounts hours r) ≡ rowOk u r
 unfolding rowOk allOf
 row-by-counts u r accounts hours a h l =
-    joined-all (within 1 (r .proposer) accounts) (rowRest accounts hours r) ∙ rw (a, h, lt-ltb (r .code) (256 ^ 8) l)
+    chained-all (within 1 (r .proposer) accounts) (rowRest accounts hours r) ∙ rw (a, h, lt-ltb (r .code) (256 ^ 8) l)
 
 -- the tests of a schedule but its first
 abbrev pub scheduleRest : ℕ → Schedule → List Bool
 scheduleRest hours x = within 1 (x .side) 2 ∷ within 1 (x .hour) hours ∷ within 1 (x .quantity .0) mostEnergy ∷ leb (x .price .0) mostPrice ∷ []
 
 pub schedule-by-counts : (u : Setup) (x : Schedule) (points hours : ℕ) → pointCount u ≡ points → periods u ≡ hours
-    → joined (within 1 (x .point) points) (scheduleRest hours x) ≡ scheduleOk u x
+    → chained (within 1 (x .point) points) (scheduleRest hours x) ≡ scheduleOk u x
 unfolding scheduleOk allOf
-schedule-by-counts u x points hours p h = joined-all (within 1 (x .point) points) (scheduleRest hours x) ∙ rw (p, h)
+schedule-by-counts u x points hours p h = chained-all (within 1 (x .point) points) (scheduleRest hours x) ∙ rw (p, h)

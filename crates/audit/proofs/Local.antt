@@ -21,11 +21,10 @@ use Rattle.rules.specs.declared.Row.{Row}
 use Rattle.rules.specs.Limits.{mostOperators, mostSchedules}
 use Rattle.rules.specs.Books.{Setup}
 use Rattle.rules.specs.Opening.{countsIn}
-use Rattle.rules.proofs.Basics.Tests.{test-same, and-both}
+use Rattle.rules.proofs.Basics.Tests.{test-same, and-both, Holds, _and_, no-more, all-holds, holds-all}
 use Rattle.image.specs.Layout.{setupRoom, scheduleWidth, partSize, usedSize, bookWidths, phaseAt, flagAt, scheduleCountAt, schedulesAt, presentAt, savedAt}
 use Rattle.image.specs.Image.{scheduleBytes, partBytes, flag, savedBytes, sectionsWith, sections, image, scheduleIn, partIn, savedIn, decode}
 use Rattle.image.specs.Valid.{valid, isBookOf}
-use Rattle.image.proofs.Sound.Soundness.{all-holds, holds-all}
 use Rattle.image.proofs.Sound.SoundBooks.{SoundBook, SavedSound, sound}
 use Rattle.image.proofs.Writing.Sizes.{fits, length-schedule, wide-book}
 use Rattle.image.proofs.Round.{schedule-again, same-refl, book-is-image, length-book}
@@ -136,30 +135,29 @@ module _ (top size : ℕ) (s : List ℕ) (b : Bytes s) (l : length s ≡ size) (
       let t5 = part-plain top (countsIn s .operators) s presentAt b (omega arith) few (known .part-sound .rows-high) (at 5) in
       let t6 = saved-test .0 (at 6 ∙ rw saved-place) in
       let t7 = zeros-tested (size - usedSize top) s (usedSize top) (omega arith) (sym (at 7 ∙ rw spare-place)) in
-      holds-all (bookPlainTests top size s) (t0 .0, (t0 .1, (t2, (t4, (t5, (t6, (t7, tt)))))))
+      holds-all (bookPlainTests top size s) (t0 .0 and t0 .1 and t2 and t4 and t5 and t6 and t7 and no-more)
 
-  plain-book : bookPlain top size s ≡ true → image top size (bookAt top s) ≡ s
-  unfolding bookPlain image sections sectionsWith
-  plain-book h =
+  plain-book : Holds (bookPlainTests top size s) → image top size (bookAt top s) ≡ s
+  unfolding image sections sectionsWith
+  plain-book (behind and lodged and flagged and schedules and part and saved and spare and _) =
       let few-schedules = schedules-few in
-      let t = all-holds (bookPlainTests top size s) h in
       let room : List ℕ = take (scheduleWidth * mostSchedules) (drop schedulesAt s) in
-      let a0 = plain-setup s b (omega arith) (known .setup-sound) (t .0) (t .1 .0) in
+      let a0 = plain-setup s b (omega arith) (known .setup-sound) behind lodged in
       let a1 = sym (byte-at phaseAt (omega arith)) in
-      let a2 = flag-test .1 (t .1 .1 .0) ∙ sym (byte-at flagAt (omega arith)) in
+      let a2 = flag-test .1 flagged ∙ sym (byte-at flagAt (omega arith)) in
       let a3 = schedule-count in
-      let z4 = rest-zeros-read ws s 4 (scheduleWidth * scheduleCount) (omega arith) (omega arith) (t .1 .1 .1 .0) in
+      let z4 = rest-zeros-read ws s 4 (scheduleWidth * scheduleCount) (omega arith) (omega arith) schedules in
       let a4 = slots-again scheduleWidth scheduleBytes scheduleIn schedule-again mostSchedules scheduleCount (bytes-take (scheduleWidth * mostSchedules) (bytes-drop schedulesAt b))
       (length-take-le (scheduleWidth * mostSchedules) (drop schedulesAt s) (omega (arith, length-drop schedulesAt s))) few-schedules (sym (ap (drop (scheduleWidth * scheduleCount)) (cut-at ws s 4)) ∙ z4) in
-      let a5 = plain-part top (countsIn s .operators) s presentAt b (omega arith) few (known .part-sound .rows-high) (t .1 .1 .1 .1 .0) in
-      let a6 = saved-test .1 (t .1 .1 .1 .1 .1 .0) in
-      let a7 = sym (zeros-read (size - usedSize top) s (usedSize top) (omega arith) (t .1 .1 .1 .1 .1 .1 .0)) in
+      let a5 = plain-part top (countsIn s .operators) s presentAt b (omega arith) few (known .part-sound .rows-high) part in
+      let a6 = saved-test .1 saved in
+      let a7 = sym (zeros-read (size - usedSize top) s (usedSize top) (omega arith) spare) in
       eight a0 a1 a2 a3 a4 a5 a6 a7 ∙ in-places
 
 -- bytes are a book where they have its size, say a valid book, and pass the tests of their places
 pub is-book-local : (top size : ℕ) (s : List ℕ) → Bytes s → usedSize top ≤ size
     → isBookOf top size s ≡ (eqb (length s) size && valid (decode top size s) && bookPlain top size s)
-unfolding isBookOf
+unfolding isBookOf bookPlain
 is-book-local top size s b g =
     test-same _ _ (λ (t : isBookOf top size s ≡ true).
     let i = book-is-image top size s t in
@@ -170,5 +168,5 @@ is-book-local top size s b g =
     let h = and-both (eqb (length s) size && valid (decode top size s)) (bookPlain top size s) .0 t in
     let k = and-both (eqb (length s) size) (valid (decode top size s)) .0 (h .0) in
     let e = decode-places top size s in
-    let p = plain-book top size s b (eqb-true _ _ (k .0)) g (ap valid (sym e) ∙ k .1) (h .1) in
+    let p = plain-book top size s b (eqb-true _ _ (k .0)) g (ap valid (sym e) ∙ k .1) (all-holds (bookPlainTests top size s) (h .1)) in
     rw (k .0, k .1, ap (image top size) e ∙ p, same-refl s))

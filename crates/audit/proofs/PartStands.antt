@@ -20,7 +20,7 @@ use Rattle.rules.specs.Basics.{every, allOf, upTo, Each}
 use Rattle.rules.specs.Limits.{mostHours, mostAccounts, mostGuarantee, mostOperators, mostRows}
 use Rattle.rules.specs.Books.{Setup, Part, operatorCount}
 use Rattle.rules.specs.Opening.{countsIn, setupOf}
-use Rattle.rules.proofs.Basics.Tests.{test-same, and-both}
+use Rattle.rules.proofs.Basics.Tests.{test-same, and-both, Holds, _and_, no-more, all-holds, holds-all, holds-at, chained-all, chain-holds, holds-chain}
 use Rattle.rules.proofs.Basics.Searches.{every-each, each-map}
 use Rattle.rules.proofs.Setups.SetupEntries.{counts-of-setup}
 use Rattle.image.specs.Layout.{rowWidth, partWidths, partSize, rowsAt, netsAt, netAt}
@@ -28,11 +28,11 @@ use Rattle.image.specs.Image.{rowIn, partOf, partIn}
 use Rattle.image.specs.Valid.{rowOk, noTwins, marginsKept, guaranteesKept, partTests, partOk}
 use Rattle.image.specs.Tables.{placeOf, InTable, Tabled}
 use Rattle.image.specs.Cells.{rowsFrom, guaranteesFrom, partAt}
-use Rattle.image.proofs.Sound.Soundness.{SoundRow, sound-row, all-holds, holds-all, every-upTo, upTo-every}
+use Rattle.image.proofs.Sound.Soundness.{SoundRow, sound-row, every-upTo, upTo-every}
 use Rattle.image.proofs.Sound.SoundBooks.{sound-part}
 use Rattle.tables.specs.Sums.{SumsOf, netStored, netsStored}
 use Rattle.audit.specs.Plain.{netsHeld, partPlain}
-use Rattle.audit.specs.Stands.{SetupKnown, rowCount, rowsOf, partWith, guaranteesStand, rowsStand, sumsStand, partStands}
+use Rattle.audit.specs.Stands.{SetupKnown, rowCount, rowsOf, partWith, guaranteesStandTests, guaranteesStand, rowsStandTests, rowsStand, sumsStand, partStands}
 use Rattle.audit.proofs.CoverLaws.{length-guarantees-from}
 use Rattle.audit.proofs.StandLaws.{fails-with}
 
@@ -57,7 +57,8 @@ pub sums-stand : (s : List ℕ) (at : ℕ) (rows : List Row) (table : List ℕ) 
     → nets ≡ netsStored mostHours s (at + netsAt) table → margins ≡ marginsKept (setupOf s) rows → covers ≡ guaranteesKept (setupOf s) (partWith s at rows)
     → ((nets && margins) && covers) ≡ sumsStand s at rows
 unfolding sumsStand
-sums-stand s at rows table sums n m g = rw (n, m, g, nets-by-sums s at rows table sums)
+sums-stand s at rows table {nets} {margins} {covers} sums n m g =
+    chained-all nets (margins ∷ covers ∷ []) ∙ rw (n, m, g, nets-by-sums s at rows table sums)
 
 -- ---- a part at its places
 
@@ -99,34 +100,52 @@ module _ (s : List ℕ) (at operators : ℕ) where
 
 -- ---- the tests in the order in which code makes them
 
-in-order : (u : Setup) (p : Part) (z1 z2 nets : Bool) → length (p .guarantees) ≡ operatorCount u → length (p .rows) ≤ mostRows
-    → (partOk u p && allOf (z1 ∷ z2 ∷ nets ∷ []))
-    ≡ ((every (λ g. leb (g .0) mostGuarantee) (p .guarantees) && z1)
-    && (((every (rowOk u) (p .rows) && z2) && noTwins (p .rows)) && ((nets && marginsKept u (p .rows)) && guaranteesKept u p)))
-unfolding partOk
-in-order u p z1 z2 nets lg lr =
-    test-same _ _ (λ t.
-    let w = and-both (partOk u p) (allOf (z1 ∷ z2 ∷ nets ∷ [])) .0 t in
-    let h = all-holds (partTests u p) (w .0) in
-    let q = all-holds (z1 ∷ z2 ∷ nets ∷ []) (w .1) in
-    and-both _ _ .1 (
-      and-both _ _ .1 (h .1 .0, q .0),
-      and-both _ _ .1 (
-        and-both _ _ .1 (and-both _ _ .1 (h .1 .1 .1 .0, q .1 .0), h .1 .1 .1 .1 .0),
-        and-both _ _ .1 (and-both _ _ .1 (q .1 .1 .0, h .1 .1 .1 .1 .1 .0), h .1 .1 .1 .1 .1 .1 .0),
-      ),
-    )) (λ t.
-    let w = and-both (every (λ g. leb (g .0) mostGuarantee) (p .guarantees) && z1) _ .0 t in
-    let g = and-both (every (λ g. leb (g .0) mostGuarantee) (p .guarantees)) z1 .0 (w .0) in
-    let v = and-both ((every (rowOk u) (p .rows) && z2) && noTwins (p .rows)) ((nets && marginsKept u (p .rows)) && guaranteesKept u p) .0 (w .1) in
-    let r = and-both (every (rowOk u) (p .rows) && z2) (noTwins (p .rows)) .0 (v .0) in
-    let r1 = and-both (every (rowOk u) (p .rows)) z2 .0 (r .0) in
-    let m = and-both (nets && marginsKept u (p .rows)) (guaranteesKept u p) .0 (v .1) in
-    let m1 = and-both nets (marginsKept u (p .rows)) .0 (m .0) in
-    and-both (partOk u p) _ .1 (
-      holds-all (partTests u p) (eq-eqb _ _ lg, (g .0, (le-leb _ _ lr, (r1 .0, (r .1, (m1 .1, (m .1, tt))))))),
-      holds-all (z1 ∷ z2 ∷ nets ∷ []) (g .1, (r1 .1, (m1 .0, tt))),
-    ))
+module _ (u : Setup) (p : Part) (behind-guarantees behind-rows nets : Bool) where
+  abbrev ofPlaces : List Bool
+  ofPlaces = behind-guarantees ∷ behind-rows ∷ nets ∷ []
+
+  abbrev ofGuarantees : List Bool
+  ofGuarantees = every (λ g. leb (g .0) mostGuarantee) (p .guarantees) ∷ behind-guarantees ∷ []
+
+  abbrev ofRows : List Bool
+  ofRows = every (rowOk u) (p .rows) ∷ behind-rows ∷ noTwins (p .rows) ∷ []
+
+  abbrev ofSums : List Bool
+  ofSums = nets ∷ marginsKept u (p .rows) ∷ guaranteesKept u p ∷ []
+
+  to-order : Holds (partTests u p) → Holds ofPlaces → (allOf ofGuarantees && allOf ofRows && allOf ofSums) ≡ true
+  to-order (all and guarantees and few and rows and twins and margins and covers and _) (z1 and z2 and held and _) =
+      holds-chain (
+      holds-all ofGuarantees (guarantees and z1 and no-more)
+      and holds-all ofRows (rows and z2 and twins and no-more)
+      and holds-all ofSums (held and margins and covers and no-more)
+      and no-more
+      )
+
+  from-order : length (p .guarantees) ≡ operatorCount u → length (p .rows) ≤ mostRows → Holds ofGuarantees → Holds ofRows → Holds ofSums
+      → (allOf (partTests u p) && allOf ofPlaces) ≡ true
+  from-order all few (guarantees and z1 and _) (rows and z2 and twins and _) (held and margins and covers and _) =
+      holds-chain (
+      holds-all (partTests u p) (eq-eqb _ _ all and guarantees and le-leb _ _ few and rows and twins and margins and covers and no-more)
+      and holds-all ofPlaces (z1 and z2 and held and no-more)
+      and no-more
+      )
+
+  in-order : length (p .guarantees) ≡ operatorCount u → length (p .rows) ≤ mostRows
+      → (partOk u p && allOf ofPlaces) ≡ (allOf ofGuarantees && allOf ofRows && allOf ofSums)
+  unfolding partOk
+  in-order all few = test-same _ _ valid-first places-first
+    where
+      valid-first : (partOk u p && allOf ofPlaces) ≡ true → (allOf ofGuarantees && allOf ofRows && allOf ofSums) ≡ true
+      valid-first t =
+          let (v, z) = and-both (allOf (partTests u p)) (allOf ofPlaces) .0 t in
+          to-order (all-holds (partTests u p) v) (all-holds ofPlaces z)
+
+      by-sections : Holds (allOf ofGuarantees ∷ allOf ofRows ∷ allOf ofSums ∷ []) → (partOk u p && allOf ofPlaces) ≡ true
+      by-sections (g and r and m and _) = from-order all few (all-holds ofGuarantees g) (all-holds ofRows r) (all-holds ofSums m)
+
+      places-first : (allOf ofGuarantees && allOf ofRows && allOf ofSums) ≡ true → (partOk u p && allOf ofPlaces) ≡ true
+      places-first t = by-sections (chain-holds (allOf ofGuarantees) (allOf ofRows ∷ allOf ofSums ∷ []) t)
 
 -- the number of rows that a part that stands says is in range
 pub few-rows : (s : List ℕ) (at : ℕ) → partStands s at ≡ true → rowCount s at ≤ mostRows
@@ -143,7 +162,7 @@ module _ (s : List ℕ) (at n operators : ℕ) (k : SetupKnown s) (en : n ≡ ro
   abbrev rows : List Row
   rows = rowsFrom s (at + rowsAt) n
 
-  part-in-order : partStands s at ≡ (guaranteesStand s at operators && (rowsStand s at n && sumsStand s at rows))
+  part-in-order : partStands s at ≡ (guaranteesStand s at operators && rowsStand s at n && sumsStand s at rows)
   unfolding partStands partPlain guaranteesStand rowsStand sumsStand
   part-in-order =
       let ops : operatorCount (setupOf s) ≡ countsIn s .operators = ap (λ (c : Counts). c .operators) (counts-of-setup s) in
@@ -171,8 +190,6 @@ rows-tabled s at n k t =
     let c = counts-of-setup s in
     let accounts = ap (λ (c : Counts). c .accounts) c in
     let hours = ap (λ (c : Counts). c .hours) c in
-    let w = and-both _ (noTwins (rowsFrom s (at + rowsAt) n)) .0 t in
-    let v = and-both (every (rowOk (setupOf s)) (rowsFrom s (at + rowsAt) n)) _ .0 (w .0) in
     each-map (λ r e.
     let q : SoundRow (setupOf s) r = sound-row (setupOf s) r e in
     record {
@@ -184,11 +201,11 @@ rows-tabled s at n k t =
       in-order = q .in-order;
       last-high = omega (arith, q .last-high, hours, k .tabled .hours-high);
       quantity-high = q .quantity-high;
-    }) (every-each (rowOk (setupOf s)) (rowsFrom s (at + rowsAt) n) (v .0))
+    }) (every-each (rowOk (setupOf s)) (rowsFrom s (at + rowsAt) n) (holds-at 0 (rowsStandTests s at n) t))
 
 pub guarantees-small : (s : List ℕ) (at operators n : ℕ) → operators ≡ n → guaranteesStand s at operators ≡ true
     → Each (λ g. g .0 ≤ mostGuarantee) (guaranteesFrom s at n)
 unfolding guaranteesStand
 guarantees-small s at operators n e t =
-    let w = and-both (every (λ g. leb (g .0) mostGuarantee) (guaranteesFrom s at operators)) _ .0 t in
-    rw e at (each-map (λ g h. leb-true (g .0) mostGuarantee h) (every-each _ (guaranteesFrom s at operators) (w .0)))
+    let small = holds-at 0 (guaranteesStandTests s at operators) t in
+    rw e at (each-map (λ g h. leb-true (g .0) mostGuarantee h) (every-each _ (guaranteesFrom s at operators) small))

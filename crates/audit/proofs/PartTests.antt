@@ -18,10 +18,10 @@ use Rattle.units.specs.declared.Cents.{Cents}
 use Rattle.units.specs.Units.{cents}
 use Rattle.rules.specs.Limits.{mostOperators, mostAccounts, mostRows}
 use Rattle.rules.specs.Books.{Part}
+use Rattle.rules.proofs.Basics.Tests.{Holds, _and_, no-more, all-holds, holds-all}
 use Rattle.image.specs.Layout.{rowWidth, accountWidth, partWidths, partSize, rowCountAt, rowAt, netsAt}
 use Rattle.image.specs.Image.{rowBytes, partSections, partBytes, rowIn, partOf, partIn}
 use Rattle.image.specs.Cells.{partAt}
-use Rattle.image.proofs.Sound.Soundness.{all-holds, holds-all}
 use Rattle.image.proofs.Writing.Sizes.{PartFits, length-row, length-guarantee, wide-part}
 use Rattle.image.proofs.Round.{row-again, guarantee-again}
 use Rattle.audit.specs.Plain.{partPlainTests, partPlain}
@@ -118,23 +118,26 @@ module _ (top ops : ℕ) (s : List ℕ) (at : ℕ) (b : Bytes s) (l : at + partS
       let t0 = stretch-tested ws s at (partSize top) 0 (8 * ops) (at + 8 * ops) (omega arith) (omega arith) l (omega arith) z0 in
       let t2 = stretch-tested ws s at (partSize top) 2 (rowWidth * n) (at + rowAt n) (omega arith) (omega arith) l (omega arith) z2 in
       let t3 = nets-held top (p .rows) s at b (omega arith) (ap (λ (y : List (List ℕ)). getD y 3 []) sec ∙ nets-place) in
-      holds-all (partPlainTests top ops s at) (t0, (t2, (t3, tt)))
+      holds-all (partPlainTests top ops s at) (t0 and t2 and t3 and no-more)
 
-  pub plain-part : partPlain top ops s at ≡ true → partBytes top p ≡ x
-  unfolding partPlain partBytes partSections partIn partOf cut
-  plain-part t =
+  plain-by : Holds (partPlainTests top ops s at) → partBytes top p ≡ x
+  unfolding partBytes partSections partIn partOf cut
+  plain-by (guarantees and rows and nets and _) =
       let n : ℕ = numberAt s (at + rowCountAt) 2 in
       let m = few in
-      let h = all-holds (partPlainTests top ops s at) t in
-      let z0 = stretch-read ws s at (partSize top) 0 (8 * ops) (at + 8 * ops) (omega arith) (omega arith) l (omega arith) (h .0) in
-      let z2 = stretch-read ws s at (partSize top) 2 (rowWidth * n) (at + rowAt n) (omega arith) (omega arith) l (omega arith) (h .1 .0) in
+      let z0 = stretch-read ws s at (partSize top) 0 (8 * ops) (at + 8 * ops) (omega arith) (omega arith) l (omega arith) guarantees in
+      let z2 = stretch-read ws s at (partSize top) 2 (rowWidth * n) (at + rowAt n) (omega arith) (omega arith) l (omega arith) rows in
       let a0 = slots-again 8 enc dec guarantee-again mostOperators ops (bytes-c 0) (wide-at ws c 0 wide-c) o z0 in
       let a1 : le 2 (length (p .rows)) ≡ getD c 1 [] = ap (le 2) rows-count ∙ le-number-wide (bytes-c 1) 2 (wide-at ws c 1 wide-c) in
       let a2 : slots rowWidth mostRows rowBytes (p .rows) ≡ getD c 2 [] =
       ap (λ (k : ℕ). slots rowWidth mostRows rowBytes (map rowIn (chunks rowWidth k (getD c 2 [])))) count
       ∙ slots-again rowWidth rowBytes rowIn row-again mostRows n (bytes-c 2) (wide-at ws c 2 wide-c) m z2 in
-      let a3 = held-nets top (p .rows) s at b (omega arith) (h .1 .1 .0) ∙ sym nets-place in
+      let a3 = held-nets top (p .rows) s at b (omega arith) nets ∙ sym nets-place in
       side-by-side a0 a1 a2 a3 ∙ flat-cut ws x (length-x ∙ omega arith)
     where
       side-by-side : {c c′ e e′ o o′ a a′ : List ℕ} → c ≡ c′ → e ≡ e′ → o ≡ o′ → a ≡ a′ → flat (c ∷ e ∷ o ∷ a ∷ []) ≡ flat (c′ ∷ e′ ∷ o′ ∷ a′ ∷ [])
       side-by-side hc he ho ha = rw (hc, he, ho, ha)
+
+  pub plain-part : partPlain top ops s at ≡ true → partBytes top p ≡ x
+  unfolding partPlain
+  plain-part t = plain-by (all-holds (partPlainTests top ops s at) t)

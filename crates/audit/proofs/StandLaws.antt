@@ -14,20 +14,19 @@ use Rattle.units.specs.declared.Cents.{Cents}
 use Rattle.units.specs.Units.{cents}
 use Rattle.rules.specs.declared.Counts.{Counts}
 use Rattle.rules.specs.declared.Refusal.{Refusal}
-use Rattle.rules.specs.Basics.{isSome, Each, nil, cons}
+use Rattle.rules.specs.Basics.{allOf, isSome, Each, nil, cons}
 use Rattle.rules.specs.Limits.{thousand, bookSize}
 use Rattle.rules.specs.Books.{Setup, operatorCount}
 use Rattle.rules.specs.Opening.{countsIn, operatorsFrom, setupLength, setupOf, operatorsOf, setupRefusal}
-use Rattle.rules.proofs.Basics.Tests.{and-both}
+use Rattle.rules.proofs.Basics.Tests.{holds-at, chained-all}
 use Rattle.rules.proofs.Basics.Searches.{none-of}
 use Rattle.rules.proofs.Setups.SetupEntries.{counts-of-setup}
 use Rattle.image.specs.Layout.{setupRoom}
-use Rattle.image.specs.Valid.{setupOk}
 use Rattle.image.proofs.Sound.Soundness.{SoundSetup, sound-setup}
 use Rattle.image.proofs.Setups.SetupRanges.{SoundOperator, values-in-range}
 use Rattle.image.proofs.Setups.SetupAgain.{setup-short, setup-in-front}
 use Rattle.audit.specs.Plain.{noneLodged}
-use Rattle.audit.specs.Stands.{setupStands, SetupKnown}
+use Rattle.audit.specs.Stands.{setupStandTests, setupStands, SetupKnown}
 use Rattle.audit.proofs.SetupTests.{setup-sound-in, setup-accepted-in}
 
 -- a test fails where one that holds with it fails
@@ -81,8 +80,7 @@ sound-known s l k =
 pub setup-known : (s : List ℕ) → length s ≡ bookSize → setupStands s ≡ true → SetupKnown s
 unfolding setupStands
 setup-known s l t =
-    let w = and-both (setupOk (setupOf (take setupRoom s))) _ .0 t in
-    let k = sound-setup (setupOf (take setupRoom s)) (w .0) in
+    let k = sound-setup (setupOf (take setupRoom s)) (holds-at 0 (setupStandTests s) t) in
     sound-known s l (rw (setup-in-front s k) at k)
 
 -- ---- by what opening would say of its bytes
@@ -95,9 +93,7 @@ module _ (s : List ℕ) (b : Bytes s) (l : length s ≡ bookSize) (size : ℕ) (
   unfolding setupStands
   refused-setup f =
       sym (fails-with (setupStands s) (λ t.
-      let w = and-both (setupOk (setupOf (take setupRoom s))) _ .0 t in
-      let g = and-both (noneLodged s (operatorsFrom (countsIn s)) (countsIn s .operators)) _ .0 (w .1) in
-      let n = setup-accepted-in s b (omega arith) (g .0) (w .0) in
+      let n = setup-accepted-in s b (omega arith) (holds-at 1 (setupStandTests s) t) (holds-at 0 (setupStandTests s) t) in
       ap (λ (o : Option Refusal). not (isSome o)) (ap (λ (m : ℕ). setupRefusal (take m s)) e ∙ n)) f)
 
   pub accepted-short : not (isSome (setupRefusal (take size s))) ≡ true → size ≤ setupRoom
@@ -107,5 +103,5 @@ module _ (s : List ℕ) (b : Bytes s) (l : length s ≡ bookSize) (size : ℕ) (
   pub accepted-setup : {lodged zero : Bool} → not (isSome (setupRefusal (take size s))) ≡ true
       → lodged ≡ noneLodged s (operatorsFrom (countsIn s)) (countsIn s .operators) → zero ≡ zerosFrom s size (setupRoom - size)
       → (lodged && zero) ≡ setupStands s
-  unfolding setupStands
-  accepted-setup t n z = rw (n, z, e, setup-sound-in s b (omega arith) (accepted-here t))
+  unfolding setupStands allOf
+  accepted-setup {lodged} {zero} t n z = chained-all lodged (zero ∷ []) ∙ rw (n, z, e, setup-sound-in s b (omega arith) (accepted-here t))

@@ -4,13 +4,12 @@ ghost use mathlib.Core.List.{List, _∷_};
 ghost use mathlib.Core.Bool.{true};
 ghost use lib.ListN.{length, take};
 ghost use Rattle.rules.specs.Limits.{mostSchedules};
-ghost use Rattle.rules.specs.Settlement.{Judged, placed, prioritised};
+ghost use Rattle.rules.specs.Settlement.{Judged, placed};
 ghost use Rattle.image.specs.Valid.{isBook, bookIn};
 ghost use Rattle.image.specs.Tables.{Room};
 ghost use Rattle.settlement.specs.Tables.{Priced, setupIn};
-ghost use Rattle.settlement.specs.Congruity.{nothingUsed};
 ghost use Rattle.settlement.specs.Balances.{credited, Creditable};
-ghost use Rattle.settlement.specs.Judging.{InPlace, nonePlaced, noResults, TablesIn, BeforeIn, judgedNext, settledIn, DrawnUp};
+ghost use Rattle.settlement.specs.Judging.{InPlace, nonePlaced, noResults, InOrder, NoneJudged, TablesIn, BeforeIn, judgedNext, settledIn, DrawnUp};
 use crate::Credit;
 use crate::balances::OPERATORS;
 use crate::balances::accounts_worth;
@@ -93,8 +92,8 @@ fn judge_all(
     results: &mut [u8],
 ) -> [Balance; OPERATORS]
     requires { ⌜ Priced (now book) (now prices) ⌝ }
-    requires { ⌜ (n ≡ length (bookIn (now book) .schedules)) × (take n order ≡ prioritised (placed 1 (bookIn (now book) .schedules))) ⌝ }
-    requires { ⌜ (now used ≡ nothingUsed) × (now results ≡ noResults) ⌝ }
+    requires { ⌜ InOrder (now book) order n ⌝ }
+    requires { ⌜ NoneJudged (now used) (now results) ⌝ }
     ensures { λ r. ⌜ TablesIn (now (book .entry)) (now (prices .entry)) (settledIn (now (book .entry)) (now (prices .entry))) (now (used .exit)) r (now (results .exit)) ⌝ }
 {
     let mut all = accounts_worth(book, prices);

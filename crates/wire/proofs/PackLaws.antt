@@ -1,5 +1,5 @@
 -- Numbers, each in its width, are packed and read back, there and back, and one is read or replaced at its place.
-use Prim.Native.Nat.{ℕ, zero, suc, _+_, _≤_, _<_}
+use Prim.Native.Nat.{ℕ, zero, suc, _+_, _^_, _≤_, _<_}
 use mathlib.Core.Path.{_≡_, refl, sym, ap, _∙_}
 use mathlib.Core.List.{List, [], _∷_, map}
 use native.Mathlib.Omega.{arith}
@@ -33,6 +33,14 @@ small-count [] [] h = refl
 small-count [] (v ∷ vs) h = absurd h
 small-count (w ∷ ws) [] h = absurd h
 small-count (w ∷ ws) (v ∷ vs) h = ap suc (small-count ws vs (h .1))
+
+-- one number fits its width, by its place from 0
+pub small-at : (k : ℕ) (ws vs : List ℕ) → Small ws vs → getD vs k 0 < 256 ^ getD ws k 0
+small-at k [] [] h = omega arith
+small-at k [] (v ∷ vs) h = absurd h
+small-at k (w ∷ ws) [] h = absurd h
+small-at zero (w ∷ ws) (v ∷ vs) h = h .0
+small-at (suc k) (w ∷ ws) (v ∷ vs) h = small-at k ws vs (h .1)
 
 -- what was packed is read back
 pub unpack-pack : (ws vs : List ℕ) → Small ws vs → unpack ws (pack ws vs) ≡ vs

@@ -92,7 +92,7 @@ module _ (b : Book) (q : Request) (s : SoundBook b) where
   register-allowed c named code input state = (
     passed-11 b q register state,
     register-addable (b .setup) (b .part) (s .part-sound) q (proposed-sound b c q named code input) (passed-14 b q state) (passed-15 b q state)
-    (passed-18 b q register refl state) (passed-19 b q register refl state),
+        (passed-18 b q register refl state) (passed-19 b q register refl state),
   )
 
   pub confirm-allowed : Clear (stateChecks b confirm q) → Allowed b (change confirm b q)
@@ -101,7 +101,7 @@ module _ (b : Book) (q : Request) (s : SoundBook b) where
       let row = passed-confirm b q state .row in (
         passed-11 b q confirm state,
         confirm-endable (b .setup) (b .part) (s .part-sound) (confirmedNumber b q) (q .account) (row .is-pending) (row .counterparty)
-        (passed-18 b q confirm refl state) (passed-19 b q confirm refl state),
+            (passed-18 b q confirm refl state) (passed-19 b q confirm refl state),
       )
 
   pub withdraw-allowed : Clear (stateChecks b withdraw q) → Allowed b (change withdraw b q)

@@ -18,14 +18,14 @@ use Rattle.rules.specs.declared.Counts.{Counts}
 use Rattle.rules.specs.Basics.{entries, joined}
 use Rattle.rules.specs.Books.{operatorCount, accountCount, pointCount}
 use Rattle.rules.specs.Opening.{priceIn, operatorIn, accountIn, pointIn, countsIn, operatorsFrom, accountsFrom, pointsFrom, setupLength, estimatesIn, operatorsIn, accountsIn, pointsIn, setupOf, guaranteesOf, operatorBytes, accountBytes, pointBytes, operatorsOf, setupBytes, badCounts, misshapen, faultyOffset, setupChecks, setupRefusal}
-use Rattle.rules.proofs.Basics.Tests.{or-neither}
+use Rattle.rules.proofs.Basics.Tests.{_and_, no-more, holds-all, holds-at, or-neither}
 use Rattle.rules.proofs.Checks.Clearing.{clear, clear-applies, spared}
 use Rattle.rules.proofs.Setups.SetupShape.{accepted-values}
 use Rattle.rules.proofs.Setups.SetupEntries.{entries-cells, length-entries, joined-entries, counts-of-setup}
 use Rattle.image.specs.Layout.{setupRoom}
 use Rattle.image.specs.Image.{storedSetup}
 use Rattle.image.specs.Valid.{setupTests, setupOk}
-use Rattle.image.proofs.Sound.Soundness.{SoundSetup, sound-setup, holds-all, all-holds}
+use Rattle.image.proofs.Sound.Soundness.{SoundSetup, sound-setup}
 use Rattle.image.proofs.Setups.SetupRanges.{InRange, values-in-range, in-range-values, operators-again, sound-without}
 use Rattle.image.proofs.Setups.StoredSetup.{price-again, operator-again, account-again, point-again}
 
@@ -114,16 +114,17 @@ module _ (s : List ℕ) (h : setupRefusal s ≡ none) where
   unfolding setupOk setupOf estimatesIn
   accepted-sound =
       holds-all (setupTests (setupOf s)) (
-        ap (λ (c : Counts). not (badCounts c)) (counts-of-setup s) ∙ rw accepted-counts,
-        (eq-eqb _ _ (length-entries 4 priceIn (countsIn s .hours) (drop 5 s)), (rw (in-range-values (setupOf s) _ without), tt)),
+      (ap (λ (c : Counts). not (badCounts c)) (counts-of-setup s) ∙ rw accepted-counts)
+      and eq-eqb _ _ (length-entries 4 priceIn (countsIn s .hours) (drop 5 s))
+      and (rw (in-range-values (setupOf s) _ without))
+      and no-more
       )
 
 -- sound bytes as long as their counts say, with no guarantees, are accepted
 pub sound-accepted : (s : List ℕ) → length s ≡ setupLength (countsIn s) → NoGuarantees s → setupOk (setupOf s) ≡ true → setupRefusal s ≡ none
 unfolding setupOk setupRefusal misshapen
 sound-accepted s l z h =
-    let t = all-holds (setupTests (setupOf s)) h in
-    let bad : badCounts (countsIn s) ≡ false = ap badCounts (sym (counts-of-setup s)) ∙ not-true _ (t .0) in
+    let bad : badCounts (countsIn s) ≡ false = ap badCounts (sym (counts-of-setup s)) ∙ not-true _ (holds-at 0 (setupTests (setupOf s)) h) in
     let os : operatorsOf (replicate (operatorCount (setupOf s)) (cents 0)) (setupOf s .maintenance) ≡ operatorsIn s =
     ap (λ (gs : List Cents). operatorsOf gs (setupOf s .maintenance)) (stored-guarantees s z) ∙ operators-read s in
     let v : faultyOffset (setupOf s) (operatorsIn s) ≡ none = ap (faultyOffset (setupOf s)) (sym os) ∙ sound-setup (setupOf s) h .in-range in

@@ -8,14 +8,14 @@ use lib.ListN.{length}
 use lib.Dec.{eqb}
 use borrow.Author.Tests.{eqb-true, eqb-false, leb-true, eq-eqb, ne-eqb, le-leb, not-false, not-true}
 use Rattle.rules.specs.declared.Row.{Row}
-use Rattle.rules.specs.Basics.{any, Each}
+use Rattle.rules.specs.Basics.{any, isSome, Each}
 use Rattle.rules.specs.Limits.{mostGuarantee, mostRows, mostSchedules}
 use Rattle.rules.specs.Books.{Setup, Part, Book, operatorCount, accountCount, periods, marginsAt}
 use Rattle.rules.specs.Registration.{pending, accountHour, keepsMargins, covered}
-use Rattle.rules.proofs.Basics.Tests.{and-both, within-true}
+use Rattle.rules.proofs.Basics.Tests.{and-both, Holds, _and_, no-more, all-holds, holds-all, within-true}
 use Rattle.rules.proofs.Basics.Searches.{every-each, each-every, each-map}
 use Rattle.image.specs.Valid.{rowOk, noTwins, marginsKept, guaranteesKept, partTests, partOk, follows, savedOk, bookTests, valid}
-use Rattle.image.proofs.Sound.Soundness.{all-holds, holds-all, or-else, or-by, every-upTo, upTo-every, SoundSetup, sound-setup, setup-sound, not-some, SoundRow, sound-row, row-sound, SoundSchedule, sound-schedule, schedule-sound}
+use Rattle.image.proofs.Sound.Soundness.{or-else, or-by, every-upTo, upTo-every, SoundSetup, sound-setup, setup-sound, not-some, SoundRow, sound-row, row-sound, SoundSchedule, sound-schedule, schedule-sound}
 
 -- ---- a part
 
@@ -29,41 +29,34 @@ pub record SoundPart (u : Setup) (p : Part) : Type 0 where
       → keepsMargins (marginsAt u a h) (accountHour (p .rows) a h) ≡ true
   pub is-covered : (o : ℕ) → 1 ≤ o → o ≤ operatorCount u → covered u p o ≡ true
 
+part-facts : (u : Setup) (p : Part) → Holds (partTests u p) → SoundPart u p
+unfolding marginsKept guaranteesKept
+part-facts u p (all and guarantees and few and rows and twins and margins and covers and _) = record {
+  guarantees-all = eqb-true _ _ all;
+  guarantees-high = each-map (λ g e. leb-true (g .0) mostGuarantee e) (every-each _ (p .guarantees) guarantees);
+  rows-high = leb-true _ _ few;
+  rows-sound = each-map (sound-row u) (every-each (rowOk u) (p .rows) rows);
+  no-twins = twins;
+  keeps-margins = λ a h al ah hl hh. every-upTo _ (periods u) (every-upTo _ (accountCount u) margins a al ah) h hl hh;
+  is-covered = every-upTo (covered u p) (operatorCount u) covers;
+}
+
 pub sound-part : (u : Setup) (p : Part) → partOk u p ≡ true → SoundPart u p
-unfolding partOk marginsKept guaranteesKept
-sound-part u p h =
-    let t = all-holds (partTests u p) h in
-    record {
-      guarantees-all = eqb-true _ _ (t .0);
-      guarantees-high = each-map (λ g e. leb-true (g .0) mostGuarantee e) (every-each _ (p .guarantees) (t .1 .0));
-      rows-high = leb-true _ _ (t .1 .1 .0);
-      rows-sound = each-map (sound-row u) (every-each (rowOk u) (p .rows) (t .1 .1 .1 .0));
-      no-twins = t .1 .1 .1 .1 .0;
-      keeps-margins = λ a h al ah hl hh. every-upTo _ (periods u) (every-upTo _ (accountCount u) (t .1 .1 .1 .1 .1 .0) a al ah) h hl hh;
-      is-covered = every-upTo (covered u p) (operatorCount u) (t .1 .1 .1 .1 .1 .1 .0);
-    }
+unfolding partOk
+sound-part u p h = part-facts u p (all-holds (partTests u p) h)
 
 pub part-sound : (u : Setup) (p : Part) → SoundPart u p → partOk u p ≡ true
 unfolding partOk marginsKept guaranteesKept
 part-sound u p s =
     holds-all (partTests u p) (
-      eq-eqb _ _ (s .guarantees-all),
-      (
-        each-every _ (each-map (λ g e. le-leb (g .0) mostGuarantee e) (s .guarantees-high)),
-        (
-          le-leb _ _ (s .rows-high),
-          (
-            each-every (rowOk u) (each-map (row-sound u) (s .rows-sound)),
-            (
-              s .no-twins,
-              (
-                upTo-every _ (accountCount u) (λ a al ah. upTo-every _ (periods u) (λ h hl hh. s .keeps-margins a h al ah hl hh)),
-                (upTo-every (covered u p) (operatorCount u) (s .is-covered), tt),
-              ),
-            ),
-          ),
-        ),
-      ),
+    eq-eqb _ _ (s .guarantees-all)
+    and each-every _ (each-map (λ g e. le-leb (g .0) mostGuarantee e) (s .guarantees-high))
+    and le-leb _ _ (s .rows-high)
+    and each-every (rowOk u) (each-map (row-sound u) (s .rows-sound))
+    and s .no-twins
+    and upTo-every _ (accountCount u) (λ a al ah. upTo-every _ (periods u) (λ h hl hh. s .keeps-margins a h al ah hl hh))
+    and upTo-every (covered u p) (operatorCount u) (s .is-covered)
+    and no-more
     )
 
 -- ---- a book
@@ -94,49 +87,38 @@ unfolding savedOk
 saved-sound u rows none h = refl
 saved-sound u rows (some p) h = and-both (partOk u p) (follows (p .rows) rows) .1 (part-sound u p (h .0), h .1)
 
-pub sound : (b : Book) → valid b ≡ true → SoundBook b
-unfolding valid
-sound b h =
-    let t = all-holds (bookTests b) h in
-    let f = within-true 1 (b .phase) 3 .0 (t .1 .0) in
+book-facts : (b : Book) → Holds (bookTests b) → SoundBook b
+book-facts b (setup and phase and part and saved and few and schedules and ended and early and batch and _) =
+    let f = within-true 1 (b .phase) 3 .0 phase in
     record {
-      setup-sound = sound-setup (b .setup) (t .0);
+      setup-sound = sound-setup (b .setup) setup;
       phase-low = f .0;
       phase-high = f .1;
-      part-sound = sound-part (b .setup) (b .part) (t .1 .1 .0);
-      saved-sound = sound-saved (b .setup) (b .part .rows) (b .saved) (t .1 .1 .1 .0);
-      schedules-high = leb-true _ _ (t .1 .1 .1 .1 .0);
-      schedules-sound = each-map (sound-schedule (b .setup)) (every-each _ (b .schedules) (t .1 .1 .1 .1 .1 .0));
-      none-pending = λ n. not-true _ (or-else _ _ (t .1 .1 .1 .1 .1 .1 .0) (ne-eqb _ _ n));
-      no-schedules = λ e. eqb-true _ _ (or-else (not (eqb (b .phase) 1)) _ (t .1 .1 .1 .1 .1 .1 .1 .0) (rw (eq-eqb (b .phase) 1 e)));
-      no-batch = λ n. not-some _ (or-else _ _ (t .1 .1 .1 .1 .1 .1 .1 .1 .0) (ne-eqb _ _ n));
+      part-sound = sound-part (b .setup) (b .part) part;
+      saved-sound = sound-saved (b .setup) (b .part .rows) (b .saved) saved;
+      schedules-high = leb-true _ _ few;
+      schedules-sound = each-map (sound-schedule (b .setup)) (every-each _ (b .schedules) schedules);
+      none-pending = λ n. not-true _ (or-else _ _ ended (ne-eqb _ _ n));
+      no-schedules = λ e. eqb-true _ _ (or-else (not (eqb (b .phase) 1)) _ early (rw (eq-eqb (b .phase) 1 e)));
+      no-batch = λ n. not-some _ (or-else _ _ batch (ne-eqb _ _ n));
     }
+
+pub sound : (b : Book) → valid b ≡ true → SoundBook b
+unfolding valid
+sound b h = book-facts b (all-holds (bookTests b) h)
 
 pub book-sound : (b : Book) → SoundBook b → valid b ≡ true
 unfolding valid
 book-sound b s =
     holds-all (bookTests b) (
-      setup-sound (b .setup) (s .setup-sound),
-      (
-        within-true 1 (b .phase) 3 .1 (s .phase-low, s .phase-high),
-        (
-          part-sound (b .setup) (b .part) (s .part-sound),
-          (
-            saved-sound (b .setup) (b .part .rows) (b .saved) (s .saved-sound),
-            (
-              le-leb _ _ (s .schedules-high),
-              (
-                each-every _ (each-map (schedule-sound (b .setup)) (s .schedules-sound)),
-                (
-                  or-by _ _ (λ e. rw (s .none-pending (eqb-false _ _ e))),
-                  (
-                    or-by _ _ (λ e. eq-eqb _ _ (s .no-schedules (eqb-true _ _ (not-false _ e)))),
-                    (or-by _ _ (λ e. rw (s .no-batch (eqb-false _ _ e))), tt),
-                  ),
-                ),
-              ),
-            ),
-          ),
-        ),
-      ),
+    setup-sound (b .setup) (s .setup-sound)
+    and within-true 1 (b .phase) 3 .1 (s .phase-low, s .phase-high)
+    and part-sound (b .setup) (b .part) (s .part-sound)
+    and saved-sound (b .setup) (b .part .rows) (b .saved) (s .saved-sound)
+    and le-leb _ _ (s .schedules-high)
+    and each-every _ (each-map (schedule-sound (b .setup)) (s .schedules-sound))
+    and or-by (eqb (b .phase) 1) (not (any pending (b .part .rows))) (λ e. rw (s .none-pending (eqb-false _ _ e)))
+    and or-by _ _ (λ e. eq-eqb _ _ (s .no-schedules (eqb-true _ _ (not-false _ e))))
+    and or-by (eqb (b .phase) 1) (not (isSome (b .saved))) (λ e. rw (s .no-batch (eqb-false _ _ e)))
+    and no-more
     )

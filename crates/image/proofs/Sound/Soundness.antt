@@ -1,8 +1,6 @@
--- What the tests of a sound set-up, row and schedule say, each by its name, and that they say no more: a test of a list of tests holds
--- by its parts.
+-- What the tests of a sound set-up, row and schedule say, each by its name, and that they say no more.
 use Prim.Native.Nat.{ℕ, zero, suc, _+_, _^_, _≤_, _<_}
 use mathlib.Core.Path.{_≡_, refl}
-use mathlib.Core.List.{List, [], _∷_}
 use mathlib.Core.Option.{Option, none}
 use mathlib.Core.Bool.{Bool, true, false, not, _||_}
 use native.Mathlib.Omega.{arith}
@@ -11,30 +9,15 @@ use borrow.Author.Tests.{eqb-true, eqb-false, leb-true, ltb-true, eq-eqb, ne-eqb
 use Rattle.units.specs.Units.{cents}
 use Rattle.rules.specs.declared.Row.{Row}
 use Rattle.rules.specs.declared.Schedule.{Schedule}
-use Rattle.rules.specs.Basics.{every, allOf, isSome, counting, upTo, Each, nil, cons}
+use Rattle.rules.specs.Basics.{every, isSome, counting, upTo, Each, nil, cons}
 use Rattle.rules.specs.Limits.{mostEnergy, mostPrice, fewestHours, mostHours, mostOperators, mostAccounts, mostPoints, mostZones}
-use Rattle.rules.specs.Books.{Setup, operatorCount, accountCount, pointCount}
+use Rattle.rules.specs.Books.{Setup, operatorCount, accountCount, pointCount, periods}
 use Rattle.rules.specs.Opening.{badCounts, operatorsOf, faultyOffset}
-use Rattle.rules.proofs.Basics.Tests.{and-both, or-neither, within-true}
+use Rattle.rules.proofs.Basics.Tests.{Holds, _and_, no-more, all-holds, holds-all, or-neither, within-true}
 use Rattle.rules.proofs.Basics.Searches.{none-of, every-each, each-every, counted-has}
 use Rattle.image.specs.Valid.{setupTests, setupOk, rowTests, rowOk, scheduleTests, scheduleOk}
 
--- ---- a list of tests
-
--- each test holds
-abbrev pub Holds : List Bool → Type 0
-Holds [] = Unit {0}
-Holds (t ∷ ts) = (t ≡ true) × Holds ts
-
-pub all-holds : (ts : List Bool) → allOf ts ≡ true → Holds ts
-unfolding allOf
-all-holds [] h = tt
-all-holds (t ∷ ts) h = let w = and-both t (allOf ts) .0 h in (w .0, all-holds ts (w .1))
-
-pub holds-all : (ts : List Bool) → Holds ts → allOf ts ≡ true
-unfolding allOf
-holds-all [] h = refl
-holds-all (t ∷ ts) h = and-both t (allOf ts) .1 (h .0, holds-all ts (h .1))
+-- ---- two tests of which one holds
 
 -- a test holds where the other fails
 pub or-else : (s t : Bool) → s || t ≡ true → s ≡ false → t ≡ true
@@ -77,11 +60,10 @@ pub record SoundSetup (u : Setup) : Type 0 where
 pub not-some : {A : Type 0} (o : Option A) → not (isSome o) ≡ true → o ≡ none
 not-some o h = none-of o (not-true (isSome o) h)
 
-pub sound-setup : (u : Setup) → setupOk u ≡ true → SoundSetup u
-unfolding setupOk badCounts
-sound-setup u h =
-    let t = all-holds (setupTests u) h in
-    let e = or-neither _ _ .0 (not-true _ (t .0)) in
+setup-facts : (u : Setup) → Holds (setupTests u) → SoundSetup u
+unfolding badCounts
+setup-facts u (counts and estimates and values and _) =
+    let e = or-neither _ _ .0 (not-true _ counts) in
     let d = or-neither _ _ .0 (e .0) in
     let c = or-neither _ _ .0 (d .0) in
     let b = or-neither _ _ .0 (c .0) in
@@ -99,9 +81,13 @@ sound-setup u h =
       points-high = leb-true _ _ (not-false _ (d .1));
       zones-low = zs .0;
       zones-high = zs .1;
-      estimates-all = eqb-true _ _ (t .1 .0);
-      in-range = not-some _ (t .1 .1 .0);
+      estimates-all = eqb-true _ _ estimates;
+      in-range = not-some _ values;
     }
+
+pub sound-setup : (u : Setup) → setupOk u ≡ true → SoundSetup u
+unfolding setupOk
+sound-setup u h = setup-facts u (all-holds (setupTests u) h)
 
 pub setup-sound : (u : Setup) → SoundSetup u → setupOk u ≡ true
 unfolding setupOk badCounts
@@ -111,7 +97,7 @@ setup-sound u s =
     let cs = within-true 1 (accountCount u) mostAccounts .1 (s .accounts-low, s .accounts-high) in
     let ps = le-leb (pointCount u) mostPoints (s .points-high) in
     let zs = within-true 1 (u .zones) mostZones .1 (s .zones-low, s .zones-high) in
-    holds-all (setupTests u) (rw (hs, os, cs, ps, zs), (eq-eqb _ _ (s .estimates-all), (rw (s .in-range), tt)))
+    holds-all (setupTests u) ((rw (hs, os, cs, ps, zs)) and eq-eqb _ _ (s .estimates-all) and (rw (s .in-range)) and no-more)
 
 -- ---- rows
 
@@ -126,30 +112,28 @@ pub record SoundRow (u : Setup) (r : Row) : Type 0 where
   pub side-high : r .side ≤ 2
   pub first-low : 1 ≤ r .first
   pub in-order : r .first ≤ r .last
-  pub last-high : r .last ≤ u .hours
+  pub last-high : r .last ≤ periods u
   pub quantity-low : 1 ≤ r .quantity .0
   pub quantity-high : r .quantity .0 ≤ mostEnergy
   pub status-low : 1 ≤ r .status
   pub status-high : r .status ≤ 3
 
-pub sound-row : (u : Setup) (r : Row) → rowOk u r ≡ true → SoundRow u r
-unfolding rowOk
-sound-row u r h =
-    let t = all-holds (rowTests u r) h in
-    let p = within-true 1 (r .proposer) (accountCount u) .0 (t .0) in
-    let c = within-true 1 (r .counterparty) (accountCount u) .0 (t .1 .0) in
-    let d = within-true 1 (r .side) 2 .0 (t .1 .1 .1 .1 .0) in
-    let f = within-true 1 (r .first) (u .hours) .0 (t .1 .1 .1 .1 .1 .0) in
-    let l = within-true (r .first) (r .last) (u .hours) .0 (t .1 .1 .1 .1 .1 .1 .0) in
-    let q = within-true 1 (r .quantity .0) mostEnergy .0 (t .1 .1 .1 .1 .1 .1 .1 .0) in
-    let s = within-true 1 (r .status) 3 .0 (t .1 .1 .1 .1 .1 .1 .1 .1 .0) in
+row-facts : (u : Setup) (r : Row) → Holds (rowTests u r) → SoundRow u r
+row-facts u r (proposer and counterparty and differ and code and side and first and last and quantity and status and _) =
+    let p = within-true 1 (r .proposer) (accountCount u) .0 proposer in
+    let c = within-true 1 (r .counterparty) (accountCount u) .0 counterparty in
+    let d = within-true 1 (r .side) 2 .0 side in
+    let f = within-true 1 (r .first) (periods u) .0 first in
+    let l = within-true (r .first) (r .last) (periods u) .0 last in
+    let q = within-true 1 (r .quantity .0) mostEnergy .0 quantity in
+    let s = within-true 1 (r .status) 3 .0 status in
     record {
       proposer-low = p .0;
       proposer-high = p .1;
       counterparty-low = c .0;
       counterparty-high = c .1;
-      two-accounts = eqb-false _ _ (not-true _ (t .1 .1 .0));
-      code-fits = ltb-true _ _ (t .1 .1 .1 .0);
+      two-accounts = eqb-false _ _ (not-true _ differ);
+      code-fits = ltb-true _ _ code;
       side-low = d .0;
       side-high = d .1;
       first-low = f .0;
@@ -161,33 +145,24 @@ sound-row u r h =
       status-high = s .1;
     }
 
+pub sound-row : (u : Setup) (r : Row) → rowOk u r ≡ true → SoundRow u r
+unfolding rowOk
+sound-row u r h = row-facts u r (all-holds (rowTests u r) h)
+
 pub row-sound : (u : Setup) (r : Row) → SoundRow u r → rowOk u r ≡ true
 unfolding rowOk
 row-sound u r s =
     holds-all (rowTests u r) (
-      within-true 1 (r .proposer) (accountCount u) .1 (s .proposer-low, s .proposer-high),
-      (
-        within-true 1 (r .counterparty) (accountCount u) .1 (s .counterparty-low, s .counterparty-high),
-        (
-          rw (ne-eqb _ _ (s .two-accounts)),
-          (
-            lt-ltb _ _ (s .code-fits),
-            (
-              within-true 1 (r .side) 2 .1 (s .side-low, s .side-high),
-              (
-                within-true 1 (r .first) (u .hours) .1 (s .first-low, omega (arith, s .in-order, s .last-high)),
-                (
-                  within-true (r .first) (r .last) (u .hours) .1 (s .in-order, s .last-high),
-                  (
-                    within-true 1 (r .quantity .0) mostEnergy .1 (s .quantity-low, s .quantity-high),
-                    (within-true 1 (r .status) 3 .1 (s .status-low, s .status-high), tt),
-                  ),
-                ),
-              ),
-            ),
-          ),
-        ),
-      ),
+    within-true 1 (r .proposer) (accountCount u) .1 (s .proposer-low, s .proposer-high)
+    and within-true 1 (r .counterparty) (accountCount u) .1 (s .counterparty-low, s .counterparty-high)
+    and (rw (ne-eqb _ _ (s .two-accounts)))
+    and lt-ltb _ _ (s .code-fits)
+    and within-true 1 (r .side) 2 .1 (s .side-low, s .side-high)
+    and within-true 1 (r .first) (periods u) .1 (s .first-low, omega (arith, s .in-order, s .last-high))
+    and within-true (r .first) (r .last) (periods u) .1 (s .in-order, s .last-high)
+    and within-true 1 (r .quantity .0) mostEnergy .1 (s .quantity-low, s .quantity-high)
+    and within-true 1 (r .status) 3 .1 (s .status-low, s .status-high)
+    and no-more
     )
 
 -- ---- schedules
@@ -198,19 +173,17 @@ pub record SoundSchedule (u : Setup) (x : Schedule) : Type 0 where
   pub side-low : 1 ≤ x .side
   pub side-high : x .side ≤ 2
   pub hour-low : 1 ≤ x .hour
-  pub hour-high : x .hour ≤ u .hours
+  pub hour-high : x .hour ≤ periods u
   pub quantity-low : 1 ≤ x .quantity .0
   pub quantity-high : x .quantity .0 ≤ mostEnergy
   pub price-high : x .price .0 ≤ mostPrice
 
-pub sound-schedule : (u : Setup) (x : Schedule) → scheduleOk u x ≡ true → SoundSchedule u x
-unfolding scheduleOk
-sound-schedule u x h =
-    let t = all-holds (scheduleTests u x) h in
-    let p = within-true 1 (x .point) (pointCount u) .0 (t .0) in
-    let d = within-true 1 (x .side) 2 .0 (t .1 .0) in
-    let r = within-true 1 (x .hour) (u .hours) .0 (t .1 .1 .0) in
-    let q = within-true 1 (x .quantity .0) mostEnergy .0 (t .1 .1 .1 .0) in
+schedule-facts : (u : Setup) (x : Schedule) → Holds (scheduleTests u x) → SoundSchedule u x
+schedule-facts u x (point and side and hour and quantity and price and _) =
+    let p = within-true 1 (x .point) (pointCount u) .0 point in
+    let d = within-true 1 (x .side) 2 .0 side in
+    let r = within-true 1 (x .hour) (periods u) .0 hour in
+    let q = within-true 1 (x .quantity .0) mostEnergy .0 quantity in
     record {
       point-low = p .0;
       point-high = p .1;
@@ -220,22 +193,21 @@ sound-schedule u x h =
       hour-high = r .1;
       quantity-low = q .0;
       quantity-high = q .1;
-      price-high = leb-true _ _ (t .1 .1 .1 .1 .0);
+      price-high = leb-true _ _ price;
     }
+
+pub sound-schedule : (u : Setup) (x : Schedule) → scheduleOk u x ≡ true → SoundSchedule u x
+unfolding scheduleOk
+sound-schedule u x h = schedule-facts u x (all-holds (scheduleTests u x) h)
 
 pub schedule-sound : (u : Setup) (x : Schedule) → SoundSchedule u x → scheduleOk u x ≡ true
 unfolding scheduleOk
 schedule-sound u x s =
     holds-all (scheduleTests u x) (
-      within-true 1 (x .point) (pointCount u) .1 (s .point-low, s .point-high),
-      (
-        within-true 1 (x .side) 2 .1 (s .side-low, s .side-high),
-        (
-          within-true 1 (x .hour) (u .hours) .1 (s .hour-low, s .hour-high),
-          (
-            within-true 1 (x .quantity .0) mostEnergy .1 (s .quantity-low, s .quantity-high),
-            (le-leb _ _ (s .price-high), tt),
-          ),
-        ),
-      ),
+    within-true 1 (x .point) (pointCount u) .1 (s .point-low, s .point-high)
+    and within-true 1 (x .side) 2 .1 (s .side-low, s .side-high)
+    and within-true 1 (x .hour) (periods u) .1 (s .hour-low, s .hour-high)
+    and within-true 1 (x .quantity .0) mostEnergy .1 (s .quantity-low, s .quantity-high)
+    and le-leb _ _ (s .price-high)
+    and no-more
     )

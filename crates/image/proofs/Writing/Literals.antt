@@ -5,6 +5,7 @@ use mathlib.Core.List.{List, [], _∷_}
 use Rattle.wire.specs.Numbers.{le}
 use Rattle.wire.specs.Parts.{flat, pieces, pack, Small}
 use Rattle.wire.proofs.NumberLaws.{byte}
+use Rattle.wire.proofs.PackLaws.{small-at}
 use Rattle.rules.specs.declared.Row.{Row}
 use Rattle.rules.specs.declared.Schedule.{Schedule}
 use Rattle.image.specs.Layout.{rowWidths, scheduleWidths}
@@ -35,12 +36,12 @@ pub row-literal : (r : Row) → Small rowWidths (rowValues r)
 unfolding rowBytes pack pieces flat le
 row-literal r s =
     rw (
-      byte (r .proposer) (s .0),
-      byte (r .counterparty) (s .1 .0),
-      byte (r .side) (s .1 .1 .1 .0),
-      byte (r .first) (s .1 .1 .1 .1 .0),
-      byte (r .last) (s .1 .1 .1 .1 .1 .0),
-      byte (r .status) (s .1 .1 .1 .1 .1 .1 .1 .0),
+      byte (r .proposer) (small-at 0 rowWidths (rowValues r) s),
+      byte (r .counterparty) (small-at 1 rowWidths (rowValues r) s),
+      byte (r .side) (small-at 3 rowWidths (rowValues r) s),
+      byte (r .first) (small-at 4 rowWidths (rowValues r) s),
+      byte (r .last) (small-at 5 rowWidths (rowValues r) s),
+      byte (r .status) (small-at 7 rowWidths (rowValues r) s),
     )
 
 -- the 11 bytes of a schedule whose values fit them
@@ -59,4 +60,4 @@ pub schedule-literal : (x : Schedule) → Small scheduleWidths (scheduleValues x
     ∷ []
     ≡ scheduleBytes x
 unfolding scheduleBytes pack pieces flat le
-schedule-literal x s = rw (byte (x .point) (s .0), byte (x .side) (s .1 .0), byte (x .hour) (s .1 .1 .0))
+schedule-literal x s = rw (byte (x .point) (small-at 0 scheduleWidths (scheduleValues x) s), byte (x .side) (small-at 1 scheduleWidths (scheduleValues x) s), byte (x .hour) (small-at 2 scheduleWidths (scheduleValues x) s))

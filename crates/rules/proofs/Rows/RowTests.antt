@@ -12,7 +12,7 @@ use Rattle.rules.specs.Books.{Book, noRow}
 use Rattle.rules.specs.Requests.{confirm, withdraw}
 use Rattle.rules.specs.Registration.{pending, alike, confirms, withdraws, mirrors}
 use Rattle.rules.specs.Calls.{confirmedNumber, stateChecks}
-use Rattle.rules.proofs.Basics.Tests.{and-both}
+use Rattle.rules.proofs.Basics.Tests.{and-both, _and_, no-more, holds-chain}
 use Rattle.rules.proofs.Basics.Searches.{index-first}
 use Rattle.rules.proofs.Checks.Clearing.{Clear}
 use Rattle.rules.proofs.Checks.Passed.{passed-16-confirm, passed-16-withdraw, passed-17}
@@ -27,7 +27,7 @@ pub record Alike (p c k : ℕ) (r : Row) : Type 0 where
 pub alike-by : (p c k : ℕ) (r : Row) → Alike p c k r → alike p c k r ≡ true
 unfolding alike
 alike-by p c k r h =
-    and-both _ _ .1 (and-both _ _ .1 (and-both _ _ .1 (h .is-pending, eq-eqb _ _ (h .proposer)), eq-eqb _ _ (h .counterparty)), eq-eqb _ _ (h .code))
+    holds-chain (h .is-pending and eq-eqb _ _ (h .proposer) and eq-eqb _ _ (h .counterparty) and eq-eqb _ _ (h .code) and no-more)
 
 -- a row that is not pending is like no other
 pub alike-ended : (p c k : ℕ) (r : Row) → pending r ≡ false → alike p c k r ≡ false

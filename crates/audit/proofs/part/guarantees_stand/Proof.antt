@@ -1,5 +1,7 @@
 -- The two tests are those of the definition.
+use mathlib.Core.List.{[], _∷_}
 use borrow.Author.Needs.{needs}
+use Rattle.rules.proofs.Basics.Tests.{chained-all}
 use Rattle.audit.specs.Stands.{guaranteesStand}
 use Rattle.audit.proofs.part.guarantees_stand.Statement.{statement}
 use Rattle.audit.proofs.part.guarantees_stand.Tie as tie
@@ -21,7 +23,7 @@ all-zero-requires c κs = search needs
 
 returns : tie.Need-returns
 unfolding guaranteesStand
-returns c = rw (c .before .guarantees-ok .ensures, c .all-zero .ensures)
+returns c = rw (c .before .guarantees-ok .ensures, c .all-zero .ensures) (chained-all _ (_ ∷ []))
 
 pub guarantees-stand-spec : {M : Type 1} → statement M
 guarantees-stand-spec =

@@ -1,4 +1,6 @@
 -- The tests are those of the definition.
+use mathlib.Core.List.{[], _∷_}
+use Rattle.rules.proofs.Basics.Tests.{chained-all}
 use Rattle.audit.specs.Stands.{phaseStands}
 use borrow.Author.Needs.{needs}
 use Rattle.audit.proofs.whole.phase_stands.Statement.{statement}
@@ -30,7 +32,8 @@ none-pending-requires c κs = search needs
 
 returns : tie.Need-returns
 unfolding phaseStands
-returns c = rw (c .none-pending .ensures, c .before .get-u162 .ensures, c .before .before .get-u16 .ensures)
+returns c =
+    rw (c .none-pending .ensures, c .before .get-u162 .ensures, c .before .before .get-u16 .ensures) (chained-all _ (_ ∷ _ ∷ _ ∷ _ ∷ []))
 
 pub phase-stands-spec : {M : Type 1} → statement M
 phase-stands-spec =

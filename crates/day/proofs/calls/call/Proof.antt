@@ -21,7 +21,11 @@ same-length-3 : tie.Need-same-length-3
 same-length-3 c = search needs
 
 returns : tie.Need-returns
-returns c = let e = c .before .before .before .before .before .before .call-in .ensures in (e .0, (e .1 .0, (e .1 .1 .0, e .1 .1 .1 .0)))
+returns c =
+    let (answer, left) = c .before .before .before .before .before .before .call-in .ensures in
+    let (book, lent) = left in
+    let (results, rest) = lent in
+    (answer, (book, (results, rest .0)))
 
 same-length-4 : tie.Need-same-length-4
 same-length-4 c = search needs

@@ -26,7 +26,7 @@ loop-holds : tie.Need-loop-holds Inv-loop μ-loop
 loop-holds c =
     let start = c .before .before .before .before .before in
     let few = schedule-count-high _ (start .pre .0 .is-book) in
-    (search needs, omega (arith, start .pre .1 .0 .0, few), tables-begin _ _ _ _ _ (start .pre .1 .1 .0) (start .pre .1 .1 .1) (c .accounts-worth .ensures))
+    (search needs, omega (arith, start .pre .1 .0 .all-of, few), tables-begin _ _ _ _ _ (start .pre .1 .1 .nothing-used) (start .pre .1 .1 .no-results) (c .accounts-worth .ensures))
 
 mul-x : tie.Need-mul-x Inv-loop μ-loop
 mul-x c = search needs
@@ -39,7 +39,7 @@ judge-next-requires c κs =
     let l = c .before .before .before .before .loop in
     let start = c .before .before .before .before .before .before .before .before .before .before in
     let here : l .k < start .args .n = omega arith in
-    let ready = next-ready _ _ (start .pre .0) (l .k) (omega (arith, here, start .pre .1 .0 .0)) _ (in-turn _ _ _ _ here (start .pre .1 .0 .1)) _ _ _ (l .inv .2) in
+    let ready = next-ready _ _ (start .pre .0) (l .k) (omega (arith, here, start .pre .1 .0 .all-of)) _ (in-turn _ _ _ _ here (start .pre .1 .0 .by-priority)) _ _ _ (l .inv .2) in
     ((start .pre .0, ready .0), ready .1)
 
 cast-at : tie.Need-cast-at Inv-loop μ-loop
@@ -59,7 +59,7 @@ join-requires c κs =
     let l = c .before .before .before .before .before .before .before .before .before .before .before .loop in
     let start = c .before .before .before .before .before .before .before .before .before .before .before .before .before .before .before .before .before in
     let credit = c .before .before .before .before .before .before .judge-next in
-    let h : l .k ≤ length (bookIn (start .args .book .now) .schedules) = omega (arith, start .pre .1 .0 .0) in
+    let h : l .k ≤ length (bookIn (start .args .book .now) .schedules) = omega (arith, start .pre .1 .0 .all-of) in
     let held = first-fits _ _ (start .pre .0) (l .k) h _ (l .inv .2 .balances-of) (credit .result .operator - 1) in
     let share = credit .ensures .1 .share-fits in
     (omega (arith, held .0, share .0), omega (arith, held .1, share .1))
@@ -82,8 +82,8 @@ loop-again c =
     let start = c .before .before .before .before .before .before .before .before .before .before .before .before .before .before .before .before .before .before in
     let credit = c .before .before .before .before .before .before .before .judge-next in
     let here : l .k < start .args .n = omega (arith, c .before .before .before .before .before .before .before .before .before .before .before .loop-test .taken) in
-    let h : l .k < length (bookIn (start .args .book .now) .schedules) = omega (arith, here, start .pre .1 .0 .0) in
-    let turn = in-turn _ _ _ _ here (start .pre .1 .0 .1) in
+    let h : l .k < length (bookIn (start .args .book .now) .schedules) = omega (arith, here, start .pre .1 .0 .all-of) in
+    let turn = in-turn _ _ _ _ here (start .pre .1 .0 .by-priority) in
     let known = next-known _ _ (start .pre .0) (l .k) h _ turn in
     let credited = credited-made (l .all) (credit .result .operator) (credit .result .share) (c .join .result) (c .join .ensures) in
     (search needs, search needs, rw credited (tables-follow _ _ (start .pre .0) (l .k) h _ turn _ _ _ (credit .ensures .0 _ _ (l .inv .2) known)))
@@ -91,19 +91,19 @@ loop-again c =
 same-length : tie.Need-same-length Inv-loop μ-loop
 same-length c =
     let start = c .before .before .before .before .before .before .before in
-    c .before .loop .inv .2 .used-by .whole ∙ sym (length-unused _ (start .pre .1 .1 .0))
+    c .before .loop .inv .2 .used-by .whole ∙ sym (length-unused _ (start .pre .1 .1 .nothing-used))
 
 same-length-2 : tie.Need-same-length-2 Inv-loop μ-loop
 same-length-2 c =
     let start = c .before .before .before .before .before .before .before in
-    c .before .loop .inv .2 .results-of .whole ∙ sym (length-unjudged _ (start .pre .1 .1 .1))
+    c .before .loop .inv .2 .results-of .whole ∙ sym (length-unjudged _ (start .pre .1 .1 .no-results))
 
 returns : tie.Need-returns Inv-loop μ-loop
 returns c =
     let start = c .before .before .before .before .before .before .before in
     let l = c .before .loop in
     let done : l .k ≡ start .args .n = omega arith in
-    tables-end _ _ (l .k) _ _ _ (done ∙ start .pre .1 .0 .0) (l .inv .2)
+    tables-end _ _ (l .k) _ _ _ (done ∙ start .pre .1 .0 .all-of) (l .inv .2)
 
 pub judge-all-spec : {M : Type 1} → statement M
 judge-all-spec =

@@ -27,8 +27,13 @@ judge-all-requires c κs =
     let ordered = c .before .before .before in
     let placed = ordered .before in
     let pre = placed .before .before .before .before .pre in
-    let order = ordered .in-order .ensures ∙ ap prioritised (placed .placed-in .ensures) in
-    (pre .0, ((pre .1, order), (c .before .before .nothing-used .ensures, pre .2)))
+    let order = ordered .in-order .ensures ∙ ap prioritised (placed .placed-in .ensures) in (
+      pre .0,
+      (
+        record { all-of = pre .1; by-priority = order },
+        record { nothing-used = c .before .before .nothing-used .ensures; no-results = pre .2 },
+      ),
+    )
 
 same-length : tie.Need-same-length
 same-length c = search needs

@@ -16,12 +16,16 @@ same-length-2 c = search needs
 
 returns : tie.Need-returns
 returns c =
-    let e = c .before .before .before .before .begin .ensures in (
-      first-whole _ _ _ (e .0) (e .1 .0) (e .1 .1 .0),
+    let (answer, left) = c .before .before .before .before .begin .ensures in
+    let (book, lines) = left in
+    let (out, rest) = lines in
+    let (bound, goes) = rest in
+    let (opens, onward) = goes in (
+      first-whole _ _ _ answer book out,
       record {
         room = omega (arith, same-length-2 c);
         counted = omega arith;
-        onward = λ on. (e .1 .1 .1 .1 .0 on, e .1 .1 .1 .1 .1, omega arith);
+        onward = λ on. (opens on, onward, omega arith);
       },
     )
 

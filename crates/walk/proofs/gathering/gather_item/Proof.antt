@@ -39,15 +39,18 @@ returns c =
     let start = c .before .before .before .before .before .before .before .before .before .before .before in
     let on = start .pre .1 .onward (start .pre .0 .0) in
     let bytes = bytes-known _ (c .before .before .before .before .before .before .before .before .before .before .shared-slice-known .given) in
-    let e = c .before .before .before .before .before .walk-item .ensures in
-    let still = e .1 .1 .1 .1 in
-    let whole = item-whole _ _ _ _ (start .pre .0 .0) bytes (on .0) (start .pre .1 .room) _ _ (e .0) (e .1 .0) (e .1 .1 .0) in (
+    let (answer, left) = c .before .before .before .before .before .walk-item .ensures in
+    let (book, lines) = left in
+    let (out, rest) = lines in
+    let (bound, goes) = rest in
+    let (still, onward) = goes in
+    let whole = item-whole _ _ _ _ (start .pre .0 .0) bytes (on .0) (start .pre .1 .room) _ _ answer book out in (
       whole,
       (
         record {
           room = omega (arith, same-length-2 c);
           counted = omega arith;
-          onward = λ t. let f = still .1 t in (still .0, f .1, omega arith);
+          onward = λ t. let f = onward t in (still, f .1, omega arith);
         },
         refl,
       ),

@@ -8,7 +8,7 @@ use Rattle.walk.proofs.steps.begin.Statement.{statement}
 use Rattle.walk.proofs.steps.begin.Tie as tie
 
 -- a whole item lies within the stream
-within : (c : tie.After-known-told) → Within (c .before .before .before .before .before .before .before .before .args .stream .now) (0) (c .before .found .given .0 .0) (c .before .found .given .0 .1 .0)
+within : (c : tie.After-known-told) → (let (from, past) = c .before .found .given .0 in Within (c .before .before .before .before .before .before .before .before .args .stream .now) 0 from (past .0))
 within c = found-within _ _ _ _ (sym (c .before .before .before .next-item .ensures) ∙ c .before .found .given .1)
 
 put-long-requires : tie.Need-put-long-requires
@@ -69,8 +69,11 @@ returns-2 : tie.Need-returns-2
 returns-2 c =
     let found = sym (c .before .before .before .before .before .before .before .before .before .before .before .next-item .ensures) ∙ c .before .before .before .before .before .before .before .before .before .found .given .1 in
     let w = within (c .before .before .before .before .before .before .before .before) in
-    let e = c .before .before .before .before .open-setup .ensures in
-    rw (begin-whole _ (c .before .before .before .before .before .before .before .before .before .before .before .before .if1 .left) _ _ found) (e .0, (e .1 .0, (e .1 .1 .0, (e .1 .1 .1 .0, (e .1 .1 .1 .1, open-next _ _ _ _ (e .0) (w .in-stream))))))
+    let (answer, left) = c .before .before .before .before .open-setup .ensures in
+    let (book, lines) = left in
+    let (out, rest) = lines in
+    let (bound, opens) = rest in
+    rw (begin-whole _ (c .before .before .before .before .before .before .before .before .before .before .before .before .if1 .left) _ _ found) (answer, (book, (out, (bound, (opens, open-next _ _ _ _ answer (w .in-stream))))))
 
 same-length-4 : tie.Need-same-length-4
 same-length-4 c = search needs

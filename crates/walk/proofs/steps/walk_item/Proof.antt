@@ -8,7 +8,7 @@ use Rattle.walk.proofs.steps.walk_item.Statement.{statement}
 use Rattle.walk.proofs.steps.walk_item.Tie as tie
 
 -- a whole item lies within the stream
-within : (c : tie.After-known-told) → Within (c .before .before .before .before .before .before .before .args .stream .now) (c .before .before .before .before .before .before .before .args .at) (c .before .found .given .0 .0) (c .before .found .given .0 .1 .0)
+within : (c : tie.After-known-told) → (let (from, past) = c .before .found .given .0 in Within (c .before .before .before .before .before .before .before .args .stream .now) (c .before .before .before .before .before .before .before .args .at) from (past .0))
 within c = found-within _ _ _ _ (sym (c .before .before .before .next-item .ensures) ∙ c .before .found .given .1)
 
 next-item-requires : tie.Need-next-item-requires
@@ -54,8 +54,10 @@ returns : tie.Need-returns
 returns c =
     let found = sym (c .before .before .before .before .before .before .before .before .before .before .before .next-item .ensures) ∙ c .before .before .before .before .before .before .before .before .before .found .given .1 in
     let w = within (c .before .before .before .before .before .before .before .before) in
-    let said = c .before .before .before .before .answer-item .ensures in
-    rw (step-whole _ _ _ _ _ _ found) (does-go-on _ (said .0) (said .1 .0) (c .before .before .before .before .before .before .before .before .before .before .before .before .before .before .before .args .book .now) _ _ (said .1 .1 .0) (said .1 .1 .1, λ e. (omega arith, w .in-stream)))
+    let (lines, left) = c .before .before .before .before .answer-item .ensures in
+    let (bound, rest) = left in
+    let (book, still) = rest in
+    rw (step-whole _ _ _ _ _ _ found) (does-go-on _ lines bound (c .before .before .before .before .before .before .before .before .before .before .before .before .before .before .before .args .book .now) _ _ book (still, λ e. (omega arith, w .in-stream)))
 
 same-length-3 : tie.Need-same-length-3
 same-length-3 c = search needs
