@@ -36,13 +36,13 @@ use Rattle.audit.proofs.StandLaws.{fails-with, setup-known}
 
 schedule-count : (s : List ℕ) → length (bookAt mostHours s .schedules) ≡ numberAt s scheduleCountAt 2
 schedule-count s =
-    let room : List ℕ = take 2816 (drop schedulesAt s) in
+    let room : List ℕ = take (scheduleWidth * mostSchedules) (drop schedulesAt s) in
     length-map (chunks scheduleWidth (numberAt s scheduleCountAt 2) room) scheduleIn ∙ length-chunks scheduleWidth (numberAt s scheduleCountAt 2) room
 
 schedules-there : (s : List ℕ) → numberAt s scheduleCountAt 2 ≤ mostSchedules
     → bookAt mostHours s .schedules ≡ schedulesFrom s schedulesAt (numberAt s scheduleCountAt 2)
 unfolding schedulesFrom
-schedules-there s h = ap (map scheduleIn) (chunks-front scheduleWidth (numberAt s scheduleCountAt 2) 2816 (drop schedulesAt s) (omega arith))
+schedules-there s h = ap (map scheduleIn) (chunks-front scheduleWidth (numberAt s scheduleCountAt 2) (scheduleWidth * mostSchedules) (drop schedulesAt s) (omega arith))
 
 pub too-many-schedules : (s : List ℕ) → mostSchedules < numberAt s scheduleCountAt 2 → false ≡ schedulesStand s
 unfolding schedulesStand allOf

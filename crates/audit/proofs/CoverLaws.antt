@@ -17,7 +17,7 @@ use Rattle.rules.specs.declared.Row.{Row}
 use Rattle.rules.specs.Basics.{nth, Each}
 use Rattle.rules.specs.Limits.{mostGuarantee, thousand}
 use Rattle.rules.specs.Books.{operatorCount, maintenanceAt}
-use Rattle.rules.specs.Opening.{countsIn, setupOf, operatorsIn}
+use Rattle.rules.specs.Opening.{countsIn, setupOf, operatorsIn, guaranteeWidth}
 use Rattle.rules.specs.Registration.{exposure, available, covered}
 use Rattle.rules.proofs.Basics.Searches.{each-at}
 use Rattle.rules.proofs.Setups.SetupEntries.{length-operators, counts-of-setup}
@@ -31,22 +31,22 @@ pub length-guarantees-from : (s : List ℕ) (at n : ℕ) → length (guaranteesF
 unfolding guaranteesFrom
 length-guarantees-from s at n = length-map (chunks 8 n (drop at s)) (λ x. cents (number x)) ∙ length-chunks 8 n (drop at s)
 
-guarantee-get : (s : List ℕ) (at n i : ℕ) → suc i ≤ n → getD (guaranteesFrom s at n) i (cents 0) ≡ cents (numberAt s (at + 8 * i) 8)
+guarantee-get : (s : List ℕ) (at n i : ℕ) → suc i ≤ n → getD (guaranteesFrom s at n) i (cents 0) ≡ cents (numberAt s (at + guaranteeWidth * i) guaranteeWidth)
 unfolding guaranteesFrom numberAt
 guarantee-get s at n i h =
     let l = length-chunks 8 n (drop at s) in
     map-get (λ x. cents (number x)) (chunks 8 n (drop at s)) i [] (cents 0) (omega arith)
-    ∙ ap (λ (x : List ℕ). cents (number x)) (chunk-at 8 n (drop at s) i (omega arith) ∙ ap (take 8) (drop-drop (8 * i) at s))
+    ∙ ap (λ (x : List ℕ). cents (number x)) (chunk-at guaranteeWidth n (drop at s) i (omega arith) ∙ ap (take guaranteeWidth) (drop-drop (guaranteeWidth * i) at s))
 
 -- the guarantee of an operator stands 8 bytes for each operator before it further
-pub guarantee-read : (s : List ℕ) (at n k : ℕ) → 1 ≤ k → k ≤ n → nth (guaranteesFrom s at n) k (cents 0) ≡ cents (numberAt s (at + 8 * (k - 1)) 8)
+pub guarantee-read : (s : List ℕ) (at n k : ℕ) → 1 ≤ k → k ≤ n → nth (guaranteesFrom s at n) k (cents 0) ≡ cents (numberAt s (at + guaranteeWidth * (k - 1)) guaranteeWidth)
 guarantee-read s at n zero l u = absurd (omega arith)
 guarantee-read s at n (suc i) l u =
     let e : suc i - 1 ≡ i = omega arith in
-    guarantee-get s at n i u ∙ ap (λ (j : ℕ). cents (numberAt s (at + 8 * j) 8)) (sym e)
+    guarantee-get s at n i u ∙ ap (λ (j : ℕ). cents (numberAt s (at + guaranteeWidth * j) guaranteeWidth)) (sym e)
 
 pub guarantee-small : (s : List ℕ) (at n k : ℕ) → Each (λ g. g .0 ≤ mostGuarantee) (guaranteesFrom s at n) → 1 ≤ k → k ≤ n
-    → numberAt s (at + 8 * (k - 1)) 8 ≤ mostGuarantee
+    → numberAt s (at + guaranteeWidth * (k - 1)) guaranteeWidth ≤ mostGuarantee
 guarantee-small s at n zero e l u = absurd (omega arith)
 guarantee-small s at n (suc i) e l u =
     let c = length-guarantees-from s at n in
@@ -72,7 +72,7 @@ maintenance-small s (suc i) e l u =
 
 -- an operator is covered where its exposure is at most what was read of its guarantee and maintenance
 pub covered-read : (s : List ℕ) (at : ℕ) (rows : List Row) (k owed guarantee money : ℕ) (owner : Operator) → 1 ≤ k → k ≤ countsIn s .operators
-    → owed ≡ exposure (setupOf s) rows k → owner ≡ nth (operatorsIn s) k noOperator → guarantee ≡ numberAt s (at + 8 * (k - 1)) 8
+    → owed ≡ exposure (setupOf s) rows k → owner ≡ nth (operatorsIn s) k noOperator → guarantee ≡ numberAt s (at + guaranteeWidth * (k - 1)) guaranteeWidth
     → money ≡ guarantee * (thousand - owner .maintenance)
     → leb owed money ≡ covered (setupOf s) (partWith s at rows) k
 unfolding covered available

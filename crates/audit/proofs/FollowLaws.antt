@@ -1,6 +1,6 @@
 -- Saved rows followed by present ones, row by row as both stand in bytes.
 use Prim.Native.Nat.{ℕ, _+_, _≤_, _<_}
-use mathlib.Core.Path.{_≡_, refl, sym, _∙_}
+use mathlib.Core.Path.{_≡_, refl, sym}
 use mathlib.Core.Bool.{Bool, false, _&&_, _||_, and-assoc, and-true, and-false}
 use mathlib.Core.List.{List, [], _∷_}
 use native.Mathlib.Omega.{arith}
@@ -11,6 +11,7 @@ use Rattle.rules.specs.Registration.{pending}
 use Rattle.image.specs.Image.{rowIn}
 use Rattle.image.specs.Valid.{sameTerms, follows}
 use Rattle.image.specs.Cells.{rowsFrom}
+use Rattle.image.specs.Layout.{rowWidth}
 use Rattle.image.proofs.Reading.RowsFrom.{rows-done, rows-step, length-rows}
 
 -- a saved row, and what it can since have become
@@ -33,6 +34,6 @@ follows-done ok s i n ys h = rw (rows-done s i n h) (and-true ok)
 
 pub follows-step : (ok : Bool) (s : List ℕ) (i k n q n' q' : ℕ) → n ≡ n' + 1 → q ≡ q' + 1
     → (ok && follows (rowsFrom s i n) (rowsFrom s k q))
-    ≡ ((ok && rowFollows (rowIn (take 18 (drop i s))) (rowIn (take 18 (drop k s)))) && follows (rowsFrom s (i + 18) n') (rowsFrom s (k + 18) q'))
+    ≡ ((ok && rowFollows (rowIn (take rowWidth (drop i s))) (rowIn (take rowWidth (drop k s)))) && follows (rowsFrom s (i + rowWidth) n') (rowsFrom s (k + rowWidth) q'))
 unfolding follows
 follows-step ok s i k n q n' q' d e = rw (rows-step s i n n' d, rows-step s k q q' e) (sym (and-assoc ok _ _))

@@ -22,7 +22,7 @@ use Rattle.rules.specs.Basics.{upTo}
 use Rattle.rules.specs.Limits.{mostAccounts}
 use Rattle.rules.specs.Registration.{bought, sold, netOf, figure}
 use Rattle.rules.proofs.Basics.Searches.{counting-length}
-use Rattle.image.specs.Layout.{accountWidth, netAt, netsAt}
+use Rattle.image.specs.Layout.{accountWidth, netAt, netsAt, netWidth}
 use Rattle.image.specs.Image.{accountNets, netsBytes}
 use Rattle.image.proofs.Sound.Soundness.{every-upTo, upTo-every}
 use Rattle.image.proofs.Writing.Sizes.{length-account}
@@ -38,15 +38,15 @@ behind : (b s v : ℕ) → v < 4294967296 → (v + s) % 4294967296 ≡ b % 42949
 behind b s v l e = omega arith
 
 -- a word of 4 bytes is bought less sold
-pub net-test : (b s : ℕ) (c : List ℕ) → Bytes c → length c ≡ 4
-    → (signed 4 (subℕ b s) ≡ c) ↔ (eqb ((number c + s) % 256 ^ 4) (b % 256 ^ 4) ≡ true)
+pub net-test : (b s : ℕ) (c : List ℕ) → Bytes c → length c ≡ netWidth
+    → (signed netWidth (subℕ b s) ≡ c) ↔ (eqb ((number c + s) % 256 ^ netWidth) (b % 256 ^ netWidth) ≡ true)
 net-test b s c h l =
     let w : ℕ = b + 4294967295 * s in
     let e : le 4 (number c) ≡ c = le-number-wide h 4 l in
     let small : number c < 256 ^ length c = number-small h in
     let low : number c < 4294967296 = rw l at small in (
-      (λ (t : signed 4 (subℕ b s) ≡ c). eq-eqb _ _ (ahead b s (number c) (sym (number-le-rest 4 w) ∙ ap number (sym (signed-sub 4 b s) ∙ t)))),
-      (λ (t : eqb ((number c + s) % 256 ^ 4) (b % 256 ^ 4) ≡ true). signed-sub 4 b s ∙ le-same 4 w (number c) (behind b s (number c) low (eqb-true _ _ t)) ∙ e),
+      (λ (t : signed netWidth (subℕ b s) ≡ c). eq-eqb _ _ (ahead b s (number c) (sym (number-le-rest 4 w) ∙ ap number (sym (signed-sub netWidth b s) ∙ t)))),
+      (λ (t : eqb ((number c + s) % 256 ^ netWidth) (b % 256 ^ netWidth) ≡ true). signed-sub netWidth b s ∙ le-same 4 w (number c) (behind b s (number c) low (eqb-true _ _ t)) ∙ e),
     )
 
 -- ---- all nets
@@ -72,7 +72,7 @@ module _ (top : ℕ) (rows : List Row) (s : List ℕ) (at : ℕ) (b : Bytes s) (
   stored = take (mostAccounts * accountWidth top) (drop (at + netsAt) s)
 
   abbrev word : ℕ → ℕ → List ℕ
-  word a h = take 4 (drop (at + netAt top a h) s)
+  word a h = take netWidth (drop (at + netAt top a h) s)
 
   in-account : (a : ℕ) → 1 ≤ a → a ≤ mostAccounts → accountWidth top * (a - 1) + accountWidth top ≤ mostAccounts * accountWidth top
   in-account a low high = omega (arith, mul-le-mul-left {m = a - 1} {n = 31} (accountWidth top) (omega arith))
@@ -84,22 +84,22 @@ module _ (top : ℕ) (rows : List Row) (s : List ℕ) (at : ℕ) (b : Bytes s) (
     abbrev hours : List ℕ
     hours = take (accountWidth top) (drop (accountWidth top * (a - 1)) stored)
 
-    length-hours : length hours ≡ 4 * top
+    length-hours : length hours ≡ netWidth * top
     length-hours =
         let i = in-account a low high in
         let n = length-nets-stored in
         length-take-le (accountWidth top) (drop (accountWidth top * (a - 1)) stored) (omega (arith, length-drop (accountWidth top * (a - 1)) stored))
 
-    word-at : (h : ℕ) → 1 ≤ h → h ≤ top → take 4 (drop (4 * (h - 1)) hours) ≡ word a h
+    word-at : (h : ℕ) → 1 ≤ h → h ≤ top → take netWidth (drop (netWidth * (h - 1)) hours) ≡ word a h
     word-at h hl hh =
         let i = in-account a low high in
-        let p : at + netsAt + (accountWidth top * (a - 1) + 4 * (h - 1)) ≡ at + netAt top a h = omega arith in
-        inner 4 (4 * (h - 1)) (accountWidth top) (accountWidth top * (a - 1)) stored (omega arith)
-        ∙ inner 4 (accountWidth top * (a - 1) + 4 * (h - 1)) (mostAccounts * accountWidth top) (at + netsAt) s (omega arith)
+        let p : at + netsAt + (accountWidth top * (a - 1) + netWidth * (h - 1)) ≡ at + netAt top a h = omega arith in
+        inner netWidth (netWidth * (h - 1)) (accountWidth top) (accountWidth top * (a - 1)) stored (omega arith)
+        ∙ inner netWidth (accountWidth top * (a - 1) + netWidth * (h - 1)) (mostAccounts * accountWidth top) (at + netsAt) s (omega arith)
         ∙ rw p
 
   word-test : (a h : ℕ) → 1 ≤ a → a ≤ mostAccounts → 1 ≤ h → h ≤ top
-      → (signed 4 (figure (netOf rows a h)) ≡ word a h) ↔ (netHeld rows a h (numberAt s (at + netAt top a h) 4) ≡ true)
+      → (signed netWidth (figure (netOf rows a h)) ≡ word a h) ↔ (netHeld rows a h (numberAt s (at + netAt top a h) netWidth) ≡ true)
   unfolding numberAt
   word-test a h al ah hl hh =
       let i = in-account a al ah in
@@ -113,11 +113,11 @@ module _ (top : ℕ) (rows : List Row) (s : List ℕ) (at : ℕ) (b : Bytes s) (
       let g = cells-at (accountWidth top) mostAccounts (accountNets top rows) (length-account top rows) stored length-nets-stored e a al ah in
       upTo-every _ top (λ h hl hh.
       word-test a h al ah hl hh .0
-      (cells-at 4 top (λ x. signed 4 (figure (netOf rows a x))) (λ x. length-signed 4 (figure (netOf rows a x))) (hours a al ah) (length-hours a al ah) g h hl hh ∙ word-at a al ah h hl hh)))
+      (cells-at netWidth top (λ x. signed netWidth (figure (netOf rows a x))) (λ x. length-signed netWidth (figure (netOf rows a x))) (hours a al ah) (length-hours a al ah) g h hl hh ∙ word-at a al ah h hl hh)))
 
   pub held-nets : netsHeld top rows s at ≡ true → netsBytes top rows ≡ stored
   unfolding netsBytes accountNets netsHeld
   held-nets t =
       at-cells (accountWidth top) mostAccounts (accountNets top rows) (length-account top rows) stored length-nets-stored (λ a al ah.
-      at-cells 4 top (λ x. signed 4 (figure (netOf rows a x))) (λ x. length-signed 4 (figure (netOf rows a x))) (hours a al ah) (length-hours a al ah) (λ h hl hh.
+      at-cells netWidth top (λ x. signed netWidth (figure (netOf rows a x))) (λ x. length-signed netWidth (figure (netOf rows a x))) (hours a al ah) (length-hours a al ah) (λ h hl hh.
       word-test a h al ah hl hh .1 (every-upTo _ top (every-upTo _ mostAccounts t a al ah) h hl hh) ∙ sym (word-at a al ah h hl hh)))

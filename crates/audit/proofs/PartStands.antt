@@ -19,11 +19,11 @@ use Rattle.rules.specs.declared.Row.{Row}
 use Rattle.rules.specs.Basics.{every, allOf, upTo, Each}
 use Rattle.rules.specs.Limits.{mostHours, mostAccounts, mostGuarantee, mostOperators, mostRows}
 use Rattle.rules.specs.Books.{Setup, Part, operatorCount}
-use Rattle.rules.specs.Opening.{countsIn, setupOf}
+use Rattle.rules.specs.Opening.{countsIn, setupOf, guaranteeWidth}
 use Rattle.rules.proofs.Basics.Tests.{test-same, and-both, Holds, _and_, no-more, all-holds, holds-all, holds-at, chained-all, chain-holds, holds-chain}
 use Rattle.rules.proofs.Basics.Searches.{every-each, each-map}
 use Rattle.rules.proofs.Setups.SetupEntries.{counts-of-setup}
-use Rattle.image.specs.Layout.{rowWidth, partWidths, partSize, rowsAt, netsAt, netAt}
+use Rattle.image.specs.Layout.{rowWidth, partWidths, partSize, rowsAt, netsAt, netAt, rowCountAt, netWidth}
 use Rattle.image.specs.Image.{rowIn, partOf, partIn}
 use Rattle.image.specs.Valid.{rowOk, noTwins, marginsKept, guaranteesKept, partTests, partOk}
 use Rattle.image.specs.Tables.{placeOf, InTable, Tabled}
@@ -49,7 +49,7 @@ unfolding netsStored netsHeld netStored
 nets-by-sums s at rows table sums =
     every-alike _ _ mostAccounts (λ a al ah. every-alike _ _ mostHours (λ h hl hh.
     let i : InTable mostHours a h = record { account-low = al; account-high = ah; hour-low = hl; hour-high = hh } in
-    let place : at + netsAt + 4 * placeOf mostHours a h ≡ at + netAt mostHours a h = omega arith in
+    let place : at + netsAt + netWidth * placeOf mostHours a h ≡ at + netAt mostHours a h = omega arith in
     rw (place, sums .bought-at a h i, sums .sold-at a h i)))
 
 -- what follows of the rows, each test by the table
@@ -74,7 +74,7 @@ module _ (s : List ℕ) (at operators : ℕ) where
 
   count : number (getD (cut ws x) 1 []) ≡ rowCount s at
   unfolding numberAt
-  count = ap number (cut-at ws x 1 ∙ inner 2 128 (partSize mostHours) at s (omega arith))
+  count = ap number (cut-at ws x 1 ∙ inner 2 rowCountAt (partSize mostHours) at s (omega arith))
 
   pub length-part-rows : length (partAt mostHours operators s at .rows) ≡ rowCount s at
   unfolding partIn partOf
@@ -88,15 +88,15 @@ module _ (s : List ℕ) (at operators : ℕ) where
   unfolding partIn partOf guaranteesFrom rowsFrom
   part-places o n =
       let z : at + 0 ≡ at = omega arith in
-      let c0 : getD (cut ws x) 0 [] ≡ take 128 (drop at s) =
-      cut-at ws x 0 ∙ inner 128 0 (partSize mostHours) at s (omega arith) ∙ ap (λ (k : ℕ). take 128 (drop k s)) z in
-      let c2 : getD (cut ws x) 2 [] ≡ take 4608 (drop (at + rowsAt) s) = cut-at ws x 2 ∙ inner 4608 130 (partSize mostHours) at s (omega arith) in
+      let c0 : getD (cut ws x) 0 [] ≡ take rowCountAt (drop at s) =
+      cut-at ws x 0 ∙ inner rowCountAt 0 (partSize mostHours) at s (omega arith) ∙ ap (λ (k : ℕ). take rowCountAt (drop k s)) z in
+      let c2 : getD (cut ws x) 2 [] ≡ take (rowWidth * mostRows) (drop (at + rowsAt) s) = cut-at ws x 2 ∙ inner (rowWidth * mostRows) rowsAt (partSize mostHours) at s (omega arith) in
       same-part
-      (ap (λ (y : List ℕ). map (λ g. cents (number g)) (chunks 8 operators y)) c0
-      ∙ ap (map (λ g. cents (number g))) (chunks-front 8 operators 128 (drop at s) (omega arith)))
+      (ap (λ (y : List ℕ). map (λ g. cents (number g)) (chunks guaranteeWidth operators y)) c0
+      ∙ ap (map (λ g. cents (number g))) (chunks-front guaranteeWidth operators rowCountAt (drop at s) (omega arith)))
       (ap (λ (k : ℕ). map rowIn (chunks rowWidth k (getD (cut ws x) 2 []))) count
       ∙ ap (λ (y : List ℕ). map rowIn (chunks rowWidth (rowCount s at) y)) c2
-      ∙ ap (map rowIn) (chunks-front rowWidth (rowCount s at) 4608 (drop (at + rowsAt) s) (omega arith)))
+      ∙ ap (map rowIn) (chunks-front rowWidth (rowCount s at) (rowWidth * mostRows) (drop (at + rowsAt) s) (omega arith)))
 
 -- ---- the tests in the order in which code makes them
 
@@ -158,7 +158,7 @@ few-rows s at t =
 pub too-many-rows : (s : List ℕ) (at : ℕ) → mostRows < rowCount s at → false ≡ partStands s at
 too-many-rows s at h = sym (fails-with (partStands s at) (λ t. le-leb _ _ (few-rows s at t)) (lt-leb (rowCount s at) mostRows h))
 
-module _ (s : List ℕ) (at n operators : ℕ) (k : SetupKnown s) (en : n ≡ rowCount s at) (eo : operators ≡ countsIn s .operators) (few : n ≤ mostRows) where
+module _ (s : List ℕ) (at n operators : ℕ) (k : SetupKnown mostHours s) (en : n ≡ rowCount s at) (eo : operators ≡ countsIn s .operators) (few : n ≤ mostRows) where
   abbrev rows : List Row
   rows = rowsFrom s (at + rowsAt) n
 
@@ -184,7 +184,7 @@ module _ (s : List ℕ) (at n operators : ℕ) (k : SetupKnown s) (en : n ≡ ro
 
 -- ---- what the sums ask of rows and guarantees that stand
 
-pub rows-tabled : (s : List ℕ) (at n : ℕ) → SetupKnown s → rowsStand s at n ≡ true → Each (Tabled mostHours) (rowsFrom s (at + rowsAt) n)
+pub rows-tabled : (s : List ℕ) (at n : ℕ) → SetupKnown mostHours s → rowsStand s at n ≡ true → Each (Tabled mostHours) (rowsFrom s (at + rowsAt) n)
 unfolding rowsStand
 rows-tabled s at n k t =
     let c = counts-of-setup s in

@@ -1,6 +1,6 @@
 -- A part of a book is what its own image would be exactly where it passes its tests: the cells past those that are used are zero, and the
 -- nets are those of the rows.
-use Prim.Native.Nat.{ℕ, zero, _+_, _-_, _*_, _≤_}
+use Prim.Native.Nat.{ℕ, _+_, _-_, _*_, _≤_}
 use mathlib.Core.Path.{_≡_, sym, ap, _∙_}
 use mathlib.Core.List.{List, [], _∷_, map}
 use mathlib.Core.Bool.{true}
@@ -19,6 +19,7 @@ use Rattle.units.specs.Units.{cents}
 use Rattle.rules.specs.Limits.{mostOperators, mostAccounts, mostRows}
 use Rattle.rules.specs.Books.{Part}
 use Rattle.rules.proofs.Basics.Tests.{Holds, _and_, no-more, all-holds, holds-all}
+use Rattle.rules.specs.Opening.{guaranteeWidth}
 use Rattle.image.specs.Layout.{rowWidth, accountWidth, partWidths, partSize, rowCountAt, rowAt, netsAt}
 use Rattle.image.specs.Image.{rowBytes, partSections, partBytes, rowIn, partOf, partIn}
 use Rattle.image.specs.Cells.{partAt}
@@ -79,7 +80,7 @@ module _ (top ops : ℕ) (s : List ℕ) (at : ℕ) (b : Bytes s) (l : at + partS
 
   count : number (getD c 1 []) ≡ numberAt s (at + rowCountAt) 2
   unfolding numberAt
-  count = ap number (cut-at ws x 1 ∙ inner 2 128 (partSize top) at s (omega arith))
+  count = ap number (cut-at ws x 1 ∙ inner 2 rowCountAt (partSize top) at s (omega arith))
 
   length-rows : length (p .rows) ≡ numberAt s (at + rowCountAt) 2
   unfolding partIn partOf
@@ -91,7 +92,7 @@ module _ (top ops : ℕ) (s : List ℕ) (at : ℕ) (b : Bytes s) (l : at + partS
   part-fits : PartFits p
   unfolding partIn partOf
   part-fits =
-      let g : length (p .guarantees) ≡ ops = length-map (chunks 8 ops (getD c 0 [])) (λ y. cents (number y)) ∙ length-chunks 8 ops (getD c 0 []) in
+      let g : length (p .guarantees) ≡ ops = length-map (chunks guaranteeWidth ops (getD c 0 [])) (λ y. cents (number y)) ∙ length-chunks guaranteeWidth ops (getD c 0 []) in
       record { guarantees-fit = omega arith; rows-fit = r }
 
   nets-place : getD c 3 [] ≡ take (mostAccounts * accountWidth top) (drop (at + netsAt) s)
@@ -101,7 +102,7 @@ module _ (top ops : ℕ) (s : List ℕ) (at : ℕ) (b : Bytes s) (l : at + partS
   rows-count = length-rows ∙ sym count
 
   abbrev enc : Cents → List ℕ
-  enc g = le 8 (g .0)
+  enc g = le guaranteeWidth (g .0)
 
   abbrev dec : List ℕ → Cents
   dec y = cents (number y)
@@ -112,10 +113,10 @@ module _ (top ops : ℕ) (s : List ℕ) (at : ℕ) (b : Bytes s) (l : at + partS
       let n : ℕ = numberAt s (at + rowCountAt) 2 in
       let m = few in
       let sec : partSections top p ≡ c = sym (cut-flat ws (partSections top p) (wide-part top p part-fits)) ∙ ap (cut ws) e in
-      let z0 = slots-zero 8 mostOperators enc length-guarantee dec ops (getD c 0 []) (ap (λ (y : List (List ℕ)). getD y 0 []) sec) in
+      let z0 = slots-zero guaranteeWidth mostOperators enc length-guarantee dec ops (getD c 0 []) (ap (λ (y : List (List ℕ)). getD y 0 []) sec) in
       let z2 : drop (rowWidth * n) (getD c 2 []) ≡ zeros (rowWidth * mostRows - rowWidth * n) =
       rw count at (slots-zero rowWidth mostRows rowBytes length-row rowIn (number (getD c 1 [])) (getD c 2 []) (ap (λ (y : List (List ℕ)). getD y 2 []) sec)) in
-      let t0 = stretch-tested ws s at (partSize top) 0 (8 * ops) (at + 8 * ops) (omega arith) (omega arith) l (omega arith) z0 in
+      let t0 = stretch-tested ws s at (partSize top) 0 (guaranteeWidth * ops) (at + guaranteeWidth * ops) (omega arith) (omega arith) l (omega arith) z0 in
       let t2 = stretch-tested ws s at (partSize top) 2 (rowWidth * n) (at + rowAt n) (omega arith) (omega arith) l (omega arith) z2 in
       let t3 = nets-held top (p .rows) s at b (omega arith) (ap (λ (y : List (List ℕ)). getD y 3 []) sec ∙ nets-place) in
       holds-all (partPlainTests top ops s at) (t0 and t2 and t3 and no-more)
@@ -125,9 +126,9 @@ module _ (top ops : ℕ) (s : List ℕ) (at : ℕ) (b : Bytes s) (l : at + partS
   plain-by (guarantees and rows and nets and _) =
       let n : ℕ = numberAt s (at + rowCountAt) 2 in
       let m = few in
-      let z0 = stretch-read ws s at (partSize top) 0 (8 * ops) (at + 8 * ops) (omega arith) (omega arith) l (omega arith) guarantees in
+      let z0 = stretch-read ws s at (partSize top) 0 (guaranteeWidth * ops) (at + guaranteeWidth * ops) (omega arith) (omega arith) l (omega arith) guarantees in
       let z2 = stretch-read ws s at (partSize top) 2 (rowWidth * n) (at + rowAt n) (omega arith) (omega arith) l (omega arith) rows in
-      let a0 = slots-again 8 enc dec guarantee-again mostOperators ops (bytes-c 0) (wide-at ws c 0 wide-c) o z0 in
+      let a0 = slots-again guaranteeWidth enc dec guarantee-again mostOperators ops (bytes-c 0) (wide-at ws c 0 wide-c) o z0 in
       let a1 : le 2 (length (p .rows)) ≡ getD c 1 [] = ap (le 2) rows-count ∙ le-number-wide (bytes-c 1) 2 (wide-at ws c 1 wide-c) in
       let a2 : slots rowWidth mostRows rowBytes (p .rows) ≡ getD c 2 [] =
       ap (λ (k : ℕ). slots rowWidth mostRows rowBytes (map rowIn (chunks rowWidth k (getD c 2 [])))) count

@@ -21,7 +21,7 @@ use Rattle.units.specs.Units.{cents}
 use Rattle.rules.specs.declared.Counts.{Counts}
 use Rattle.rules.specs.Basics.{entries}
 use Rattle.rules.specs.Books.{Setup}
-use Rattle.rules.specs.Opening.{setupRefusal, countsIn, operatorsFrom, setupLength, operatorIn, operatorsIn, setupOf, guaranteesOf}
+use Rattle.rules.specs.Opening.{setupRefusal, countsIn, operatorsFrom, setupLength, operatorIn, operatorsIn, setupOf, guaranteesOf, operatorEntry, guaranteeWidth}
 use Rattle.rules.proofs.Basics.Tests.{and-both}
 use Rattle.rules.proofs.Setups.SetupEntries.{counts-of-setup, operator-at}
 use Rattle.image.specs.Layout.{setupRoom}
@@ -37,28 +37,28 @@ use Rattle.audit.specs.Plain.{noneLodged}
 -- ---- no guarantee in the set-up
 
 -- the guarantee of an operator is none where its bytes are zero
-lodged-none : (s : List ℕ) (at : ℕ) → Bytes s → at + 10 ≤ length s → (zerosFrom s at 8 ≡ true) ↔ (operatorIn (take 10 (drop at s)) .guarantee ≡ cents 0)
+lodged-none : (s : List ℕ) (at : ℕ) → Bytes s → at + operatorEntry ≤ length s → (zerosFrom s at guaranteeWidth ≡ true) ↔ (operatorIn (take operatorEntry (drop at s)) .guarantee ≡ cents 0)
 unfolding numberAt
 lodged-none s at b l =
-    let x : List ℕ = take 8 (drop at s) in
-    let lx : length x ≡ 8 = length-take-le 8 (drop at s) (omega (arith, length-drop at s)) in
-    let e : le 8 (number x) ≡ x = le-number-wide (bytes-take 8 (bytes-drop at b)) 8 lx in
+    let x : List ℕ = take guaranteeWidth (drop at s) in
+    let lx : length x ≡ guaranteeWidth = length-take-le guaranteeWidth (drop at s) (omega (arith, length-drop at s)) in
+    let e : le guaranteeWidth (number x) ≡ x = le-number-wide (bytes-take 8 (bytes-drop at b)) guaranteeWidth lx in
     rw (operator-at s at) (
-      (λ (t : zerosFrom s at 8 ≡ true). ap (λ (y : List ℕ). cents (number y)) (zeros-read 8 s at (omega arith) t ∙ sym (le-zero 8)) ∙ ap cents (number-le 8 0 (omega arith))),
-      (λ (g : cents (number x) ≡ cents 0). zeros-tested 8 s at (omega arith) (sym e ∙ ap (λ (y : Cents). le 8 (y .0)) g ∙ le-zero 8)),
+      (λ (t : zerosFrom s at guaranteeWidth ≡ true). ap (λ (y : List ℕ). cents (number y)) (zeros-read guaranteeWidth s at (omega arith) t ∙ sym (le-zero guaranteeWidth)) ∙ ap cents (number-le guaranteeWidth 0 (omega arith))),
+      (λ (g : cents (number x) ≡ cents 0). zeros-tested guaranteeWidth s at (omega arith) (sym e ∙ ap (λ (y : Cents). le guaranteeWidth (y .0)) g ∙ le-zero guaranteeWidth)),
     )
 
-none-lodged : (n : ℕ) (s : List ℕ) (at : ℕ) → Bytes s → at + 10 * n ≤ length s
-    → (noneLodged s at n ≡ true) ↔ (map (λ x. x .guarantee) (entries 10 operatorIn n (drop at s)) ≡ replicate n (cents 0))
+none-lodged : (n : ℕ) (s : List ℕ) (at : ℕ) → Bytes s → at + operatorEntry * n ≤ length s
+    → (noneLodged s at n ≡ true) ↔ (map (λ x. x .guarantee) (entries operatorEntry operatorIn n (drop at s)) ≡ replicate n (cents 0))
 unfolding noneLodged entries
 none-lodged zero s at b l = ((λ t. refl), (λ e. refl))
 none-lodged (suc n) s at b l =
     let one = lodged-none s at b (omega arith) in
-    let more = none-lodged n s (at + 10) b (omega arith) in
-    let both = and-both (zerosFrom s at 8) (noneLodged s (at + 10) n) in
-    rw (drop-drop 10 at s) (
-      (λ (t : zerosFrom s at 8 && noneLodged s (at + 10) n ≡ true). let w = both .0 t in rw (one .0 (w .0), more .0 (w .1))),
-      (λ (e : operatorIn (take 10 (drop at s)) .guarantee ∷ map (λ x. x .guarantee) (entries 10 operatorIn n (drop (at + 10) s)) ≡ cents 0 ∷ replicate n (cents 0)).
+    let more = none-lodged n s (at + operatorEntry) b (omega arith) in
+    let both = and-both (zerosFrom s at guaranteeWidth) (noneLodged s (at + operatorEntry) n) in
+    rw (drop-drop operatorEntry at s) (
+      (λ (t : zerosFrom s at guaranteeWidth && noneLodged s (at + operatorEntry) n ≡ true). let w = both .0 t in rw (one .0 (w .0), more .0 (w .1))),
+      (λ (e : operatorIn (take operatorEntry (drop at s)) .guarantee ∷ map (λ x. x .guarantee) (entries operatorEntry operatorIn n (drop (at + operatorEntry) s)) ≡ cents 0 ∷ replicate n (cents 0)).
           both .1 (one .1 (ap (λ (y : List Cents). getD y 0 (cents 0)) e), more .1 (ap (drop 1) e))),
     )
 
@@ -86,14 +86,14 @@ module _ (s : List ℕ) (b : Bytes s) (l : setupRoom ≤ length s) (k : SoundSet
   inside : setupLength n ≤ setupRoom
   inside = setup-short s k
 
-  guarantees-at : guaranteesOf first ≡ map (λ x. x .guarantee) (entries 10 operatorIn (n .operators) (drop (operatorsFrom n) s))
+  guarantees-at : guaranteesOf first ≡ map (λ x. x .guarantee) (entries operatorEntry operatorIn (n .operators) (drop (operatorsFrom n) s))
   unfolding guaranteesOf operatorsIn
   guarantees-at =
       let i = inside in
-      ap (λ (c : Counts). map (λ x. x .guarantee) (entries 10 operatorIn (c .operators) (drop (operatorsFrom c) first))) counts
-      ∙ ap (map (λ x. x .guarantee)) (entries-first 10 operatorIn (n .operators) (operatorsFrom n) setupRoom s (omega arith))
+      ap (λ (c : Counts). map (λ x. x .guarantee) (entries operatorEntry operatorIn (c .operators) (drop (operatorsFrom c) first))) counts
+      ∙ ap (map (λ x. x .guarantee)) (entries-first operatorEntry operatorIn (n .operators) (operatorsFrom n) setupRoom s (omega arith))
 
-  lodged-test : (noneLodged s (operatorsFrom n) (n .operators) ≡ true) ↔ (map (λ x. x .guarantee) (entries 10 operatorIn (n .operators) (drop (operatorsFrom n) s)) ≡ replicate (n .operators) (cents 0))
+  lodged-test : (noneLodged s (operatorsFrom n) (n .operators) ≡ true) ↔ (map (λ x. x .guarantee) (entries operatorEntry operatorIn (n .operators) (drop (operatorsFrom n) s)) ≡ replicate (n .operators) (cents 0))
   lodged-test = let i = inside in none-lodged (n .operators) s (operatorsFrom n) b (omega arith)
 
   lodged-here : noneLodged s (operatorsFrom n) (n .operators) ≡ true → NoGuarantees first

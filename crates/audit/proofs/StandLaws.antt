@@ -15,9 +15,9 @@ use Rattle.units.specs.Units.{cents}
 use Rattle.rules.specs.declared.Counts.{Counts}
 use Rattle.rules.specs.declared.Refusal.{Refusal}
 use Rattle.rules.specs.Basics.{allOf, isSome, Each, nil, cons}
-use Rattle.rules.specs.Limits.{thousand, bookSize}
+use Rattle.rules.specs.Limits.{thousand, bookSize, mostHours}
 use Rattle.rules.specs.Books.{Setup, operatorCount}
-use Rattle.rules.specs.Opening.{countsIn, operatorsFrom, setupLength, setupOf, operatorsOf, setupRefusal}
+use Rattle.rules.specs.Opening.{countsIn, operatorsFrom, setupLength, setupOf, operatorsOf, setupRefusal, guaranteeWidth, operatorEntry}
 use Rattle.rules.proofs.Basics.Tests.{holds-at, chained-all}
 use Rattle.rules.proofs.Basics.Searches.{none-of}
 use Rattle.rules.proofs.Setups.SetupEntries.{counts-of-setup}
@@ -41,8 +41,8 @@ unfolding noneLodged
 none-lodged-done ok s at zero h = and-true ok
 none-lodged-done ok s at (suc n) h = absurd (omega arith)
 
-pub none-lodged-step : {t : Bool} (ok : Bool) (s : List ℕ) (at n m : ℕ) → n ≡ m + 1 → t ≡ zerosFrom s at 8
-    → (ok && noneLodged s at n) ≡ ((ok && t) && noneLodged s (at + 10) m)
+pub none-lodged-step : {t : Bool} (ok : Bool) (s : List ℕ) (at n m : ℕ) → n ≡ m + 1 → t ≡ zerosFrom s at guaranteeWidth
+    → (ok && noneLodged s at n) ≡ ((ok && t) && noneLodged s (at + operatorEntry) m)
 unfolding noneLodged
 none-lodged-step ok s at n m e h = rw (e, add-one m, h) (sym (and-assoc ok _ _))
 
@@ -55,7 +55,7 @@ maintenance-each [] (m ∷ ms) h e = absurd (omega arith)
 maintenance-each (g ∷ gs) [] h e = absurd (omega arith)
 maintenance-each (g ∷ gs) (m ∷ ms) h (cons p e) = cons (p .1) (maintenance-each gs ms (omega arith) e)
 
-sound-known : (s : List ℕ) → length s ≡ bookSize → SoundSetup (setupOf s) → SetupKnown s
+sound-known : (s : List ℕ) → length s ≡ bookSize → SoundSetup (setupOf s) → SetupKnown mostHours s
 unfolding setupOf
 sound-known s l k =
     let u : Setup = setupOf s in
@@ -77,7 +77,7 @@ sound-known s l k =
       maintenance-high = maintenance-each (replicate (operatorCount u) (cents 0)) (u .maintenance) (length-replicate (operatorCount u) (cents 0)) (v .operators-sound);
     }
 
-pub setup-known : (s : List ℕ) → length s ≡ bookSize → setupStands s ≡ true → SetupKnown s
+pub setup-known : (s : List ℕ) → length s ≡ bookSize → setupStands s ≡ true → SetupKnown mostHours s
 unfolding setupStands
 setup-known s l t =
     let k = sound-setup (setupOf (take setupRoom s)) (holds-at 0 (setupStandTests s) t) in

@@ -21,6 +21,7 @@ use Rattle.rules.proofs.Rows.RowTests.{alike-by, alike-true}
 use Rattle.image.specs.Image.{rowIn}
 use Rattle.image.specs.Valid.{noTwins}
 use Rattle.image.specs.Cells.{rowsFrom}
+use Rattle.image.specs.Layout.{rowWidth}
 use Rattle.image.proofs.Reading.RowBytes.{row-at}
 use Rattle.image.proofs.Reading.RowsFrom.{rows-done, rows-step}
 use Rattle.audit.specs.Twins.{pairOf, markOf, keyAmong, keysApart, Keyed}
@@ -119,13 +120,13 @@ filled f xs i v l e h =
     below-more _ i (λ k b. getD-set-other xs i k v 0 (λ d. omega arith) ∙ h k b) (getD-set-same xs i v 0 l ∙ e)
 
 pub keys-more : (s : List ℕ) (at i : ℕ) (codes pairs : List ℕ) (code pair : ℕ) → i < length codes → i < length pairs
-    → code ≡ rowIn (take 18 (drop (at + 18 * i) s)) .code
-    → pair ≡ pairOf i (rowIn (take 18 (drop (at + 18 * i) s)))
+    → code ≡ rowIn (take rowWidth (drop (at + rowWidth * i) s)) .code
+    → pair ≡ pairOf i (rowIn (take rowWidth (drop (at + rowWidth * i) s)))
     → Keyed s at i codes pairs → Keyed s at (i + 1) (set codes i code) (set pairs i pair)
 keys-more s at i codes pairs code pair hc hp ec ep h =
     record {
-      code-at = filled (λ k. rowIn (take 18 (drop (at + 18 * k) s)) .code) codes i code hc ec (h .code-at);
-      pair-at = filled (λ k. pairOf k (rowIn (take 18 (drop (at + 18 * k) s)))) pairs i pair hp ep (h .pair-at);
+      code-at = filled (λ k. rowIn (take rowWidth (drop (at + rowWidth * k) s)) .code) codes i code hc ec (h .code-at);
+      pair-at = filled (λ k. pairOf k (rowIn (take rowWidth (drop (at + rowWidth * k) s)))) pairs i pair hp ep (h .pair-at);
     }
 
 -- ---- the same key
@@ -135,7 +136,7 @@ pub record Parties (r : Row) : Type 0 where
   pub proposer-byte : r .proposer < 256
   pub counterparty-byte : r .counterparty < 256
 
-pub parties : {s : List ℕ} → Bytes s → (at : ℕ) → Parties (rowIn (take 18 (drop at s)))
+pub parties : {s : List ℕ} → Bytes s → (at : ℕ) → Parties (rowIn (take rowWidth (drop at s)))
 parties {s} h at =
     rw (row-at s at) (record { proposer-byte = number-at-small h at 1; counterparty-byte = number-at-small h (at + 1) 1 })
 
@@ -185,27 +186,27 @@ any-each true p x xs = go (p x) refl
 
 module _ {s : List ℕ} (bytes : Bytes s) (at n : ℕ) (codes pairs : List ℕ) (keyed : Keyed s at n codes pairs) where
   abbrev row : ℕ → Row
-  row k = rowIn (take 18 (drop (at + 18 * k) s))
+  row k = rowIn (take rowWidth (drop (at + rowWidth * k) s))
 
-  next : (k : ℕ) → at + 18 * k + 18 ≡ at + 18 * (k + 1)
+  next : (k : ℕ) → at + rowWidth * k + rowWidth ≡ at + rowWidth * (k + 1)
   next k = omega arith
 
   among-rows : (i k m : ℕ) → i < k → k + m ≡ n
       → keyAmong codes pairs (row i .code) (pairOf i (row i)) k m
-      ≡ (pending (row i) && any (alike (row i .proposer) (row i .counterparty) (row i .code)) (rowsFrom s (at + 18 * k) m))
+      ≡ (pending (row i) && any (alike (row i .proposer) (row i .counterparty) (row i .code)) (rowsFrom s (at + rowWidth * k) m))
   unfolding keyAmong any
-  among-rows i k zero l e = rw (rows-done s (at + 18 * k) 0 (omega arith)) (sym (and-false (pending (row i))))
+  among-rows i k zero l e = rw (rows-done s (at + rowWidth * k) 0 (omega arith)) (sym (and-false (pending (row i))))
   among-rows i k (suc m) l e =
       let h : k < n = omega arith in
-      rw (keyed .code-at k h, keyed .pair-at k h, same-key (row k) (row i) k i (λ d. omega arith) (parties bytes (at + 18 * k)) (parties bytes (at + 18 * i)), among-rows i (k + 1) m (omega arith) (omega arith), rows-step s (at + 18 * k) (suc m) m (omega arith), next k)
-      (sym (any-each (pending (row i)) (alike (row i .proposer) (row i .counterparty) (row i .code)) (row k) (rowsFrom s (at + 18 * (k + 1)) m)))
+      rw (keyed .code-at k h, keyed .pair-at k h, same-key (row k) (row i) k i (λ d. omega arith) (parties bytes (at + rowWidth * k)) (parties bytes (at + rowWidth * i)), among-rows i (k + 1) m (omega arith) (omega arith), rows-step s (at + rowWidth * k) (suc m) m (omega arith), next k)
+      (sym (any-each (pending (row i)) (alike (row i .proposer) (row i .counterparty) (row i .code)) (row k) (rowsFrom s (at + rowWidth * (k + 1)) m)))
 
-  apart-rows : (k m : ℕ) → k + m ≡ n → keysApart codes pairs k m ≡ noTwins (rowsFrom s (at + 18 * k) m)
+  apart-rows : (k m : ℕ) → k + m ≡ n → keysApart codes pairs k m ≡ noTwins (rowsFrom s (at + rowWidth * k) m)
   unfolding keysApart noTwins
-  apart-rows k zero e = rw (rows-done s (at + 18 * k) 0 (omega arith))
+  apart-rows k zero e = rw (rows-done s (at + rowWidth * k) 0 (omega arith))
   apart-rows k (suc m) e =
       let h : k < n = omega arith in
-      rw (keyed .code-at k h, keyed .pair-at k h, among-rows k (k + 1) m (omega arith) (omega arith), rows-step s (at + 18 * k) (suc m) m (omega arith), next k, apart-rows (k + 1) m (omega arith))
+      rw (keyed .code-at k h, keyed .pair-at k h, among-rows k (k + 1) m (omega arith) (omega arith), rows-step s (at + rowWidth * k) (suc m) m (omega arith), next k, apart-rows (k + 1) m (omega arith))
 
   pub keys-apart-rows : keysApart codes pairs 0 n ≡ noTwins (rowsFrom s at n)
-  keys-apart-rows = let e : at + 18 * 0 ≡ at = omega arith in rw e at (apart-rows 0 n (omega arith))
+  keys-apart-rows = let e : at + rowWidth * 0 ≡ at = omega arith in rw e at (apart-rows 0 n (omega arith))

@@ -11,26 +11,26 @@ use Rattle.rules.specs.declared.Row.{Row}
 use Rattle.rules.specs.Basics.{every, allOf, upTo}
 use Rattle.rules.specs.Limits.{mostOperators, mostAccounts, mostRows, mostSchedules}
 use Rattle.rules.specs.Registration.{bought, sold}
-use Rattle.rules.specs.Opening.{countsIn, operatorsFrom, setupLength}
-use Rattle.image.specs.Layout.{setupRoom, rowWidth, scheduleWidth, partSize, usedSize, flagAt, scheduleCountAt, schedulesAt, presentAt, savedAt, rowCountAt, rowAt, netAt}
+use Rattle.rules.specs.Opening.{countsIn, operatorsFrom, setupLength, guaranteeWidth, operatorEntry}
+use Rattle.image.specs.Layout.{setupRoom, rowWidth, scheduleWidth, partSize, usedSize, flagAt, scheduleCountAt, schedulesAt, presentAt, savedAt, rowCountAt, rowAt, netAt, netWidth}
 use Rattle.image.specs.Cells.{partAt}
 
 -- no guarantee stands in the n operators from `at` on
 unfoldable pub noneLodged : List ℕ → ℕ → ℕ → Bool
 noneLodged s at zero = true
-noneLodged s at (suc n) = zerosFrom s at 8 && noneLodged s (at + 10) n
+noneLodged s at (suc n) = zerosFrom s at guaranteeWidth && noneLodged s (at + operatorEntry) n
 
 -- the net in 4 bytes is what was bought less what was sold, in whole turns
 abbrev pub netHeld : List Row → ℕ → ℕ → ℕ → Bool
-netHeld rows a h stored = eqb ((stored + sold rows a h) % 256 ^ 4) (bought rows a h % 256 ^ 4)
+netHeld rows a h stored = eqb ((stored + sold rows a h) % 256 ^ netWidth) (bought rows a h % 256 ^ netWidth)
 
 -- so is every net of the part that begins at `at`
 unfoldable pub netsHeld : ℕ → List Row → List ℕ → ℕ → Bool
-netsHeld top rows s at = every (λ a. every (λ h. netHeld rows a h (numberAt s (at + netAt top a h) 4)) (upTo top)) (upTo mostAccounts)
+netsHeld top rows s at = every (λ a. every (λ h. netHeld rows a h (numberAt s (at + netAt top a h) netWidth)) (upTo top)) (upTo mostAccounts)
 
 abbrev pub partPlainTests : ℕ → ℕ → List ℕ → ℕ → List Bool
 partPlainTests top operators s at =
-    zerosFrom s (at + 8 * operators) (8 * mostOperators - 8 * operators)
+    zerosFrom s (at + guaranteeWidth * operators) (guaranteeWidth * mostOperators - guaranteeWidth * operators)
     ∷ zerosFrom s (at + rowAt (numberAt s (at + rowCountAt) 2)) (rowWidth * mostRows - rowWidth * numberAt s (at + rowCountAt) 2)
     ∷ netsHeld top (partAt top operators s at .rows) s at
     ∷ []

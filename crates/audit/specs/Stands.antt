@@ -11,7 +11,7 @@ use Rattle.rules.specs.declared.Row.{Row}
 use Rattle.rules.specs.Basics.{if_then_else_, any, every, allOf, within, Each}
 use Rattle.rules.specs.Limits.{mostPrice, mostGuarantee, thousand, mostHours, mostOperators, mostRows, mostSchedules, bookSize}
 use Rattle.rules.specs.Books.{Part}
-use Rattle.rules.specs.Opening.{countsIn, operatorsFrom, setupLength, setupOf, estimatesIn}
+use Rattle.rules.specs.Opening.{countsIn, operatorsFrom, setupLength, setupOf, estimatesIn, guaranteeWidth}
 use Rattle.rules.specs.Registration.{pending}
 use Rattle.image.specs.Layout.{setupRoom, rowWidth, scheduleWidth, partSize, phaseAt, flagAt, scheduleCountAt, schedulesAt, presentAt, savedAt, rowCountAt, rowsAt}
 use Rattle.image.specs.Valid.{setupOk, rowOk, scheduleOk, noTwins, marginsKept, guaranteesKept, partOk, follows}
@@ -33,9 +33,9 @@ unfoldable pub setupStands : List ℕ → Bool
 setupStands s = allOf (setupStandTests s)
 
 -- what is known of a book's bytes once its set-up stands
-pub record SetupKnown (s : List ℕ) : Type 0 where
+pub record SetupKnown (top : ℕ) (s : List ℕ) : Type 0 where
   pub size : length s ≡ bookSize
-  pub tabled : SetupTabled s
+  pub tabled : SetupTabled top s
   pub operators-high : countsIn s .operators ≤ mostOperators
   pub prices-high : Each (λ p. p .0 ≤ mostPrice) (estimatesIn s)
   pub maintenance-high : Each (λ m. m ≤ thousand) (setupOf s .maintenance)
@@ -57,7 +57,7 @@ partWith s at rows = record { guarantees = guaranteesFrom s at (countsIn s .oper
 abbrev pub guaranteesStandTests : List ℕ → ℕ → ℕ → List Bool
 guaranteesStandTests s at operators =
     every (λ g. leb (g .0) mostGuarantee) (guaranteesFrom s at operators)
-    ∷ zerosFrom s (at + 8 * operators) (8 * mostOperators - 8 * operators)
+    ∷ zerosFrom s (at + guaranteeWidth * operators) (guaranteeWidth * mostOperators - guaranteeWidth * operators)
     ∷ []
 
 unfoldable pub guaranteesStand : List ℕ → ℕ → ℕ → Bool

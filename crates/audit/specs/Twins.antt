@@ -10,14 +10,19 @@ use Rattle.rules.specs.declared.Row.{Row}
 use Rattle.rules.specs.Basics.{if_then_else_}
 use Rattle.rules.specs.Registration.{pending}
 use Rattle.image.specs.Image.{rowIn}
+use Rattle.image.specs.Layout.{rowWidth}
 
 -- the second number of the row that has i before it; the first is its code. A row that is not pending gets one that no other row has
 abbrev pub pairOf : ℕ → Row → ℕ
 pairOf i r = if pending r then r .proposer * 256 + r .counterparty else 65536 + i
 
--- one of 8,192 marks for each key: any would do, and this one is seldom the same for two keys
+-- marks that keys may have
+abbrev pub marks : ℕ
+marks = 8192
+
+-- one of the marks for each key: any would do, and this one is seldom the same for two keys
 unfoldable pub markOf : ℕ → ℕ → ℕ
-markOf code pair = (code % 4294967296 + code / 4294967296 + 257 * (pair % 4294967296)) % 4294967296 * 2654435761 / 524288 % 8192
+markOf code pair = (code % 4294967296 + code / 4294967296 + 257 * (pair % 4294967296)) % 4294967296 * 2654435761 / 524288 % marks
 
 -- of the n keys from k on, one is this key
 unfoldable pub keyAmong : List ℕ → List ℕ → ℕ → ℕ → ℕ → ℕ → Bool
@@ -32,5 +37,5 @@ keysApart codes pairs k (suc n) =
 
 -- the keys of the n rows that stand in bytes from `at` on
 pub record Keyed (s : List ℕ) (at n : ℕ) (codes pairs : List ℕ) : Type 0 where
-  pub code-at : (k : ℕ) → k < n → getD codes k 0 ≡ rowIn (take 18 (drop (at + 18 * k) s)) .code
-  pub pair-at : (k : ℕ) → k < n → getD pairs k 0 ≡ pairOf k (rowIn (take 18 (drop (at + 18 * k) s)))
+  pub code-at : (k : ℕ) → k < n → getD codes k 0 ≡ rowIn (take rowWidth (drop (at + rowWidth * k) s)) .code
+  pub pair-at : (k : ℕ) → k < n → getD pairs k 0 ≡ pairOf k (rowIn (take rowWidth (drop (at + rowWidth * k) s)))

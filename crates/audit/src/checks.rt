@@ -8,8 +8,10 @@ ghost use Rattle.rules.specs.Basics.{any, every};
 ghost use Rattle.rules.specs.Limits.{mostGuarantee};
 ghost use Rattle.rules.specs.Books.{Setup, accountCount, pointCount, periods};
 ghost use Rattle.rules.specs.Registration.{pending};
+ghost use Rattle.rules.specs.Opening.{guaranteeWidth};
 ghost use Rattle.image.specs.Valid.{rowOk, scheduleOk};
 ghost use Rattle.image.specs.Cells.{rowsFrom, schedulesFrom, guaranteesFrom};
+ghost use Rattle.image.specs.Layout.{rowWidth, scheduleWidth};
 use image::layout::GUARANTEE_WIDTH;
 use image::layout::ROW_WIDTH;
 use image::layout::SCHEDULE_WIDTH;
@@ -49,7 +51,7 @@ pub fn schedule_ok(x: Schedule, points: u8, hours: u8) -> bool
 
 // Each of the `n` rows from `at` on is in range.
 pub fn rows_ok(s: &[u8], at: usize, n: usize, accounts: u8, hours: u8) -> bool
-    requires { ⌜ at + 18 * n ≤ length (now s) ⌝ }
+    requires { ⌜ at + rowWidth * n ≤ length (now s) ⌝ }
     ensures { λ b. ⌜ ((u : Setup) → accountCount u ≡ accounts → periods u ≡ hours → b ≡ every (rowOk u) (rowsFrom (now (s .entry)) at n)) ⌝ }
 {
     let mut ok = true;
@@ -65,7 +67,7 @@ pub fn rows_ok(s: &[u8], at: usize, n: usize, accounts: u8, hours: u8) -> bool
 
 // Each of the `n` schedules from `at` on is in range.
 pub fn schedules_ok(s: &[u8], at: usize, n: usize, points: u8, hours: u8) -> bool
-    requires { ⌜ at + 11 * n ≤ length (now s) ⌝ }
+    requires { ⌜ at + scheduleWidth * n ≤ length (now s) ⌝ }
     ensures { λ b. ⌜ ((u : Setup) → pointCount u ≡ points → periods u ≡ hours → b ≡ every (scheduleOk u) (schedulesFrom (now (s .entry)) at n)) ⌝ }
 {
     let mut ok = true;
@@ -81,7 +83,7 @@ pub fn schedules_ok(s: &[u8], at: usize, n: usize, points: u8, hours: u8) -> boo
 
 // None of the `n` rows from `at` on is pending.
 pub fn none_pending(s: &[u8], at: usize, n: usize) -> bool
-    requires { ⌜ at + 18 * n ≤ length (now s) ⌝ }
+    requires { ⌜ at + rowWidth * n ≤ length (now s) ⌝ }
     ensures { λ b. ⌜ b ≡ not (any pending (rowsFrom (now (s .entry)) at n)) ⌝ }
 {
     let mut ok = true;
@@ -98,7 +100,7 @@ pub fn none_pending(s: &[u8], at: usize, n: usize) -> bool
 
 // None of the `n` guarantees from `at` on is too great.
 pub fn guarantees_ok(s: &[u8], at: usize, n: usize) -> bool
-    requires { ⌜ at + 8 * n ≤ length (now s) ⌝ }
+    requires { ⌜ at + guaranteeWidth * n ≤ length (now s) ⌝ }
     ensures { λ b. ⌜ b ≡ every (λ g. leb (g .0) mostGuarantee) (guaranteesFrom (now (s .entry)) at n) ⌝ }
 {
     let mut ok = true;

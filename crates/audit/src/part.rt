@@ -5,12 +5,13 @@ ghost use Prim.Native.Nat.{_+_, _*_, _≤_};
 ghost use lib.ListN.{length};
 ghost use Rattle.rules.specs.declared.Row.{Row};
 ghost use Rattle.rules.specs.Basics.{Each};
-ghost use Rattle.rules.specs.Limits.{mostGuarantee, mostHours};
+ghost use Rattle.rules.specs.Limits.{mostGuarantee, mostHours, mostRows, mostOperators};
 ghost use Rattle.rules.specs.Opening.{countsIn, setupOf};
 ghost use Rattle.rules.specs.Registration.{covered};
 ghost use Rattle.image.specs.Valid.{guaranteesKept};
 ghost use Rattle.image.specs.Cells.{rowsFrom, guaranteesFrom};
-ghost use Rattle.image.specs.Tables.{Tabled};
+ghost use Rattle.image.specs.Tables.{Tabled, tableSize};
+ghost use Rattle.image.specs.Layout.{partSize, rowCountAt, rowsAt, netsAt, mostPeriods};
 ghost use Rattle.tables.specs.Sums.{SumsOf};
 ghost use Rattle.audit.specs.Stands.{SetupKnown, partWith, guaranteesStand, rowsStand, sumsStand, partStands};
 use crate::checks::guarantees_ok;
@@ -19,10 +20,10 @@ use crate::twins::no_twins;
 use image::layout::GUARANTEE_WIDTH;
 use image::layout::MOST_ROWS;
 use image::layout::NETS_IN;
-use image::layout::PERIODS;
 use image::layout::ROW_COUNT_IN;
 use image::layout::ROW_WIDTH;
 use image::layout::ROWS_IN;
+use rules::limits::PERIODS;
 use setup::counts::counts;
 use setup::entries::operator;
 use tables::exposure::exposure_of;
@@ -36,7 +37,7 @@ use wire::regions::all_zero;
 
 // None of the guarantees is too great, and zeros stand behind them.
 fn guarantees_stand(book: &[u8], at: usize, operators: usize) -> bool
-    requires { ⌜ (at + 128 ≤ length (now book)) × (operators ≤ 16) ⌝ }
+    requires { ⌜ (at + rowCountAt ≤ length (now book)) × (operators ≤ mostOperators) ⌝ }
     ensures { λ r. ⌜ r ≡ guaranteesStand (now (book .entry)) at operators ⌝ }
 {
     let used = GUARANTEE_WIDTH * operators;
@@ -45,7 +46,7 @@ fn guarantees_stand(book: &[u8], at: usize, operators: usize) -> bool
 
 // The rows are in range, no two pending ones are alike, and zeros stand behind them.
 fn rows_stand(book: &[u8], at: usize, n: usize) -> bool
-    requires { ⌜ SetupKnown (now book) × (at + 4738 ≤ length (now book)) × (n ≤ 256) ⌝ }
+    requires { ⌜ SetupKnown mostHours (now book) × (at + netsAt ≤ length (now book)) × (n ≤ mostRows) ⌝ }
     ensures { λ r. ⌜ r ≡ rowsStand (now (book .entry)) at n ⌝ }
 {
     let c = counts(book);
@@ -57,25 +58,25 @@ fn rows_stand(book: &[u8], at: usize, n: usize) -> bool
 }
 
 // The exposure of the operator is at most what is available of its guarantee in the part at `at`.
-fn operator_covered(book: &[u8], at: usize, table: &[u32], number: u8) -> bool
-    requires { ⌜ SetupKnown (now book) × (at + 128 ≤ length (now book)) × Each (λ g. g .0 ≤ mostGuarantee) (guaranteesFrom (now book) at (countsIn (now book) .operators)) × (length (now table) ≡ 3200) × (1 ≤ number) × (number ≤ countsIn (now book) .operators) ⌝ }
-    ensures { λ r. ⌜ ((rows : List Row) → SumsOf mostHours rows (now (table .entry)) → r ≡ covered (setupOf (now (book .entry))) (partWith (now (book .entry)) at rows) number) ⌝ }
+fn operator_covered(book: &[u8], at: usize, table: &[u32], top: usize, number: u8) -> bool
+    requires { ⌜ SetupKnown top (now book) × (at + rowCountAt ≤ length (now book)) × Each (λ g. g .0 ≤ mostGuarantee) (guaranteesFrom (now book) at (countsIn (now book) .operators)) × (tableSize top ≤ length (now table)) × (top ≤ mostPeriods) × (1 ≤ number) × (number ≤ countsIn (now book) .operators) ⌝ }
+    ensures { λ r. ⌜ ((rows : List Row) → SumsOf top rows (now (table .entry)) → r ≡ covered (setupOf (now (book .entry))) (partWith (now (book .entry)) at rows) number) ⌝ }
 {
-    let exposed = exposure_of(book, table, number);
+    let exposed = exposure_of(book, table, top, number);
     let owner = operator(book, number);
     let guarantee = Cents(get_u64(book, at + GUARANTEE_WIDTH * (number as usize - 1)));
     exposed.at_most(guarantee.available(owner.maintenance))
 }
 
 // Whether that is so of every operator.
-fn guarantees_cover(book: &[u8], at: usize, table: &[u32]) -> bool
-    requires { ⌜ SetupKnown (now book) × (at + 128 ≤ length (now book)) × Each (λ g. g .0 ≤ mostGuarantee) (guaranteesFrom (now book) at (countsIn (now book) .operators)) × (length (now table) ≡ 3200) ⌝ }
-    ensures { λ r. ⌜ ((rows : List Row) → SumsOf mostHours rows (now (table .entry)) → r ≡ guaranteesKept (setupOf (now (book .entry))) (partWith (now (book .entry)) at rows)) ⌝ }
+fn guarantees_cover(book: &[u8], at: usize, table: &[u32], top: usize) -> bool
+    requires { ⌜ SetupKnown top (now book) × (at + rowCountAt ≤ length (now book)) × Each (λ g. g .0 ≤ mostGuarantee) (guaranteesFrom (now book) at (countsIn (now book) .operators)) × (tableSize top ≤ length (now table)) × (top ≤ mostPeriods) ⌝ }
+    ensures { λ r. ⌜ ((rows : List Row) → SumsOf top rows (now (table .entry)) → r ≡ guaranteesKept (setupOf (now (book .entry))) (partWith (now (book .entry)) at rows)) ⌝ }
 {
     let n = counts(book);
     let mut number: u8 = 1;
     while number <= n.operators {
-        if operator_covered(book, at, table, number) {
+        if operator_covered(book, at, table, top, number) {
             number = number + 1;
         } else {
             return false;
@@ -86,18 +87,18 @@ fn guarantees_cover(book: &[u8], at: usize, table: &[u32]) -> bool
 
 // What follows of the sums of the rows: the nets are theirs, margins are kept, and every exposure is covered.
 fn sums_stand(book: &[u8], at: usize, n: usize) -> bool
-    requires { ⌜ SetupKnown (now book) × (at + 7938 ≤ length (now book)) × (n ≤ 256) × Each (Tabled mostHours) (rowsFrom (now book) (at + 130) n) × Each (λ g. g .0 ≤ mostGuarantee) (guaranteesFrom (now book) at (countsIn (now book) .operators)) ⌝ }
-    ensures { λ r. ⌜ r ≡ sumsStand (now (book .entry)) at (rowsFrom (now (book .entry)) (at + 130) n) ⌝ }
+    requires { ⌜ SetupKnown mostHours (now book) × (at + partSize mostHours ≤ length (now book)) × (n ≤ mostRows) × Each (Tabled mostHours) (rowsFrom (now book) (at + rowsAt) n) × Each (λ g. g .0 ≤ mostGuarantee) (guaranteesFrom (now book) at (countsIn (now book) .operators)) ⌝ }
+    ensures { λ r. ⌜ r ≡ sumsStand (now (book .entry)) at (rowsFrom (now (book .entry)) (at + rowsAt) n) ⌝ }
 {
     let table = sums_of(book, at + ROWS_IN, n);
     nets_kept(book, at + NETS_IN, &table, PERIODS)
-        & margins_kept(book, &table)
-        & guarantees_cover(book, at, &table)
+        & margins_kept(book, &table, PERIODS)
+        & guarantees_cover(book, at, &table, PERIODS)
 }
 
 // The part that begins at `at` is valid, and nothing else stands in its bytes.
 pub fn part_stands(book: &[u8], at: usize) -> bool
-    requires { ⌜ SetupKnown (now book) × (at + 7938 ≤ length (now book)) ⌝ }
+    requires { ⌜ SetupKnown mostHours (now book) × (at + partSize mostHours ≤ length (now book)) ⌝ }
     ensures { λ r. ⌜ r ≡ partStands (now (book .entry)) at ⌝ }
 {
     let c = counts(book);

@@ -7,6 +7,7 @@ ghost use lib.Dec.{eqb};
 ghost use Rattle.rules.specs.Registration.{pending};
 ghost use Rattle.image.specs.Valid.{sameTerms, follows};
 ghost use Rattle.image.specs.Cells.{rowsFrom};
+ghost use Rattle.image.specs.Layout.{rowWidth};
 use image::layout::ROW_WIDTH;
 use image::rows::row_at;
 use rules::Row;
@@ -33,7 +34,7 @@ fn row_follows(x: Row, y: Row) -> bool
 
 // The `m` rows saved from `from` on are the first of the `n` present ones from `at` on, but for what became of pending ones.
 pub fn rows_follow(s: &[u8], from: usize, m: usize, at: usize, n: usize) -> bool
-    requires { ⌜ (from + 18 * m ≤ length (now s)) × (at + 18 * n ≤ length (now s)) ⌝ }
+    requires { ⌜ (from + rowWidth * m ≤ length (now s)) × (at + rowWidth * n ≤ length (now s)) ⌝ }
     ensures { λ b. ⌜ b ≡ follows (rowsFrom (now (s .entry)) from m) (rowsFrom (now (s .entry)) at n) ⌝ }
 {
     if n < m {

@@ -5,7 +5,9 @@ ghost use Prim.Native.Nat.{_+_, _-_, _*_, _≤_, _<_};
 ghost use lib.ListN.{length, getD};
 ghost use Rattle.image.specs.Valid.{noTwins};
 ghost use Rattle.image.specs.Cells.{rowsFrom};
-ghost use Rattle.audit.specs.Twins.{pairOf, markOf, keyAmong, keysApart, Keyed};
+ghost use Rattle.image.specs.Layout.{rowWidth};
+ghost use Rattle.rules.specs.Limits.{mostRows};
+ghost use Rattle.audit.specs.Twins.{pairOf, markOf, keyAmong, keysApart, Keyed, marks};
 use image::layout::MOST_ROWS;
 use image::layout::ROW_WIDTH;
 use image::layout::TURN;
@@ -20,11 +22,11 @@ const MARKS: usize = 8_192;
 const SPREAD: u64 = 2_654_435_761;
 
 // The bits below the mark.
-const BELOW_MARK: u64 = 524_288;
+const BELOW_MARK: u64 = TURN / (MARKS as u64);
 
 // The second number of a row's key. A row that is not pending gets one that no other row has.
 fn pair_of(r: Row, i: usize) -> u64
-    requires { ⌜ i < 256 ⌝ }
+    requires { ⌜ i < mostRows ⌝ }
     ensures { λ p. ⌜ p ≡ pairOf i r ⌝ }
 {
     if r.status == 1 {
@@ -36,7 +38,7 @@ fn pair_of(r: Row, i: usize) -> u64
 
 // Fills in the keys of the `n` rows from `at` on.
 fn put_keys(codes: &mut [u64], pairs: &mut [u64], s: &[u8], at: usize, n: usize)
-    requires { ⌜ (length (now codes) ≡ 256) × (length (now pairs) ≡ 256) × (n ≤ 256) × (at + 18 * n ≤ length (now s)) ⌝ }
+    requires { ⌜ (length (now codes) ≡ mostRows) × (length (now pairs) ≡ mostRows) × (n ≤ mostRows) × (at + rowWidth * n ≤ length (now s)) ⌝ }
     ensures { λ _. ⌜ Keyed (now (s .entry)) at n (now (codes .exit)) (now (pairs .exit)) ⌝ }
 {
     let mut i = 0;
@@ -50,7 +52,7 @@ fn put_keys(codes: &mut [u64], pairs: &mut [u64], s: &[u8], at: usize, n: usize)
 
 // The mark of a key. Two keys seldom share one.
 fn mark_of(code: u64, pair: u64) -> usize
-    ensures { λ r. ⌜ (r ≡ markOf code pair) × (r < 8192) ⌝ }
+    ensures { λ r. ⌜ (r ≡ markOf code pair) × (r < marks) ⌝ }
 {
     let word = (code % TURN + code / TURN + 257 * (pair % TURN)) % TURN;
     (word * SPREAD / BELOW_MARK) as usize % MARKS
@@ -58,7 +60,7 @@ fn mark_of(code: u64, pair: u64) -> usize
 
 // One of the keys after place `i` is the key at `i`.
 fn key_after(codes: &[u64], pairs: &[u64], i: usize, n: usize) -> bool
-    requires { ⌜ (length (now codes) ≡ 256) × (length (now pairs) ≡ 256) × (i < n) × (n ≤ 256) ⌝ }
+    requires { ⌜ (length (now codes) ≡ mostRows) × (length (now pairs) ≡ mostRows) × (i < n) × (n ≤ mostRows) ⌝ }
     ensures { λ b. ⌜ b ≡ keyAmong (now (codes .entry)) (now (pairs .entry)) (getD (now (codes .entry)) i 0) (getD (now (pairs .entry)) i 0) (i + 1) (n - (i + 1)) ⌝ }
 {
     let code = codes[i];
@@ -74,7 +76,7 @@ fn key_after(codes: &[u64], pairs: &[u64], i: usize, n: usize) -> bool
 
 // The same, where what was `seen` at the key's mark is 0 only if there is none: then nothing is searched.
 fn key_again(codes: &[u64], pairs: &[u64], i: usize, n: usize, seen: u8) -> bool
-    requires { ⌜ (length (now codes) ≡ 256) × (length (now pairs) ≡ 256) × (i < n) × (n ≤ 256) × (seen ≡ 0 → keyAmong (now codes) (now pairs) (getD (now codes) i 0) (getD (now pairs) i 0) (i + 1) (n - (i + 1)) ≡ false) ⌝ }
+    requires { ⌜ (length (now codes) ≡ mostRows) × (length (now pairs) ≡ mostRows) × (i < n) × (n ≤ mostRows) × (seen ≡ 0 → keyAmong (now codes) (now pairs) (getD (now codes) i 0) (getD (now pairs) i 0) (i + 1) (n - (i + 1)) ≡ false) ⌝ }
     ensures { λ b. ⌜ b ≡ keyAmong (now (codes .entry)) (now (pairs .entry)) (getD (now (codes .entry)) i 0) (getD (now (pairs .entry)) i 0) (i + 1) (n - (i + 1)) ⌝ }
 {
     if seen == 0 {
@@ -85,7 +87,7 @@ fn key_again(codes: &[u64], pairs: &[u64], i: usize, n: usize, seen: u8) -> bool
 
 // No two of the `n` keys are the same: from the last to the first, each leaves a 1 at its mark.
 fn keys_apart(codes: &[u64], pairs: &[u64], seen: &mut [u8], n: usize) -> bool
-    requires { ⌜ (length (now codes) ≡ 256) × (length (now pairs) ≡ 256) × (length (now seen) ≡ 8192) × (n ≤ 256) ⌝ }
+    requires { ⌜ (length (now codes) ≡ mostRows) × (length (now pairs) ≡ mostRows) × (length (now seen) ≡ marks) × (n ≤ mostRows) ⌝ }
     ensures { λ b. ⌜ b ≡ keysApart (now (codes .entry)) (now (pairs .entry)) 0 n ⌝ }
 {
     let mut left = n;
@@ -103,7 +105,7 @@ fn keys_apart(codes: &[u64], pairs: &[u64], seen: &mut [u8], n: usize) -> bool
 
 // No two pending ones of the `n` rows from `at` on are alike.
 pub fn no_twins(s: &[u8], at: usize, n: usize) -> bool
-    requires { ⌜ (n ≤ 256) × (at + 18 * n ≤ length (now s)) ⌝ }
+    requires { ⌜ (n ≤ mostRows) × (at + rowWidth * n ≤ length (now s)) ⌝ }
     ensures { λ b. ⌜ b ≡ noTwins (rowsFrom (now (s .entry)) at n) ⌝ }
 {
     let mut codes = [0u64; MOST_ROWS];

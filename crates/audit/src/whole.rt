@@ -4,8 +4,8 @@ ghost use mathlib.Core.Bool.{not};
 ghost use Prim.Native.Nat.{_+_, _*_, _≤_};
 ghost use lib.ListN.{length};
 ghost use Rattle.rules.specs.Basics.{isSome};
-ghost use Rattle.rules.specs.Limits.{mostRows, bookSize};
-ghost use Rattle.rules.specs.Opening.{setupRefusal};
+ghost use Rattle.rules.specs.Limits.{mostRows, bookSize, mostHours};
+ghost use Rattle.rules.specs.Opening.{setupRefusal, operatorEntry};
 ghost use Rattle.image.specs.Layout.{presentAt};
 ghost use Rattle.image.specs.Valid.{isBook};
 ghost use Rattle.audit.specs.Plain.{noneLodged};
@@ -29,6 +29,7 @@ use image::layout::SETUP_ROOM;
 use image::layout::SPARE_AT;
 use rules::Checked;
 use rules::limits::MOST_SCHEDULES;
+use setup::counts::OPERATOR_ENTRY;
 use setup::counts::counts;
 use setup::counts::length_of;
 use setup::counts::operators_from;
@@ -48,7 +49,7 @@ fn is_accepted(setup: &[u8]) -> bool
 
 // No guarantee stands in the `n` operators from `at` on.
 fn none_lodged(s: &[u8], at: usize, n: usize) -> bool
-    requires { ⌜ at + 10 * n ≤ length (now s) ⌝ }
+    requires { ⌜ at + operatorEntry * n ≤ length (now s) ⌝ }
     ensures { λ r. ⌜ r ≡ noneLodged (now (s .entry)) at n ⌝ }
 {
     let mut ok = true;
@@ -56,7 +57,7 @@ fn none_lodged(s: &[u8], at: usize, n: usize) -> bool
     let mut left = n;
     while 0 < left {
         ok = ok & all_zero(s, k, 8);
-        k = k + 10;
+        k = k + OPERATOR_ENTRY;
         left = left - 1;
     }
     ok
@@ -78,7 +79,7 @@ fn setup_stands(book: &[u8]) -> bool
 
 // There are no more schedules than may stand, each is in range, and zeros stand behind them.
 fn schedules_stand(book: &[u8]) -> bool
-    requires { ⌜ SetupKnown (now book) ⌝ }
+    requires { ⌜ SetupKnown mostHours (now book) ⌝ }
     ensures { λ r. ⌜ r ≡ schedulesStand (now (book .entry)) ⌝ }
 {
     let c = counts(book);
@@ -114,7 +115,7 @@ fn phase_stands(book: &[u8]) -> bool
 
 // Without a batch the saved part is zero; with one it stands, and the present rows follow from its own.
 fn saved_stands(book: &[u8]) -> bool
-    requires { ⌜ SetupKnown (now book) × (rowCount (now book) presentAt ≤ mostRows) ⌝ }
+    requires { ⌜ SetupKnown mostHours (now book) × (rowCount (now book) presentAt ≤ mostRows) ⌝ }
     ensures { λ r. ⌜ r ≡ savedStands (now (book .entry)) ⌝ }
 {
     if book[FLAG_AT] == 0 {

@@ -18,7 +18,7 @@ use Rattle.rules.specs.declared.Row.{Row}
 use Rattle.rules.specs.Basics.{nth, Each}
 use Rattle.rules.specs.Limits.{mostPrice, mostRows, mostHours, mostAccounts, bookSize}
 use Rattle.rules.specs.Books.{Setup, Book, noAccount, noRow, accountAt, operatorOf, countsOf, operatorCount, accountCount, periods, marginsOf}
-use Rattle.rules.specs.Opening.{countsIn, accountsIn, accountIn, accountsFrom, estimatesIn, setupOf, operatorsOf}
+use Rattle.rules.specs.Opening.{countsIn, accountsIn, accountIn, accountsFrom, estimatesIn, setupOf, operatorsOf, accountEntry}
 use Rattle.rules.proofs.Basics.Searches.{each-map, each-nth, each-at}
 use Rattle.rules.proofs.Setups.SetupEntries.{nth-entry, account-at, counts-of-setup}
 use Rattle.image.specs.Layout.{setupRoom, rowWidth, partWidths, partSize, presentAt, rowCountAt, rowsAt}
@@ -80,7 +80,7 @@ module _ (s : List ℕ) (h : isBook s ≡ true) where
   pub setup-in : bookIn s .setup ≡ setupOf s
   setup-in = first-in ∙ setup-in-front s sound-first
 
-  pub setup-tabled : SetupTabled s
+  pub setup-tabled : SetupTabled mostHours s
   setup-tabled =
       let k = book-is-sound s h .setup-sound in
       record {
@@ -119,12 +119,12 @@ module _ (s : List ℕ) (h : isBook s ≡ true) where
 
   -- the operator of an account stands in the account's first byte
   pub owner-stands : (a from : ℕ) → from ≡ accountsFrom (countsIn s) → 1 ≤ a → a ≤ accountCount (bookIn s .setup)
-      → numberAt s (from + 10 * (a - 1)) 1 ≡ operatorOf (bookIn s .setup) a
+      → numberAt s (from + accountEntry * (a - 1)) 1 ≡ operatorOf (bookIn s .setup) a
   unfolding setupOf accountsIn
   owner-stands a from e low high =
-      let place : ℕ = accountsFrom (countsIn s) + 10 * (a - 1) in
+      let place : ℕ = accountsFrom (countsIn s) + accountEntry * (a - 1) in
       let inside = ap (λ (m : Counts). m .accounts) counts-in in
-      let entry = nth-entry 10 accountIn (countsIn s .accounts) a (accountsFrom (countsIn s)) s noAccount low (omega arith) ∙ account-at s place in
+      let entry = nth-entry accountEntry accountIn (countsIn s .accounts) a (accountsFrom (countsIn s)) s noAccount low (omega arith) ∙ account-at s place in
       rw e (sym (ap (λ (u : Setup). operatorOf u a) setup-in ∙ ap (λ (x : Account). x .operator) entry))
 
   -- the row of a number is sound, and the table has room for it

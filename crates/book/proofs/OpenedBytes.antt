@@ -24,7 +24,7 @@ use Rattle.rules.specs.declared.Operator.{Operator}
 use Rattle.rules.specs.Basics.{total, counting, entries, joined}
 use Rattle.rules.specs.Limits.{mostOperators, mostAccounts, mostRows, mostSchedules}
 use Rattle.rules.specs.Books.{Setup, operatorCount, accountCount, pointCount, countsOf}
-use Rattle.rules.specs.Opening.{countsIn, operatorsFrom, setupLength, operatorIn, operatorsIn, setupOf, guaranteesOf, operatorBytes, accountBytes, pointBytes, operatorsOf, setupBytes, setupRefusal, opened}
+use Rattle.rules.specs.Opening.{countsIn, operatorsFrom, setupLength, operatorIn, operatorsIn, setupOf, guaranteesOf, operatorBytes, accountBytes, pointBytes, operatorsOf, setupBytes, setupRefusal, opened, operatorEntry, guaranteeWidth}
 use Rattle.rules.specs.Registration.{moved}
 use Rattle.rules.proofs.Setups.SetupEntries.{operator-at, counts-of-setup}
 use Rattle.rules.proofs.Setups.SetupShape.{accepted-shape}
@@ -54,32 +54,32 @@ splice-next d at next x y e h =
     (simp append-assoc)
 
 -- a guarantee as it stands in a set-up
-guarantee-bytes : (s : List ℕ) (from : ℕ) → Bytes s → from + 10 ≤ length s → le 8 (operatorIn (take 10 (drop from s)) .guarantee .0) ≡ take 8 (drop from s)
+guarantee-bytes : (s : List ℕ) (from : ℕ) → Bytes s → from + operatorEntry ≤ length s → le guaranteeWidth (operatorIn (take operatorEntry (drop from s)) .guarantee .0) ≡ take guaranteeWidth (drop from s)
 unfolding numberAt
 guarantee-bytes s from b l =
-    rw (operator-at s from) (le-number-wide (bytes-take 8 (bytes-drop from b)) 8 (length-take-le 8 (drop from s) (omega (arith, length-drop from s))))
+    rw (operator-at s from) (le-number-wide (bytes-take guaranteeWidth (bytes-drop from b)) 8 (length-take-le guaranteeWidth (drop from s) (omega (arith, length-drop from s))))
 
 -- guarantees side by side
 abbrev pub guaranteesBytes : List Cents → List ℕ
-guaranteesBytes gs = flat (map (λ g. le 8 (g .0)) gs)
+guaranteesBytes gs = flat (map (λ g. le guaranteeWidth (g .0)) gs)
 
-pub length-guarantees-bytes : (gs : List Cents) → length (guaranteesBytes gs) ≡ 8 * length gs
-length-guarantees-bytes gs = length-uniform 8 (map (λ g. le 8 (g .0)) gs) (uniform-map 8 (λ g. le 8 (g .0)) gs length-guarantee) ∙ rw length-map
+pub length-guarantees-bytes : (gs : List Cents) → length (guaranteesBytes gs) ≡ guaranteeWidth * length gs
+length-guarantees-bytes gs = length-uniform 8 (map (λ g. le guaranteeWidth (g .0)) gs) (uniform-map 8 (λ g. le guaranteeWidth (g .0)) gs length-guarantee) ∙ rw length-map
 
-copied : (n : ℕ) (d : List ℕ) (at : ℕ) (s : List ℕ) (from : ℕ) → Bytes s → from + 10 * n ≤ length s → at + 8 * n ≤ length d
-    → lodged d at s from n ≡ splice d at (guaranteesBytes (map (λ x. x .guarantee) (entries 10 operatorIn n (drop from s))))
+copied : (n : ℕ) (d : List ℕ) (at : ℕ) (s : List ℕ) (from : ℕ) → Bytes s → from + operatorEntry * n ≤ length s → at + guaranteeWidth * n ≤ length d
+    → lodged d at s from n ≡ splice d at (guaranteesBytes (map (λ x. x .guarantee) (entries operatorEntry operatorIn n (drop from s))))
 unfolding lodged entries flat
 copied zero d at s from b l h = sym (splice-take-drop d at [] ∙ rw (add-zero at) (take-append-drop at d))
 copied (suc n) d at s from b l h =
-    let x : List ℕ = take 8 (drop from s) in
-    let lx : length x ≡ 8 = length-take-le 8 (drop from s) (omega (arith, length-drop from s)) in
+    let x : List ℕ = take guaranteeWidth (drop from s) in
+    let lx : length x ≡ guaranteeWidth = length-take-le guaranteeWidth (drop from s) (omega (arith, length-drop from s)) in
     let ls : length (splice d at x) ≡ length d = length-splice d at x (omega arith) in
-    copied n (splice d at x) (at + 8) s (from + 10) b (omega arith) (omega arith)
-    ∙ splice-next d at (at + 8) x _ (omega arith) (omega arith)
-    ∙ rw (guarantee-bytes s from b (omega arith), drop-drop 10 from s)
+    copied n (splice d at x) (at + guaranteeWidth) s (from + operatorEntry) b (omega arith) (omega arith)
+    ∙ splice-next d at (at + guaranteeWidth) x _ (omega arith) (omega arith)
+    ∙ rw (guarantee-bytes s from b (omega arith), drop-drop operatorEntry from s)
 
 -- the guarantees of a set-up copied one by one are copied
-pub lodged-guarantees : (d : List ℕ) (at : ℕ) (s : List ℕ) → Bytes s → setupLength (countsIn s) ≤ length s → at + 8 * countsIn s .operators ≤ length d
+pub lodged-guarantees : (d : List ℕ) (at : ℕ) (s : List ℕ) → Bytes s → setupLength (countsIn s) ≤ length s → at + guaranteeWidth * countsIn s .operators ≤ length d
     → lodged d at s (operatorsFrom (countsIn s)) (countsIn s .operators) ≡ splice d at (guaranteesBytes (guaranteesOf s))
 unfolding guaranteesOf operatorsIn
 lodged-guarantees d at s b l h = copied (countsIn s .operators) d at s (operatorsFrom (countsIn s)) b (omega arith) h
@@ -95,8 +95,8 @@ operators-emptied [] (m ∷ ms) h = absurd (omega arith)
 operators-emptied (g ∷ gs) [] h = absurd (omega arith)
 operators-emptied (g ∷ gs) (m ∷ ms) h = rw (operators-emptied gs ms (omega arith))
 
-operator-emptied : (x : Operator) → splice (operatorBytes x) 0 (zeros 8) ≡ operatorBytes (emptied x)
-operator-emptied x = rw (← (le-zero 8)) (write-number (8 ∷ 2 ∷ []) (x .guarantee .0 ∷ x .maintenance ∷ []) 0 0 0 refl (omega arith) refl)
+operator-emptied : (x : Operator) → splice (operatorBytes x) 0 (zeros guaranteeWidth) ≡ operatorBytes (emptied x)
+operator-emptied x = rw (← (le-zero guaranteeWidth)) (write-number (8 ∷ 2 ∷ []) (x .guarantee .0 ∷ x .maintenance ∷ []) 0 0 0 refl (omega arith) refl)
 
 emptied-entries : (os : List Operator) (a rest : List ℕ) (at : ℕ) → at ≡ length a
     → unlodged (a ++ (joined operatorBytes os ++ rest)) at (length os) ≡ a ++ (joined operatorBytes (map emptied os) ++ rest)
@@ -105,13 +105,13 @@ emptied-entries [] a rest at e = refl
 emptied-entries (x ∷ os) a rest at e =
     let y : List ℕ = operatorBytes (emptied x) in
     let t : List ℕ = joined operatorBytes os ++ rest in
-    let one : splice (a ++ ((operatorBytes x ++ joined operatorBytes os) ++ rest)) at (zeros 8) ≡ (a ++ y) ++ t =
-    ap (λ (l : List ℕ). splice (a ++ l) at (zeros 8)) (append-assoc (operatorBytes x) (joined operatorBytes os) rest)
-    ∙ splice-right a (operatorBytes x ++ t) at 0 (zeros 8) (omega arith)
-    ∙ ap (λ (l : List ℕ). a ++ l) (splice-left (operatorBytes x) t 0 (zeros 8) (omega (arith, length-operator-bytes x, length-zeros 8)))
+    let one : splice (a ++ ((operatorBytes x ++ joined operatorBytes os) ++ rest)) at (zeros guaranteeWidth) ≡ (a ++ y) ++ t =
+    ap (λ (l : List ℕ). splice (a ++ l) at (zeros guaranteeWidth)) (append-assoc (operatorBytes x) (joined operatorBytes os) rest)
+    ∙ splice-right a (operatorBytes x ++ t) at 0 (zeros guaranteeWidth) (omega arith)
+    ∙ ap (λ (l : List ℕ). a ++ l) (splice-left (operatorBytes x) t 0 (zeros guaranteeWidth) (omega (arith, length-operator-bytes x, length-zeros guaranteeWidth)))
     ∙ rw (operator-emptied x) (sym (append-assoc a y t)) in
-    ap (λ (l : List ℕ). unlodged l (at + 10) (length os)) one
-    ∙ emptied-entries os (a ++ y) rest (at + 10) (omega (arith, length-append a y, length-operator-bytes (emptied x)))
+    ap (λ (l : List ℕ). unlodged l (at + operatorEntry) (length os)) one
+    ∙ emptied-entries os (a ++ y) rest (at + operatorEntry) (omega (arith, length-append a y, length-operator-bytes (emptied x)))
     ∙ simp append-assoc
 
 -- the guarantees in the bytes of a set-up made zero one by one leave the stored set-up
@@ -191,8 +191,8 @@ part-fresh top gs h =
     let sz : partSize top ≡ startOf ws (length ws) = omega arith in
     let a0 : zeros (partSize top) ≡ flat (map zeros ws) = ap zeros sz ∙ sym (flat-zeros ws) in
     let a1 = write-part ws (map zeros ws) (wide-zeros ws) 0 0 0 x (omega arith) (omega arith) (omega arith) in
-    let a2 : splice (zeros (8 * mostOperators)) 0 x ≡ slots 8 mostOperators (λ (g : Cents). le 8 (g .0)) gs =
-    splice-zeros (8 * mostOperators) x (omega arith) ∙ rw lx (sym (slots-split 8 mostOperators (λ (g : Cents). le 8 (g .0)) length-guarantee gs)) in
+    let a2 : splice (zeros (guaranteeWidth * mostOperators)) 0 x ≡ slots guaranteeWidth mostOperators (λ (g : Cents). le guaranteeWidth (g .0)) gs =
+    splice-zeros (guaranteeWidth * mostOperators) x (omega arith) ∙ rw lx (sym (slots-split guaranteeWidth mostOperators (λ (g : Cents). le guaranteeWidth (g .0)) length-guarantee gs)) in
     rw (a0, a1, a2, le-zero 2, slots-none rowWidth mostRows rowBytes length-row, nets-empty top)
 
 -- zeros, the set-up with no guarantees, phase 1, and the guarantees in the present part

@@ -19,7 +19,7 @@ use Rattle.rules.specs.declared.Refusal.{Refusal}
 use Rattle.rules.specs.declared.Refusal.the-variants.{NotABook}
 use Rattle.rules.specs.Limits.{bookSize, mostOperators}
 use Rattle.rules.specs.Verdicts.{firstToApply, accepted, refused}
-use Rattle.rules.specs.Opening.{countsIn, operatorsFrom, setupRefusal, openRefusal, openOutcome, opened}
+use Rattle.rules.specs.Opening.{countsIn, operatorsFrom, setupRefusal, openRefusal, openOutcome, opened, guaranteeWidth, operatorEntry}
 use Rattle.rules.proofs.Checks.Clearing.{clear, clear-applies}
 use Rattle.rules.proofs.Setups.SetupShape.{accepted-shape}
 use Rattle.image.specs.Layout.{setupRoom, phaseAt, presentAt}
@@ -50,9 +50,9 @@ module _ (s : List ℕ) (at : ℕ) where
   unlodged-done zero h = refl
   unlodged-done (suc n) h = absurd (omega arith)
 
-  pub unlodged-step : (n m : ℕ) → n ≡ m + 1 → unlodged s at n ≡ unlodged (splice s at (le 8 0)) (at + 10) m
+  pub unlodged-step : (n m : ℕ) → n ≡ m + 1 → unlodged s at n ≡ unlodged (splice s at (le guaranteeWidth 0)) (at + operatorEntry) m
   unfolding unlodged
-  unlodged-step n m e = rw (e, add-one m, le-zero 8)
+  unlodged-step n m e = rw (e, add-one m, le-zero guaranteeWidth)
 
 -- ---- the guarantees put into the book
 
@@ -62,7 +62,7 @@ module _ (d : List ℕ) (at : ℕ) (s : List ℕ) (from : ℕ) where
   lodged-done zero h = refl
   lodged-done (suc n) h = absurd (omega arith)
 
-  pub lodged-step : (n m w : ℕ) → n ≡ m + 1 → w ≡ 8 → lodged d at s from n ≡ lodged (splice d at (take w (drop from s))) (at + 8) s (from + 10) m
+  pub lodged-step : (n m w : ℕ) → n ≡ m + 1 → w ≡ guaranteeWidth → lodged d at s from n ≡ lodged (splice d at (take w (drop from s))) (at + guaranteeWidth) s (from + operatorEntry) m
   unfolding lodged
   lodged-step n m w e k = rw (e, add-one m, k)
 
@@ -71,7 +71,7 @@ module _ (d : List ℕ) (at : ℕ) (s : List ℕ) (from : ℕ) where
 -- the counts and the operators stand in it, and it fits its room
 pub record Openable (n : Counts) (s : List ℕ) : Type 0 where
   pub long : 5 ≤ length s
-  pub whole : operatorsFrom n + 10 * n .operators ≤ length s
+  pub whole : operatorsFrom n + operatorEntry * n .operators ≤ length s
   pub short : length s ≤ setupRoom
   pub few : n .operators ≤ mostOperators
 

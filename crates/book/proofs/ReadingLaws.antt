@@ -31,7 +31,7 @@ use Rattle.rules.specs.Readings.{position, netChecks, netReadingOf, netReading,
 use Rattle.rules.proofs.Basics.Tests.{and-both, within-true}
 use Rattle.rules.proofs.Basics.Searches.{each-at}
 use Rattle.rules.proofs.Checks.Clearing.{clear-applies}
-use Rattle.image.specs.Layout.{presentAt, netAt}
+use Rattle.image.specs.Layout.{presentAt, netAt, netWidth}
 use Rattle.image.specs.Valid.{isBook, bookIn}
 use Rattle.image.specs.Tables.{InTable}
 use Rattle.image.proofs.Writing.Sizes.{fits}
@@ -44,7 +44,7 @@ use Rattle.book.proofs.BookRows.{counts-in, setup-in, values-in}
 -- ---- a stored net
 
 -- 4 bytes of a net that is nearer to zero than half a turn say its position
-pub stored-position : (b s v : ℕ) → v ≡ (b + (256 ^ 4 - 1) * s) % 256 ^ 4 → s ≤ b + mostEnergy → b ≤ s + mostEnergy
+pub stored-position : (b s v : ℕ) → v ≡ (b + (256 ^ netWidth - 1) * s) % 256 ^ netWidth → s ≤ b + mostEnergy → b ≤ s + mostEnergy
     → position (record { bought = kwh b; sold = kwh s }) ≡ (if ltb v (2 ^ 31) then Long (kwh v) else Short (kwh (2 ^ 32 - v)))
 unfolding position
 stored-position b s v e low high = go (ltb b s) refl
@@ -111,7 +111,7 @@ module _ (s : List ℕ) (h : isBook s ≡ true) (a t : ℕ) (i : (1 ≤ a) × (a
 
     -- where 4 bytes hold it
     pub net-stored : (v : ℕ) → v ≡ numberAt s (presentAt + netAt mostHours a t) 4
-        → v ≡ (bought (bookIn s .part .rows) a t + (256 ^ 4 - 1) * sold (bookIn s .part .rows) a t) % 256 ^ 4
+        → v ≡ (bought (bookIn s .part .rows) a t + (256 ^ netWidth - 1) * sold (bookIn s .part .rows) a t) % 256 ^ netWidth
     net-stored v q =
         let k = net-has-place in
         let at : ℕ = presentAt + netAt mostHours a t in

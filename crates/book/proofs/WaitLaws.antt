@@ -20,7 +20,7 @@ use Rattle.image.specs.Valid.{isBook, bookIn}
 use Rattle.image.specs.Tables.{cellOf, InTable, Tabled, Raised}
 use Rattle.image.proofs.Tables.SumLaws.{raised-cell, raised-most, zero-at}
 use Rattle.image.proofs.Reading.RowBytes.{row-at}
-use Rattle.book.specs.Waits.{waitCell, Waits, WaitsOf, noWaits, WaitTaken}
+use Rattle.book.specs.Waits.{waitCell, Waits, WaitsOf, noWaits, WaitTaken, waitsSize}
 use Rattle.book.proofs.StateLaws.{book-is-sound, numbered-row-stands}
 
 -- ---- one row
@@ -83,14 +83,14 @@ waiting-done : (side a h : ℕ) → waiting side [] a h ≡ 0
 unfolding waiting total
 waiting-done side a h = refl
 
-pub length-no-waits : (table : List ℕ) → table ≡ noWaits → length table ≡ 50
+pub length-no-waits : (table : List ℕ) → table ≡ noWaits → length table ≡ waitsSize
 unfolding noWaits
-length-no-waits table e = rw e (length-replicate {A = ℕ} 50 0)
+length-no-waits table e = rw e (length-replicate {A = ℕ} waitsSize 0)
 
 pub waiting-first : (a : ℕ) (rows : List Row) (table : List ℕ) (most : ℕ) → table ≡ noWaits → Waiting a rows rows table most
 unfolding noWaits
 waiting-first a rows table most e =
-    rw e (record { sums = λ side h i. omega (arith, zero-at 50 (waitCell side h)); bounded = λ k. omega (arith, zero-at 50 k) })
+    rw e (record { sums = λ side h i. omega (arith, zero-at waitsSize (waitCell side h)); bounded = λ k. omega (arith, zero-at waitsSize k) })
 
 pub waiting-next : (a : ℕ) (rows : List Row) (n : ℕ) (before after : List ℕ) → 1 ≤ n → n ≤ length rows → WaitTaken before after (nth rows n noRow) a
     → Waiting a rows (drop (n - 1) rows) before ((n - 1) * mostEnergy) → Waiting a rows (drop (n + 1 - 1) rows) after ((n + 1 - 1) * mostEnergy)
@@ -105,7 +105,7 @@ waiting-next a rows (suc i) before after low high w f =
       bounded = λ k. omega (arith, w .grown k, left .bounded k);
     })
 
-pub waiting-last : (a : ℕ) (rows : List Row) (k : ℕ) (table : List ℕ) → k ≡ length rows → length table ≡ 50
+pub waiting-last : (a : ℕ) (rows : List Row) (k : ℕ) (table : List ℕ) → k ≡ length rows → length table ≡ waitsSize
     → Waiting a rows (drop k rows) table (k * mostEnergy) → WaitsOf rows a table
 waiting-last a rows k table e n f =
     let all : Waiting a rows [] table (length rows * mostEnergy) = rw (e, drop-length rows) at f in

@@ -26,7 +26,7 @@ use Rattle.rules.proofs.Basics.Differences.{lt-or-ge}
 use Rattle.image.specs.Valid.{isBook, bookIn}
 use Rattle.image.proofs.Sound.Soundness.{SoundRow}
 use Rattle.image.proofs.Tables.MoneyLaws.{price-most}
-use Rattle.book.specs.Worth.{shortWorth, spanPrice, saleWorth, PriceSums, Takeable, netWith}
+use Rattle.book.specs.Worth.{shortWorth, spanPrice, saleWorth, PriceSums, Takeable, netWith, sumsSize}
 use Rattle.book.proofs.BookRows.{counts-in, setup-in, estimates-in, values-in}
 use Rattle.book.proofs.StateLaws.{book-is-sound}
 use Rattle.book.proofs.WorthLaws.{exposure-split}
@@ -54,7 +54,7 @@ prices u n = total (λ h. estimateAt u h .0) (upTo n)
 
 -- the entries below n are such sums
 pub record SummedTo (u : Setup) (sums : List ℕ) (n : ℕ) : Type 0 where
-  pub whole : length sums ≡ 26
+  pub whole : length sums ≡ sumsSize
   pub sum : (k : ℕ) → k < n → getD sums k 0 ≡ prices u k
 
 prices-next : (u : Setup) (n : ℕ) → prices u (suc n) ≡ prices u n + estimateAt u (suc n) .0
@@ -66,7 +66,7 @@ unfolding total counting
 prices-most u cheap zero = omega arith
 prices-most u cheap (suc n) = omega (arith, prices-next u n, price-most cheap (suc n), prices-most u cheap n)
 
-pub summed-first : (u : Setup) (sums : List ℕ) → length sums ≡ 26 → SummedTo u (set sums 0 0) 1
+pub summed-first : (u : Setup) (sums : List ℕ) → length sums ≡ sumsSize → SummedTo u (set sums 0 0) 1
 unfolding total counting
 summed-first u [] e = absurd (omega arith)
 summed-first u (x ∷ xs) e = record { whole = e; sum = go }
@@ -75,7 +75,7 @@ summed-first u (x ∷ xs) e = record { whole = e; sum = go }
     go zero l = refl
     go (suc k) l = absurd (omega arith)
 
-pub summed-next : (u : Setup) (sums : List ℕ) (h v : ℕ) → 1 ≤ h → h ≤ 25 → v ≡ getD sums (h - 1) 0 + estimateAt u h .0 → SummedTo u sums h
+pub summed-next : (u : Setup) (sums : List ℕ) (h v : ℕ) → 1 ≤ h → h ≤ mostHours → v ≡ getD sums (h - 1) 0 + estimateAt u h .0 → SummedTo u sums h
     → SummedTo u (set sums h v) (h + 1)
 summed-next u sums zero v low high e t = absurd (omega arith)
 summed-next u sums (suc i) v low high e t =

@@ -4,13 +4,14 @@ use mathlib.Core.List.{List}
 use lib.ListN.{take, drop}
 use Rattle.wire.specs.Regions.{splice}
 use Rattle.wire.specs.Parts.{zeros}
+use Rattle.rules.specs.Opening.{guaranteeWidth, operatorEntry}
 
 -- the guarantees of n operators, 10 bytes each from `at` on, made zero
 unfoldable pub unlodged : List ℕ → ℕ → ℕ → List ℕ
 unlodged s at zero = s
-unlodged s at (suc n) = unlodged (splice s at (zeros 8)) (at + 10) n
+unlodged s at (suc n) = unlodged (splice s at (zeros guaranteeWidth)) (at + operatorEntry) n
 
 -- the guarantees of n operators, in the set-up `s` from `from` on, put into `d` from `at` on
 unfoldable pub lodged : List ℕ → ℕ → List ℕ → ℕ → ℕ → List ℕ
 lodged d at s from zero = d
-lodged d at s from (suc n) = lodged (splice d at (take 8 (drop from s))) (at + 8) s (from + 10) n
+lodged d at s from (suc n) = lodged (splice d at (take guaranteeWidth (drop from s))) (at + guaranteeWidth) s (from + operatorEntry) n

@@ -10,6 +10,10 @@ use Rattle.rules.specs.Limits.{mostHours, mostEnergy}
 use Rattle.rules.specs.Registration.{waiting, netOf, pendingSales, pendingPurchases}
 use Rattle.book.specs.Netted.{netted}
 
+-- the cells of a table: an hour each for sales, and for purchases
+abbrev pub waitsSize : ℕ
+waitsSize = 2 * mostHours
+
 -- the cell of an hour: side 1 are sales, side 2 purchases
 abbrev pub waitCell : ℕ → ℕ → ℕ
 waitCell side h = mostHours * (side - 1) + (h - 1)
@@ -23,7 +27,7 @@ pub record Waits (side h : ℕ) : Type 0 where
 
 -- the table holds what waits on the account by these rows, and no cell is above what they hold together
 pub record WaitsOf (rows : List Row) (a : ℕ) (table : List ℕ) : Type 0 where
-  pub whole : length table ≡ 2 * mostHours
+  pub whole : length table ≡ waitsSize
   pub waits-at : (side h : ℕ) → Waits side h → getD table (waitCell side h) 0 ≡ waiting side rows a h
   pub bounded : (k : ℕ) → getD table k 0 ≤ mostEnergy * length rows
 
@@ -31,7 +35,7 @@ pub record WaitsOf (rows : List Row) (a : ℕ) (table : List ℕ) : Type 0 where
 
 -- the table of no rows
 unfoldable pub noWaits : List ℕ
-noWaits = replicate (2 * mostHours) 0
+noWaits = replicate waitsSize 0
 
 -- one row more: each cell has its share of what waits on the account, and no cell grows by more than the most energy
 pub record WaitTaken (before after : List ℕ) (r : Row) (a : ℕ) : Type 0 where

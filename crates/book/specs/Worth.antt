@@ -1,5 +1,5 @@
 -- Exposure in two parts (document 01, "Registration"): what lies below zero of the net positions, and the pending sales row by row.
-use Prim.Native.Nat.{ℕ, _-_, _*_, _≤_}
+use Prim.Native.Nat.{ℕ, _+_, _-_, _*_, _≤_}
 use mathlib.Core.Path.{_≡_}
 use mathlib.Core.List.{List, [], _∷_}
 use mathlib.Core.Bool.{true, _&&_}
@@ -9,7 +9,7 @@ use Rattle.units.specs.Units.{kwh}
 use Rattle.rules.specs.declared.Row.{Row}
 use Rattle.rules.specs.declared.Net.{Net}
 use Rattle.rules.specs.Basics.{if_then_else_, total, upTo, Each}
-use Rattle.rules.specs.Limits.{mostEnergy}
+use Rattle.rules.specs.Limits.{mostEnergy, mostHours}
 use Rattle.rules.specs.Books.{Setup, estimateAt, operatorOf, accountCount, periods}
 use Rattle.rules.specs.Registration.{pending, covers, accountHour, takes, takesAll, ofOperator}
 use Rattle.book.specs.declared.worth.Added.{Added}
@@ -49,9 +49,13 @@ shortTaken net trade a h =
 unfoldable pub spanPrice : Setup → Row → ℕ
 spanPrice u r = total (λ h. if covers h r then estimateAt u h .0 else 0) (upTo (periods u))
 
--- entry k of a list of 26 is the sum of the estimated prices of the hours 1 to k
+-- the hours that a day can have, and none
+abbrev pub sumsSize : ℕ
+sumsSize = mostHours + 1
+
+-- entry k of the list is the sum of the estimated prices of the hours 1 to k
 pub record PriceSums (u : Setup) (sums : List ℕ) : Type 0 where
-  pub whole : length sums ≡ 26
+  pub whole : length sums ≡ sumsSize
   pub sum : (k : ℕ) → k ≤ periods u → getD sums k 0 ≡ total (λ h. estimateAt u h .0) (upTo k)
 
 -- what a row weighs on the operator as a pending sale of one of its accounts; nothing where it is none

@@ -6,17 +6,19 @@ ghost use lib.ListN.{length};
 ghost use Rattle.wire.specs.Regions.{splice};
 ghost use Rattle.wire.specs.Parts.{zeros};
 ghost use Rattle.rules.specs.Limits.{bookSize};
-ghost use Rattle.rules.specs.Opening.{setupRefusal, opened, openOutcome};
+ghost use Rattle.rules.specs.Opening.{setupRefusal, opened, openOutcome, guaranteeWidth, operatorEntry};
 ghost use Rattle.image.specs.Valid.{bookBytes};
 ghost use Rattle.book.specs.Fresh.{unlodged, lodged};
 ghost use Rattle.book.specs.Doors.{openBytes};
 use image::layout::BOOK_SIZE;
+use image::layout::GUARANTEE_WIDTH;
 use image::layout::PHASE_AT;
 use image::layout::PRESENT_AT;
 use rules::Checked;
 use rules::Outcome;
 use rules::Refusal;
 use rules::Verdict;
+use setup::counts::OPERATOR_ENTRY;
 use setup::counts::counts;
 use setup::counts::operators_from;
 use setup::fault::fault;
@@ -37,21 +39,21 @@ fn clear(s: &mut [u8])
 
 // Makes the guarantees of the `n` operators from `from` on zero.
 fn unlodge(s: &mut [u8], from: usize, n: u8)
-    requires { ⌜ from + 10 * n ≤ length (now s) ⌝ }
+    requires { ⌜ from + operatorEntry * n ≤ length (now s) ⌝ }
     ensures { λ _. ⌜ now (s .exit) ≡ unlodged (now (s .entry)) from n ⌝ }
 {
     let mut at = from;
     let mut standing = n;
     while 0 < standing {
         put_u64(s, at, 0);
-        at = at + 10;
+        at = at + OPERATOR_ENTRY;
         standing = standing - 1;
     }
 }
 
 // Puts the guarantees of the `n` operators from `from` on in the set-up into `book`, from `to` on.
 fn lodge(book: &mut [u8], to: usize, setup: &[u8], from: usize, n: u8)
-    requires { ⌜ (from + 10 * n ≤ length (now setup)) × (to + 8 * n ≤ length (now book)) ⌝ }
+    requires { ⌜ (from + operatorEntry * n ≤ length (now setup)) × (to + guaranteeWidth * n ≤ length (now book)) ⌝ }
     ensures { λ _. ⌜ now (book .exit) ≡ lodged (now (book .entry)) to (now (setup .entry)) from n ⌝ }
 {
     let mut at = to;
@@ -60,15 +62,15 @@ fn lodge(book: &mut [u8], to: usize, setup: &[u8], from: usize, n: u8)
     while 0 < left {
         let end = next + 8;
         copy_in(book, at, &setup[next..end]);
-        at = at + 8;
-        next = next + 10;
+        at = at + GUARANTEE_WIDTH;
+        next = next + OPERATOR_ENTRY;
         left = left - 1;
     }
 }
 
 // Leaves in `book` the set-up with no guarantees, and zeros past it.
 fn put_setup(book: &mut [u8], setup: &[u8], from: usize, n: u8)
-    requires { ⌜ (from + 10 * n ≤ length (now setup)) × (length (now setup) ≤ length (now book)) ⌝ }
+    requires { ⌜ (from + operatorEntry * n ≤ length (now setup)) × (length (now setup) ≤ length (now book)) ⌝ }
     ensures { λ _. ⌜ now (book .exit) ≡ unlodged (splice (zeros (length (now (book .entry)))) 0 (now (setup .entry))) from n ⌝ }
 {
     clear(book);

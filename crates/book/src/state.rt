@@ -12,6 +12,7 @@ ghost use Rattle.image.specs.Valid.{isBook, bookIn};
 ghost use Rattle.image.specs.Tables.{InTable};
 use image::layout::ACCOUNT_NETS;
 use image::layout::FLAG_AT;
+use image::layout::NET_WIDTH;
 use image::layout::NETS_IN;
 use image::layout::PHASE_AT;
 use image::layout::PRESENT_AT;
@@ -95,7 +96,7 @@ pub fn net_place(account: u8, hour: u8) -> usize
     requires { ⌜ InTable mostHours account hour ⌝ }
     ensures { λ r. ⌜ r ≡ presentAt + netAt mostHours account hour ⌝ }
 {
-    let cell = ACCOUNT_NETS * (account as usize - 1) + 4 * (hour as usize - 1);
+    let cell = ACCOUNT_NETS * (account as usize - 1) + NET_WIDTH * (hour as usize - 1);
     PRESENT_AT + (NETS_IN + cell)
 }
 

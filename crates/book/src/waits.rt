@@ -9,7 +9,7 @@ ghost use Rattle.rules.specs.Books.{noRow, accountCount, periods};
 ghost use Rattle.rules.specs.Registration.{alike};
 ghost use Rattle.image.specs.Valid.{isBook, bookIn};
 ghost use Rattle.image.specs.Tables.{Tabled, Room, Raised};
-ghost use Rattle.book.specs.Waits.{waitCell, Waits, WaitsOf, noWaits, WaitTaken, nettedHour};
+ghost use Rattle.book.specs.Waits.{waitCell, Waits, WaitsOf, noWaits, WaitTaken, nettedHour, waitsSize};
 use crate::positions::net_at;
 use crate::state::PENDING;
 use crate::state::row_count;
@@ -19,25 +19,24 @@ use image::rows::STATUS_IN;
 use image::rows::row_at;
 use rules::AccountHour;
 use rules::Row;
+use rules::limits::PERIODS;
 use units::Kwh;
 use wire::numbers::get_u8;
 
 // The cells of what waits: an hour each for sales, and for purchases.
-pub const WAITS_SIZE: usize = 50;
-
-const SIDE_CELLS: usize = 25;
+pub const WAITS_SIZE: usize = 2 * PERIODS;
 
 // The cell of an hour on a side.
 fn wait_cell(side: u8, hour: u8) -> usize
     requires { ⌜ Waits side hour ⌝ }
     ensures { λ r. ⌜ r ≡ waitCell side hour ⌝ }
 {
-    SIDE_CELLS * (side as usize - 1) + (hour as usize - 1)
+    PERIODS * (side as usize - 1) + (hour as usize - 1)
 }
 
 // Adds the row's quantity to the cells of its hours, on its side.
 fn take_waiting(table: &mut [u32], r: Row)
-    requires { ⌜ (length (now table) ≡ 50) × Tabled mostHours r × (1 ≤ r .side) × (r .side ≤ 2) × Room (now table) 0 (r .quantity .0) ⌝ }
+    requires { ⌜ (length (now table) ≡ waitsSize) × Tabled mostHours r × (1 ≤ r .side) × (r .side ≤ 2) × Room (now table) 0 (r .quantity .0) ⌝ }
     ensures { λ _. ⌜ Raised (now (table .entry)) (now (table .exit)) (waitCell (r .side) (r .first)) (r .last - r .first + 1) (r .quantity .0) ⌝ }
 {
     let at = wait_cell(r.side, r.first);
@@ -56,7 +55,7 @@ fn take_own(
     counterparty: u8,
     code: u64,
 ) -> bool
-    requires { ⌜ (length (now table) ≡ 50) × Room (now table) 0 mostEnergy × (isBook (now book) ≡ true) × (1 ≤ number) × (number ≤ length (bookIn (now book) .part .rows)) ⌝ }
+    requires { ⌜ (length (now table) ≡ waitsSize) × Room (now table) 0 mostEnergy × (isBook (now book) ≡ true) × (1 ≤ number) × (number ≤ length (bookIn (now book) .part .rows)) ⌝ }
     ensures waits { λ _. ⌜ WaitTaken (now (table .entry)) (now (table .exit)) (nth (bookIn (now (book .entry)) .part .rows) number noRow) account ⌝ }
     ensures tells { λ r. ⌜ r ≡ alike account counterparty code (nth (bookIn (now (book .entry)) .part .rows) number noRow) ⌝ }
 {
@@ -98,7 +97,7 @@ pub fn fill_waits(table: &mut [u32], book: &[u8], account: u8, counterparty: u8,
 
 // What waits on the account in an hour, on a side.
 fn wait_at(waits: &[u32], side: u8, hour: u8) -> u32
-    requires { ⌜ (length (now waits) ≡ 50) × Waits side hour ⌝ }
+    requires { ⌜ (length (now waits) ≡ waitsSize) × Waits side hour ⌝ }
     ensures { λ r. ⌜ r ≡ getD (now (waits .entry)) (waitCell side hour) 0 ⌝ }
 {
     let k = wait_cell(side, hour);

@@ -9,7 +9,7 @@ ghost use Rattle.rules.specs.Books.{noRow, estimateAt, operatorOf, accountCount
 ghost use Rattle.rules.specs.Opening.{countsIn, accountsFrom};
 ghost use Rattle.rules.specs.Registration.{exposureWith};
 ghost use Rattle.image.specs.Valid.{isBook, bookIn};
-ghost use Rattle.book.specs.Worth.{addedRows, Slight, shortTaken, shortWorth, saleWorth, PriceSums, Takeable, accountShort, shortShare, netWith};
+ghost use Rattle.book.specs.Worth.{addedRows, Slight, shortTaken, shortWorth, saleWorth, PriceSums, Takeable, accountShort, shortShare, netWith, sumsSize};
 use crate::positions::net_at;
 use crate::state::row_count;
 use crate::state::row_place;
@@ -18,6 +18,8 @@ use rules::AccountHour;
 use rules::Net;
 use rules::Row;
 use rules::hours::short;
+use rules::limits::PERIODS;
+use setup::counts::ACCOUNT_ENTRY;
 use setup::counts::accounts_from;
 use setup::counts::counts;
 use setup::entries::estimate;
@@ -33,17 +35,14 @@ pub enum Added {
 }
 
 // The hours that a day can have, and none.
-const PRICE_SUMS: usize = 26;
+const PRICE_SUMS: usize = PERIODS + 1;
 
-// The bytes of an account in the set-up, of which the first is its operator.
-const ACCOUNT_WIDTH: usize = 10;
-
-// The operator of an account, of a book whose accounts begin at `from`.
+// The operator of an account, of a book whose accounts begin at `from`: the first byte of its entry.
 fn owner(book: &[u8], from: usize, number: u8) -> u8
     requires { ⌜ (isBook (now book) ≡ true) × (from ≡ accountsFrom (countsIn (now book))) × (1 ≤ number) × (number ≤ accountCount (bookIn (now book) .setup)) ⌝ }
     ensures { λ r. ⌜ r ≡ operatorOf (bookIn (now (book .entry)) .setup) number ⌝ }
 {
-    get_u8(book, from + ACCOUNT_WIDTH * (number as usize - 1))
+    get_u8(book, from + ACCOUNT_ENTRY * (number as usize - 1))
 }
 
 // ---- prices
@@ -58,7 +57,7 @@ fn price(book: &[u8], hour: u8) -> CentsPerMwh
 
 // Puts the sums of the estimated prices, hour by hour.
 fn fill_prices(sums: &mut [u64], book: &[u8])
-    requires { ⌜ (length (now sums) ≡ 26) × (isBook (now book) ≡ true) ⌝ }
+    requires { ⌜ (length (now sums) ≡ sumsSize) × (isBook (now book) ≡ true) ⌝ }
     ensures { λ _. ⌜ PriceSums (bookIn (now (book .entry)) .setup) (now (sums .exit)) ⌝ }
 {
     let n = counts(book);
@@ -85,7 +84,7 @@ fn price_sums(book: &[u8]) -> [u64; PRICE_SUMS]
 
 // The quantity at the estimated prices of its hours together.
 fn span_worth(sums: &[u64], first: u8, last: u8, quantity: Kwh) -> MilliCents
-    requires { ⌜ (length (now sums) ≡ 26) × (1 ≤ first) × (first ≤ last) × (last ≤ 25) × (getD (now sums) (first - 1) 0 ≤ getD (now sums) last 0) × (getD (now sums) last 0 ≤ mostHours * mostPrice) × (quantity .0 ≤ mostEnergy) ⌝ }
+    requires { ⌜ (length (now sums) ≡ sumsSize) × (1 ≤ first) × (first ≤ last) × (last ≤ mostHours) × (getD (now sums) (first - 1) 0 ≤ getD (now sums) last 0) × (getD (now sums) last 0 ≤ mostHours * mostPrice) × (quantity .0 ≤ mostEnergy) ⌝ }
     ensures { λ m. ⌜ m .0 ≡ quantity .0 * (getD (now (sums .entry)) last 0 - getD (now (sums .entry)) (first - 1) 0) ⌝ }
 {
     let end = sums[last as usize];

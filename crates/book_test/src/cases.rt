@@ -17,7 +17,7 @@ use wire::numbers::get_u16;
 use wire::regions::copy_in;
 
 // The bytes of the room that are judged and read.
-const BOOK_SIZE: u16 = 49_152;
+const BOOK_SIZE: u16 = image::layout::BOOK_SIZE as u16;
 
 // Opens a book in the first bytes of the room, as many as asked for.
 fn show_open(body: &[u8], room: &mut [u8]) {

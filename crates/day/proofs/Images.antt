@@ -1,6 +1,5 @@
 -- Calls on the bytes of a valid plain book are the calls on that book: they answer the same and leave the bytes of the next book. So
 -- lists of calls are too (`Carries`).
-use Prim.Native.Nat.{ℕ}
 use mathlib.Core.Path.{_≡_}
 use mathlib.Core.Bool.{true}
 use native.Mathlib.Omega.{arith}

@@ -142,9 +142,6 @@ in-range-ready b q low high code e =
 pub kind-numbered : (s : List ℕ) (q : Request) {n m : ℕ} {o : Outcome} {t : List ℕ} → n ≡ m → KindAnswered (kindOf m) s q o t → KindAnswered (kindOf n) s q o t
 kind-numbered s q e x = rw e x
 
-pub ready-numbered : (b : Book) (q : Request) {n m : ℕ} → n ≡ m → Ready (kindOf n) b q → Ready (kindOf m) b q
-ready-numbered b q e r = rw e at r
-
 -- ---- every call whose record says the request
 
 -- it is answered o and leaves the bytes t, a book

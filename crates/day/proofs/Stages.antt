@@ -9,7 +9,7 @@ use Rattle.rules.specs.declared.Refusal.{Refusal}
 use Rattle.rules.specs.Limits.{mostHours, bookSize}
 use Rattle.rules.specs.Verdicts.{Check, applies, firstToApply, outcomeOf}
 use Rattle.rules.specs.Books.{Book}
-use Rattle.rules.specs.Requests.{Kind, register, confirm, withdraw, guarantee, openBatch, undo, keep, closeGate, schedule, settle, readChecks, unlessRefused}
+use Rattle.rules.specs.Requests.{Kind, settle, readChecks, unlessRefused}
 use Rattle.rules.specs.Calls.{Call, carried, refusedOn, requestIn, kindIn, next, given, _∈_, inputChecks, stateChecks, checks, refusal, settles, answer, step}
 use Rattle.image.specs.Valid.{isBook, bookBytes, bookIn}
 use Rattle.image.proofs.Round.{book-is-image}

@@ -1,7 +1,7 @@
 -- Demand 3 whole. From an accepted opening the book's bytes are those of a valid plain book after every call, and the ledger agrees with
 -- that book; each clause is a law of such a book, said on its bytes.
 use Prim.Native.Nat.{ℕ}
-use mathlib.Core.Path.{_≡_, refl, sym, ap, _∙_, fun-ext}
+use mathlib.Core.Path.{_≡_, sym, ap, _∙_, fun-ext}
 use mathlib.Core.List.{List, [], _∷_, _++_, map}
 use mathlib.Core.Option.{none}
 use mathlib.Core.Bool.{true}

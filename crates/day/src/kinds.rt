@@ -20,10 +20,18 @@ use registration::proposal::register;
 use registration::withdrawal::withdraw;
 use rules::Checked;
 use rules::Outcome;
+use rules::Refusal;
 use rules::Request;
 use rules::Verdict;
 use settlement::scheduling::schedule;
 use setup::counts::counts;
+
+// What a number that is no kind is refused for.
+fn no_kind() -> Outcome {
+    Outcome {
+        verdict: Verdict::Refused(Refusal::UnknownKind),
+    }
+}
 
 // Kinds 5 to 8, which have no field beside the kind.
 fn batch_or_gate(book: &mut [u8], kind: u8) -> Outcome
@@ -37,7 +45,9 @@ fn batch_or_gate(book: &mut [u8], kind: u8) -> Outcome
         5 => open_batch(book),
         6 => undo(book),
         7 => keep(book),
-        _ => close_gate(book),
+        8 => close_gate(book),
+        // No other kind comes here.
+        _ => no_kind(),
     }
 }
 
@@ -56,7 +66,9 @@ fn by_kind(book: &mut [u8], request: Request) -> Outcome
         3 => withdraw(book, request),
         4 => guarantee(book, request),
         5..=8 => batch_or_gate(book, kind),
-        _ => schedule(book, request),
+        9 => schedule(book, request),
+        // No other kind comes here.
+        _ => no_kind(),
     }
 }
 

@@ -18,7 +18,7 @@ use test_lines::verdict;
 use wire::numbers::get_u16;
 use wire::regions::copy_in;
 
-pub const BOOK_SIZE: isize = 49_152;
+pub const BOOK_SIZE: isize = image::layout::BOOK_SIZE as isize;
 
 // What stands in each byte of an output buffer before a call.
 const UNWRITTEN: u8 = 0xAA;

@@ -22,6 +22,7 @@ use Rattle.rules.specs.declared.Schedule.{Schedule}
 use Rattle.rules.specs.Basics.{Each, nil, cons}
 use Rattle.rules.specs.Limits.{mostOperators, mostRows, mostSchedules, mostGuarantee}
 use Rattle.rules.specs.Books.{Setup, Part, Book, operatorCount}
+use Rattle.rules.specs.Opening.{guaranteeWidth}
 use Rattle.rules.proofs.Basics.Tests.{and-both}
 use Rattle.rules.proofs.Basics.Searches.{each-map}
 use Rattle.image.specs.Layout.{rowWidths, rowWidth, scheduleWidths, scheduleWidth, partWidths, usedSize, bookWidths}
@@ -59,11 +60,11 @@ pub schedule-again : (c : List ℕ) → Bytes c → length c ≡ scheduleWidth �
 unfolding scheduleBytes scheduleIn
 schedule-again c b l = pack-numbers scheduleWidths b l
 
-pub guarantee-back : (g : Cents) → g .0 ≤ mostGuarantee → cents (number (le 8 (g .0))) ≡ g
-guarantee-back g h = rw (number-le 8 (g .0) (omega arith))
+pub guarantee-back : (g : Cents) → g .0 ≤ mostGuarantee → cents (number (le guaranteeWidth (g .0))) ≡ g
+guarantee-back g h = rw (number-le guaranteeWidth (g .0) (omega arith))
 
-pub guarantee-again : (c : List ℕ) → Bytes c → length c ≡ 8 → le 8 (cents (number c) .0) ≡ c
-guarantee-again c b l = le-number-wide b 8 l
+pub guarantee-again : (c : List ℕ) → Bytes c → length c ≡ guaranteeWidth → le guaranteeWidth (cents (number c) .0) ≡ c
+guarantee-again c b l = le-number-wide b guaranteeWidth l
 
 -- ---- a part
 
@@ -78,7 +79,7 @@ module _ (top : ℕ) (u : Setup) (s : SoundSetup u) where
       let f = part-fits-of u p (s .operators-high) k in
       let c = cut-flat (partWidths top) (partSections top p) (wide-part top p f) in
       let n : operatorCount u ≡ length (p .guarantees) = sym (k .guarantees-all) in
-      let g = unslots 8 mostOperators (λ (x : Cents). le 8 (x .0)) length-guarantee (λ x. cents (number x)) (p .guarantees) (map-same (each-map guarantee-back (k .guarantees-high))) in
+      let g = unslots guaranteeWidth mostOperators (λ (x : Cents). le guaranteeWidth (x .0)) length-guarantee (λ x. cents (number x)) (p .guarantees) (map-same (each-map guarantee-back (k .guarantees-high))) in
       let m : number (le 2 (length (p .rows))) ≡ length (p .rows) = number-le 2 _ (omega (arith, k .rows-high)) in
       let r = unslots rowWidth mostRows rowBytes length-row rowIn (p .rows) (map-same (each-map (row-back u s) (k .rows-sound))) in
       rw (c, n, m, g, r)

@@ -9,6 +9,7 @@ use Rattle.units.specs.declared.Cents.{Cents}
 use Rattle.rules.specs.declared.Row.{Row}
 use Rattle.rules.specs.declared.Schedule.{Schedule}
 use Rattle.rules.specs.Books.{Part}
+use Rattle.rules.specs.Opening.{guaranteeWidth}
 use Rattle.image.specs.Layout.{rowWidth, scheduleWidth, partSize}
 use Rattle.image.specs.Image.{rowIn, scheduleIn, partIn}
 
@@ -22,7 +23,7 @@ schedulesFrom s at n = map scheduleIn (chunks scheduleWidth n (drop at s))
 
 -- the n guarantees that stand in bytes from `at` on
 unfoldable pub guaranteesFrom : List ℕ → ℕ → ℕ → List Cents
-guaranteesFrom s at n = map (λ x. cents (number x)) (chunks 8 n (drop at s))
+guaranteesFrom s at n = map (λ x. cents (number x)) (chunks guaranteeWidth n (drop at s))
 
 -- the part that begins at `at`
 abbrev pub partAt : ℕ → ℕ → List ℕ → ℕ → Part

@@ -1,20 +1,19 @@
 -- The image of a plain book in bytes (document 01, "Opening"), and the plain book that bytes say.
-use Prim.Native.Nat.{ℕ, zero, suc, _+_, _-_, _*_}
-use mathlib.Core.List.{List, [], _∷_, _++_, map}
+use Prim.Native.Nat.{ℕ, zero, suc, _-_}
+use mathlib.Core.List.{List, [], _∷_, map}
 use mathlib.Core.Option.{Option, none, some}
 use lib.ListN.{length, getD, replicate}
 use Rattle.wire.specs.Numbers.{number, numberAt, le, signed}
 use Rattle.wire.specs.Parts.{zeros, flat, cut, pack, slots, chunks, padded}
 use Rattle.units.specs.Units.{kwh, cents, centsPerMwh}
-use Rattle.units.specs.declared.Cents.{Cents}
 use Rattle.rules.specs.declared.Row.{Row}
 use Rattle.rules.specs.declared.Schedule.{Schedule}
 use Rattle.rules.specs.Basics.{upTo}
 use Rattle.rules.specs.Limits.{mostOperators, mostAccounts, mostRows, mostSchedules}
 use Rattle.rules.specs.Books.{Setup, Part, Book, operatorCount}
-use Rattle.rules.specs.Opening.{setupBytes, setupOf}
+use Rattle.rules.specs.Opening.{setupBytes, setupOf, guaranteeWidth}
 use Rattle.rules.specs.Registration.{netOf, figure}
-use Rattle.image.specs.Layout.{setupRoom, rowWidths, rowWidth, scheduleWidths, scheduleWidth, partWidths, partSize, usedSize, bookWidths}
+use Rattle.image.specs.Layout.{setupRoom, rowWidths, rowWidth, scheduleWidths, scheduleWidth, partWidths, partSize, usedSize, bookWidths, netWidth}
 
 -- ---- the image
 
@@ -32,9 +31,9 @@ scheduleValues x = x .point ∷ x .side ∷ x .hour ∷ x .quantity .0 ∷ x .pr
 unfoldable pub scheduleBytes : Schedule → List ℕ
 scheduleBytes x = pack scheduleWidths (scheduleValues x)
 
--- net positions, signed, 4 bytes each, by account and then period
+-- net positions, signed, by account and then period
 unfoldable pub accountNets : ℕ → List Row → ℕ → List ℕ
-accountNets top rows a = flat (map (λ h. signed 4 (figure (netOf rows a h))) (upTo top))
+accountNets top rows a = flat (map (λ h. signed netWidth (figure (netOf rows a h))) (upTo top))
 
 unfoldable pub netsBytes : ℕ → List Row → List ℕ
 netsBytes top rows = flat (map (accountNets top rows) (upTo mostAccounts))
@@ -42,7 +41,7 @@ netsBytes top rows = flat (map (accountNets top rows) (upTo mostAccounts))
 -- a part: its guarantees, how many rows, the rows, the net positions; unused bytes are zero
 unfoldable pub partSections : ℕ → Part → List (List ℕ)
 partSections top p =
-    slots 8 mostOperators (λ g. le 8 (g .0)) (p .guarantees)
+    slots guaranteeWidth mostOperators (λ g. le guaranteeWidth (g .0)) (p .guarantees)
     ∷ le 2 (length (p .rows))
     ∷ slots rowWidth mostRows rowBytes (p .rows)
     ∷ netsBytes top (p .rows)
@@ -113,7 +112,7 @@ scheduleIn x =
 unfoldable pub partOf : ℕ → List (List ℕ) → Part
 partOf operators c =
     record {
-      guarantees = map (λ x. cents (number x)) (chunks 8 operators (getD c 0 []));
+      guarantees = map (λ x. cents (number x)) (chunks guaranteeWidth operators (getD c 0 []));
       rows = map rowIn (chunks rowWidth (number (getD c 1 [])) (getD c 2 []));
     }
 

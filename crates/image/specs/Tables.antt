@@ -4,13 +4,17 @@ use mathlib.Core.Path.{_≡_}
 use mathlib.Core.List.{List}
 use lib.ListN.{getD}
 use Rattle.rules.specs.declared.Row.{Row}
-use Rattle.rules.specs.Limits.{mostAccounts, mostHours, mostEnergy}
+use Rattle.rules.specs.Limits.{mostAccounts, mostEnergy}
 use Rattle.rules.specs.Opening.{countsIn}
 use Rattle.setup.specs.Faults.{Whole}
 
 -- the slots of a table, each of `top` cells: one for each account of each of its four lanes
 abbrev pub slots : ℕ
 slots = 4 * mostAccounts
+
+-- the cells of a table
+abbrev pub tableSize : ℕ → ℕ
+tableSize top = slots * top
 
 -- the slot of an account in a lane: 0 bought, 1 sold, 2 pending sales, 3 pending purchases
 abbrev pub slotOf : ℕ → ℕ → ℕ
@@ -50,10 +54,10 @@ pub record Tabled (top : ℕ) (r : Row) : Type 0 where
   pub quantity-high : r .quantity .0 ≤ mostEnergy
 
 -- a set-up in bytes whose accounts and hours the table has room for
-pub record SetupTabled (s : List ℕ) : Type 0 where
+pub record SetupTabled (top : ℕ) (s : List ℕ) : Type 0 where
   pub whole : Whole s
   pub accounts-high : countsIn s .accounts ≤ mostAccounts
-  pub hours-high : countsIn s .hours ≤ mostHours
+  pub hours-high : countsIn s .hours ≤ top
 
 -- each cell from `at` on can grow by q and stays within its 32 bits
 abbrev pub Room : List ℕ → ℕ → ℕ → Type 0

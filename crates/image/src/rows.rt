@@ -3,7 +3,7 @@ ghost use mathlib.Core.Path.{_≡_};
 ghost use Prim.Native.Nat.{_+_, _≤_};
 ghost use lib.ListN.{length, take, drop};
 ghost use Rattle.wire.specs.Parts.{Small};
-ghost use Rattle.image.specs.Layout.{rowWidths};
+ghost use Rattle.image.specs.Layout.{rowWidths, rowWidth};
 ghost use Rattle.image.specs.Image.{rowIn, rowValues, rowBytes};
 use crate::layout::ROW_WIDTH;
 use rules::Row;
@@ -29,8 +29,8 @@ pub const STATUS_IN: usize = 17;
 
 // The row in the 18 bytes from `at` on.
 pub fn row_at(s: &[u8], at: usize) -> Row
-    requires { ⌜ at + 18 ≤ length (now s) ⌝ }
-    ensures { λ r. ⌜ r ≡ rowIn (take 18 (drop at (now (s .entry)))) ⌝ }
+    requires { ⌜ at + rowWidth ≤ length (now s) ⌝ }
+    ensures { λ r. ⌜ r ≡ rowIn (take rowWidth (drop at (now (s .entry)))) ⌝ }
 {
     Row {
         proposer: get_u8(s, at),

@@ -3,7 +3,7 @@ ghost use mathlib.Core.Path.{_≡_};
 ghost use Prim.Native.Nat.{_+_, _≤_};
 ghost use lib.ListN.{length, take, drop};
 ghost use Rattle.wire.specs.Parts.{Small};
-ghost use Rattle.image.specs.Layout.{scheduleWidths};
+ghost use Rattle.image.specs.Layout.{scheduleWidths, scheduleWidth};
 ghost use Rattle.image.specs.Image.{scheduleIn, scheduleValues, scheduleBytes};
 use crate::layout::SCHEDULE_WIDTH;
 use rules::Schedule;
@@ -23,8 +23,8 @@ pub const PRICE_IN: usize = 7;
 
 // The schedule in the 11 bytes from `at` on.
 pub fn schedule_at(s: &[u8], at: usize) -> Schedule
-    requires { ⌜ at + 11 ≤ length (now s) ⌝ }
-    ensures { λ x. ⌜ x ≡ scheduleIn (take 11 (drop at (now (s .entry)))) ⌝ }
+    requires { ⌜ at + scheduleWidth ≤ length (now s) ⌝ }
+    ensures { λ x. ⌜ x ≡ scheduleIn (take scheduleWidth (drop at (now (s .entry)))) ⌝ }
 {
     Schedule {
         point: get_u8(s, at),

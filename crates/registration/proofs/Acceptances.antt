@@ -24,7 +24,7 @@ use Rattle.rules.proofs.Checks.Passed.{passed-11, passed-12, passed-13}
 use Rattle.rules.proofs.Rows.RowTests.{passed-confirm, passed-withdraw}
 use Rattle.rules.proofs.Rows.AccountHours.{pending-inside}
 use Rattle.rules.proofs.Basics.Searches.{each-nth}
-use Rattle.image.specs.Layout.{rowWidth, partSize, phaseAt, flagAt, presentAt, savedAt, rowAt, netAt, statusIn}
+use Rattle.image.specs.Layout.{rowWidth, partSize, phaseAt, flagAt, presentAt, savedAt, rowAt, netAt, statusIn, netWidth}
 use Rattle.image.specs.Valid.{isBook, bookIn}
 use Rattle.image.specs.Changes.{raised, ended}
 use Rattle.image.proofs.Writing.Sizes.{RowFits, row-fits-of, statuses-small}
@@ -42,7 +42,7 @@ module _ (s t : List ℕ) (h : isBook s ≡ true) where
       → at ≡ presentAt + rowAt i + statusIn
       → low ≡ presentAt + netAt mostHours (seller r) (r .first) → high ≡ presentAt + netAt mostHours (buyer r) (r .first)
       → t
-      ≡ sweep (raised 4 (r .quantity .0)) 4 (sweep (raised 4 (256 ^ 4 - r .quantity .0)) 4 (splice s at (le 1 2)) low n) high n
+      ≡ sweep (raised netWidth (r .quantity .0)) netWidth (sweep (raised netWidth (256 ^ netWidth - r .quantity .0)) netWidth (splice s at (le 1 2)) low n) high n
       → Answered confirm s q (accepted (i + 1)) t
   unfolding given
   confirmed-answered q i n at low high r d named row hours place sells buys e =
@@ -59,7 +59,7 @@ module _ (s t : List ℕ) (h : isBook s ≡ true) where
       (each-nth noRow (confirmedNumber b q) (sound .part-sound .rows-sound) (w .low) (w .high))) in
       accepted-answered confirm s q h t (i + 1) d (add-one i ∙ sym number)
       (e
-      ∙ ap (λ (x : List ℕ). sweep (raised 4 (r .quantity .0)) 4 (sweep (raised 4 (256 ^ 4 - r .quantity .0)) 4 (splice x at (le 1 2)) low n) high n) (book-image s h)
+      ∙ ap (λ (x : List ℕ). sweep (raised netWidth (r .quantity .0)) netWidth (sweep (raised netWidth (256 ^ netWidth - r .quantity .0)) netWidth (splice x at (le 1 2)) low n) high n) (book-image s h)
       ∙ write-confirmed mostHours bookSize b (book-fits s h) (confirmedNumber b q) i n at low high r number here pend fit hours place sells buys)
       (apply-keeps _ b sound (confirm-allowed b q sound clear))
 

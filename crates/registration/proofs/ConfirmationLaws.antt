@@ -27,7 +27,7 @@ use Rattle.rules.proofs.Basics.Searches.{index-first}
 use Rattle.rules.proofs.Rows.RowTests.{Alike, alike-true, passed-confirm}
 use Rattle.rules.proofs.Checks.Passed.{passed-16-confirm}
 use Rattle.rules.proofs.Rows.AccountHours.{pending-inside, hour-takes-confirmed}
-use Rattle.image.specs.Layout.{presentAt, rowAt, netAt, statusIn}
+use Rattle.image.specs.Layout.{presentAt, rowAt, netAt, statusIn, netWidth}
 use Rattle.image.specs.Changes.{raised}
 use Rattle.image.specs.Valid.{isBook, bookIn}
 use Rattle.image.specs.Tables.{Tabled}
@@ -235,8 +235,8 @@ module _ (s : List ℕ) (q : Request) (number : ℕ) (h : isBook s ≡ true) (fr
 
     pub trade-answered : (t : List ℕ)
         → t
-        ≡ sweep (raised 4 (r .quantity .0)) 4
-        (sweep (raised 4 (256 ^ 4 - r .quantity .0)) 4 (splice s (presentAt + rowAt (number - 1) + statusIn) (le 1 2))
+        ≡ sweep (raised netWidth (r .quantity .0)) netWidth
+        (sweep (raised netWidth (256 ^ netWidth - r .quantity .0)) netWidth (splice s (presentAt + rowAt (number - 1) + statusIn) (le 1 2))
         (presentAt + netAt mostHours (seller r) (r .first)) (r .last - r .first + 1))
         (presentAt + netAt mostHours (buyer r) (r .first)) (r .last - r .first + 1)
         → Answered confirm s q (accepted number) t

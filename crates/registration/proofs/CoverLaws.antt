@@ -16,7 +16,7 @@ use Rattle.rules.specs.declared.Row.{Row}
 use Rattle.rules.specs.Basics.{nth, Each, nil, cons}
 use Rattle.rules.specs.Limits.{mostHours, mostEnergy, mostGuarantee, thousand, bookSize}
 use Rattle.rules.specs.Books.{Setup, Part, Book, maintenanceAt, guaranteeAt, operatorOf, operatorCount, accountCount}
-use Rattle.rules.specs.Opening.{countsIn, operatorsIn, setupOf}
+use Rattle.rules.specs.Opening.{countsIn, operatorsIn, setupOf, guaranteeWidth}
 use Rattle.rules.specs.Registration.{pending, exposure, available, covered}
 use Rattle.rules.specs.declared.Counts.{Counts}
 use Rattle.rules.proofs.Basics.Searches.{each-at}
@@ -68,11 +68,11 @@ module _ (s : List ℕ) (h : isBook s ≡ true) (o : ℕ) (low : 1 ≤ o) (high 
       go (suc i) l m = each-at 0 i all-maintenance (omega arith)
 
   -- the guarantee in force stands in its 8 bytes
-  pub guarantee-stands : (at : ℕ) → at ≡ presentAt + 8 * (o - 1)
+  pub guarantee-stands : (at : ℕ) → at ≡ presentAt + guaranteeWidth * (o - 1)
       → (numberAt s at 8 ≡ guaranteeAt (bookIn s .part .guarantees) o .0) × (guaranteeAt (bookIn s .part .guarantees) o .0 ≤ mostGuarantee)
   guarantee-stands at e = go o low high e
     where
-      go : (n : ℕ) → 1 ≤ n → n ≤ operatorCount (bookIn s .setup) → at ≡ presentAt + 8 * (n - 1)
+      go : (n : ℕ) → 1 ≤ n → n ≤ operatorCount (bookIn s .setup) → at ≡ presentAt + guaranteeWidth * (n - 1)
           → (numberAt s at 8 ≡ guaranteeAt (bookIn s .part .guarantees) n .0) × (guaranteeAt (bookIn s .part .guarantees) n .0 ≤ mostGuarantee)
       go zero l m e = absurd (omega arith)
       go (suc i) l m e =

@@ -23,6 +23,7 @@ use Rattle.rules.specs.Books.{Setup, Book, countsOf, maintenanceAt, guaranteeAt
 use Rattle.rules.specs.Requests.{guarantee, inRange}
 use Rattle.rules.specs.Registration.{exposure, available, covered}
 use Rattle.rules.specs.Calls.{next, given, stateChecks, apply}
+use Rattle.rules.specs.Opening.{guaranteeWidth}
 use Rattle.rules.proofs.Basics.Tests.{within-true}
 use Rattle.rules.proofs.Checks.Passed.{field-in-range}
 use Rattle.image.specs.Layout.{presentAt}
@@ -88,7 +89,7 @@ no-lower-covers s h o g held low high e more =
 -- ---- what is written
 
 pub lodged-answered : (s t : List ℕ) (h : isBook s ≡ true) (q : Request) (at : ℕ) → Ready guarantee (bookIn s) q
-    → decided guarantee (bookIn s) q ≡ none → at ≡ presentAt + 8 * (q .operator - 1)
+    → decided guarantee (bookIn s) q ≡ none → at ≡ presentAt + guaranteeWidth * (q .operator - 1)
     → t ≡ splice s at (le 8 (q .guarantee .0)) → Answered guarantee s q (accepted 0) t
 unfolding given
 lodged-answered s t h q at r d place e =

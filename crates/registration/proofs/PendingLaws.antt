@@ -1,9 +1,9 @@
 -- The search for a pending row: its tests as the bytes have them, and the number found, row by row.
 use Prim.Native.Nat.{ℕ, suc, _+_, _≤_}
 use mathlib.Core.Path.{_≡_, refl, sym, _∙_}
-use mathlib.Core.List.{List, [], _∷_}
+use mathlib.Core.List.{List, _∷_}
 use mathlib.Core.Option.{Option, none, some}
-use mathlib.Core.Bool.{Bool, true, false, not, _&&_, and-true, and-false}
+use mathlib.Core.Bool.{Bool, true, false, _&&_, and-true, and-false}
 use native.Mathlib.Omega.{arith}
 use lib.ListN.{length, take, drop}
 use lib.Dec.{eqb}
@@ -17,6 +17,7 @@ use Rattle.rules.specs.Calls.{numberFrom}
 use Rattle.rules.proofs.Basics.Searches.{index-first}
 use Rattle.image.specs.Image.{rowIn}
 use Rattle.image.specs.Cells.{rowsFrom}
+use Rattle.image.specs.Layout.{rowWidth}
 use Rattle.image.proofs.Reading.RowBytes.{row-at}
 use Rattle.image.proofs.Reading.RowsFrom.{rows-done, rows-step}
 
@@ -24,13 +25,13 @@ use Rattle.image.proofs.Reading.RowsFrom.{rows-done, rows-step}
 
 module _ (s : List ℕ) (at proposer counterparty code : ℕ) {v : ℕ} (d : v ≡ numberAt s (at + 2) 8) where
   -- a row of another code is not it
-  pub another-code : (v ≡ code → ⊥) → false ≡ alike proposer counterparty code (rowIn (take 18 (drop at s)))
+  pub another-code : (v ≡ code → ⊥) → false ≡ alike proposer counterparty code (rowIn (take rowWidth (drop at s)))
   unfolding alike
   another-code n = rw (row-at s at, ← d, ne-eqb v code n, and-false)
 
   -- the code agrees, so that the rest decides
   pub rest-decides : {status first second : ℕ} → v ≡ code → status ≡ numberAt s (at + 17) 1 → first ≡ numberAt s at 1 → second ≡ numberAt s (at + 1) 1
-      → (eqb status 1 && eqb first proposer && eqb second counterparty) ≡ alike proposer counterparty code (rowIn (take 18 (drop at s)))
+      → (eqb status 1 && eqb first proposer && eqb second counterparty) ≡ alike proposer counterparty code (rowIn (take rowWidth (drop at s)))
   unfolding alike
   rest-decides same a b c = rw (row-at s at, ← a, ← b, ← c, ← d, eq-eqb v code same, and-true)
 
@@ -71,13 +72,13 @@ module _ (p : Row → Bool) where
 
     module _ (m : ℕ) (more : n ≡ m + 1) where
       -- the next row is it
-      pub number-here : p (rowIn (take 18 (drop at s))) ≡ true → passed + 1 ≡ number
+      pub number-here : p (rowIn (take rowWidth (drop at s))) ≡ true → passed + 1 ≡ number
       unfolding numbered
-      number-here e = sym (left ∙ rw (rows-step s at n m more, index-here (rowIn (take 18 (drop at s))) (rowsFrom s (at + 18) m) e) (omega arith))
+      number-here e = sym (left ∙ rw (rows-step s at n m more, index-here (rowIn (take rowWidth (drop at s))) (rowsFrom s (at + rowWidth) m) e) (omega arith))
 
       -- the next row is passed
-      pub number-next : p (rowIn (take 18 (drop at s))) ≡ false → number ≡ numbered (passed + 1) (indexOf p (rowsFrom s (at + 18) m))
-      number-next e = left ∙ rw (rows-step s at n m more) (index-next _ (rowsFrom s (at + 18) m) passed e)
+      pub number-next : p (rowIn (take rowWidth (drop at s))) ≡ false → number ≡ numbered (passed + 1) (indexOf p (rowsFrom s (at + rowWidth) m))
+      number-next e = left ∙ rw (rows-step s at n m more) (index-next _ (rowsFrom s (at + rowWidth) m) passed e)
 
   -- a number found is that of a row
   pub number-high : (rows : List Row) → numberFrom (indexOf p rows) ≤ length rows

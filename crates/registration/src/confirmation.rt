@@ -15,7 +15,7 @@ ghost use Rattle.rules.specs.Verdicts.{checked};
 ghost use Rattle.rules.specs.Requests.{confirm};
 ghost use Rattle.rules.specs.Registration.{seller, buyer, withStatus, mirrors, available, exposureWith};
 ghost use Rattle.rules.specs.Calls.{confirmedNumber};
-ghost use Rattle.image.specs.Layout.{presentAt, rowAt, statusIn, netAt};
+ghost use Rattle.image.specs.Layout.{presentAt, rowAt, statusIn, netAt, netWidth};
 ghost use Rattle.image.specs.Changes.{raised};
 ghost use Rattle.image.specs.Valid.{isBook, bookIn, bookBytes};
 ghost use Rattle.image.specs.Tables.{Tabled};
@@ -140,7 +140,7 @@ fn confirm_fault(book: &[u8], request: Request, number: u16) -> Checked
 // The row of that number becomes a trade: its status, then the net positions of its seller and its buyer.
 fn put_trade(book: &mut [u8], number: u16, row: Row)
     requires { ⌜ (length (now book) ≡ bookSize) × (1 ≤ number) × (number ≤ mostRows) × Tabled mostHours row × (1 ≤ row .quantity .0) ⌝ }
-    ensures { λ _. ⌜ now (book .exit) ≡ sweep (raised 4 (row .quantity .0)) 4 (sweep (raised 4 (256 ^ 4 - row .quantity .0)) 4 (splice (now (book .entry)) (presentAt + rowAt (number - 1) + statusIn) (le 1 2)) (presentAt + netAt mostHours (seller row) (row .first)) (row .last - row .first + 1)) (presentAt + netAt mostHours (buyer row) (row .first)) (row .last - row .first + 1) ⌝ }
+    ensures { λ _. ⌜ now (book .exit) ≡ sweep (raised netWidth (row .quantity .0)) netWidth (sweep (raised netWidth (256 ^ netWidth - row .quantity .0)) netWidth (splice (now (book .entry)) (presentAt + rowAt (number - 1) + statusIn) (le 1 2)) (presentAt + netAt mostHours (seller row) (row .first)) (row .last - row .first + 1)) (presentAt + netAt mostHours (buyer row) (row .first)) (row .last - row .first + 1) ⌝ }
 {
     put_u8(book, row_place(number) + STATUS_IN, CONFIRMED);
     move_nets(book, row);

@@ -6,11 +6,12 @@ ghost use Rattle.wire.specs.Regions.{splice};
 ghost use Rattle.wire.specs.Parts.{sweep};
 ghost use Rattle.rules.specs.Limits.{bookSize, mostHours};
 ghost use Rattle.rules.specs.Registration.{seller, buyer};
-ghost use Rattle.image.specs.Layout.{presentAt, netAt};
+ghost use Rattle.image.specs.Layout.{presentAt, netAt, netWidth};
 ghost use Rattle.image.specs.Changes.{raised};
 ghost use Rattle.image.specs.Tables.{Tabled};
 use book::state::net_place;
 use image::layout::MOST_IN_4;
+use image::layout::NET_WIDTH;
 use image::layout::TURN;
 use rules::Row;
 use rules::hours::pick;
@@ -19,8 +20,8 @@ use wire::numbers::put_u32;
 
 // Raises the number in the 4 bytes at `at`; what is more than fits goes round.
 fn raise_net(s: &mut [u8], at: usize, more: u32)
-    requires { ⌜ at + 4 ≤ length (now s) ⌝ }
-    ensures { λ _. ⌜ now (s .exit) ≡ splice (now (s .entry)) at (raised 4 more (take 4 (drop at (now (s .entry))))) ⌝ }
+    requires { ⌜ at + netWidth ≤ length (now s) ⌝ }
+    ensures { λ _. ⌜ now (s .exit) ≡ splice (now (s .entry)) at (raised netWidth more (take netWidth (drop at (now (s .entry))))) ⌝ }
 {
     let sum = get_u32(s, at) as u64 + more as u64;
     put_u32(s, at, (sum % TURN) as u32);
@@ -28,14 +29,14 @@ fn raise_net(s: &mut [u8], at: usize, more: u32)
 
 // Raises each of the `n` numbers that stand from `from` on.
 fn raise_nets(s: &mut [u8], from: usize, n: usize, more: u32)
-    requires { ⌜ from + 4 * n ≤ length (now s) ⌝ }
-    ensures { λ _. ⌜ now (s .exit) ≡ sweep (raised 4 more) 4 (now (s .entry)) from n ⌝ }
+    requires { ⌜ from + netWidth * n ≤ length (now s) ⌝ }
+    ensures { λ _. ⌜ now (s .exit) ≡ sweep (raised netWidth more) netWidth (now (s .entry)) from n ⌝ }
 {
     let mut at = from;
     let mut left = n;
     while 0 < left {
         raise_net(s, at, more);
-        at = at + 4;
+        at = at + NET_WIDTH;
         left = left - 1;
     }
 }
@@ -43,7 +44,7 @@ fn raise_nets(s: &mut [u8], from: usize, n: usize, more: u32)
 // Moves the nets of both parties of a trade in each of its hours: the seller's fall by its quantity, then the buyer's rise by it.
 pub fn move_nets(book: &mut [u8], r: Row)
     requires { ⌜ (length (now book) ≡ bookSize) × Tabled mostHours r × (1 ≤ r .quantity .0) ⌝ }
-    ensures { λ _. ⌜ now (book .exit) ≡ sweep (raised 4 (r .quantity .0)) 4 (sweep (raised 4 (256 ^ 4 - r .quantity .0)) 4 (now (book .entry)) (presentAt + netAt mostHours (seller r) (r .first)) (r .last - r .first + 1)) (presentAt + netAt mostHours (buyer r) (r .first)) (r .last - r .first + 1) ⌝ }
+    ensures { λ _. ⌜ now (book .exit) ≡ sweep (raised netWidth (r .quantity .0)) netWidth (sweep (raised netWidth (256 ^ netWidth - r .quantity .0)) netWidth (now (book .entry)) (presentAt + netAt mostHours (seller r) (r .first)) (r .last - r .first + 1)) (presentAt + netAt mostHours (buyer r) (r .first)) (r .last - r .first + 1) ⌝ }
 {
     let quantity = r.quantity;
     let n = (r.last - r.first) as usize + 1;

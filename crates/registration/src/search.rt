@@ -9,6 +9,7 @@ ghost use Rattle.rules.specs.Calls.{numberFrom};
 ghost use Rattle.image.specs.Image.{rowIn};
 ghost use Rattle.image.specs.Valid.{isBook, bookIn};
 ghost use Rattle.image.specs.Cells.{rowsFrom};
+ghost use Rattle.image.specs.Layout.{rowWidth};
 use book::state::PENDING;
 use book::state::row_count;
 use image::layout::PRESENT_AT;
@@ -22,8 +23,8 @@ use wire::numbers::get_u64;
 
 // The row from `at` on is pending with this proposer, counterparty and code. Codes mostly differ, so that the code is looked at first.
 fn alike_at(book: &[u8], at: usize, proposer: u8, counterparty: u8, code: u64) -> bool
-    requires { ⌜ at + 18 ≤ length (now book) ⌝ }
-    ensures { λ b. ⌜ b ≡ alike proposer counterparty code (rowIn (take 18 (drop at (now (book .entry))))) ⌝ }
+    requires { ⌜ at + rowWidth ≤ length (now book) ⌝ }
+    ensures { λ b. ⌜ b ≡ alike proposer counterparty code (rowIn (take rowWidth (drop at (now (book .entry))))) ⌝ }
 {
     if get_u64(book, at + CODE_IN) != code {
         return false;
@@ -43,7 +44,7 @@ fn number_among(
     counterparty: u8,
     code: u64,
 ) -> usize
-    requires { ⌜ at + 18 * n ≤ length (now book) ⌝ }
+    requires { ⌜ at + rowWidth * n ≤ length (now book) ⌝ }
     ensures { λ r. ⌜ r ≡ numberFrom (indexOf (alike proposer counterparty code) (rowsFrom (now (book .entry)) at n)) ⌝ }
 {
     let mut k = at;

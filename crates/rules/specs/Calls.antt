@@ -1,6 +1,6 @@
 -- The ten calls (document 01, "Registration", "Schedules and settlement", "Verdicts"): what each is refused for, in rank, and what
 -- an accepted one gives and makes of the book and of the buffers that it was lent.
-use Prim.Native.Nat.{ℕ, zero, suc, _-_, _*_}
+use Prim.Native.Nat.{ℕ, suc, _-_, _*_}
 use mathlib.Core.List.{List, [], _∷_, _++_}
 use mathlib.Core.Option.{Option, none, some}
 use mathlib.Core.Bool.{Bool, true, false, not, _&&_, _||_}

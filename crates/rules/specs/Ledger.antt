@@ -1,5 +1,5 @@
 -- The ledger (document 01, "What demand 3 compares"): fed only the set-up's bytes, each record and whether it was accepted.
-use Prim.Native.Nat.{ℕ, zero, suc, _*_, _-_}
+use Prim.Native.Nat.{ℕ, suc, _*_, _-_}
 use mathlib.Core.List.{List, [], _∷_, _++_}
 use mathlib.Core.Bool.{Bool, true, false, _&&_}
 use lib.Dec.{eqb}
@@ -12,9 +12,6 @@ use Rattle.rules.specs.declared.Net.{Net}
 use Rattle.rules.specs.declared.AccountHour.{AccountHour}
 use Rattle.rules.specs.declared.Schedule.{Schedule}
 use Rattle.rules.specs.declared.Request.{Request}
-use Rattle.rules.specs.declared.Outcome.{Outcome}
-use Rattle.rules.specs.declared.Verdict.{Verdict}
-use Rattle.rules.specs.declared.Verdict.the-variants.{Accepted, Refused}
 use Rattle.rules.specs.Basics.{if_then_else_, total, put, within}
 use Rattle.rules.specs.Limits.{thousand}
 use Rattle.rules.specs.Books.{Setup, estimateAt, guaranteeAt, maintenanceAt}

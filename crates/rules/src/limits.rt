@@ -23,6 +23,9 @@ pub const FEWEST_HOURS: u8 = 23;
 
 pub const MOST_HOURS: u8 = 25;
 
+// The most periods of a day, as a size.
+pub const PERIODS: usize = MOST_HOURS as usize;
+
 pub const MOST_OPERATORS: u8 = 16;
 
 pub const MOST_ACCOUNTS: u8 = 32;

@@ -24,7 +24,7 @@ use Rattle.rules.proofs.Basics.Differences.{lt-or-ge}
 use Rattle.image.specs.Valid.{scheduleOk}
 use Rattle.image.specs.Tables.{Room}
 use Rattle.image.proofs.Sound.Soundness.{sound-schedule}
-use Rattle.settlement.specs.Tables.{cellFor, pointCells, accountCells, usedUp, fallsTo, UsedBy}
+use Rattle.settlement.specs.Tables.{cellFor, pointCells, accountCells, usedUp, fallsTo, UsedBy, usedCells}
 use Rattle.settlement.specs.Congruity.{InCells, nothingUsed}
 
 -- ---- a cell of its own
@@ -76,9 +76,9 @@ pub nothing-used : (u : Setup) (net : ℕ → ℕ → Net) (t : List CentsPerMwh
 unfolding nothingUsed fallsTo total
 nothing-used u net t table e =
     rw e (record {
-      whole = length-replicate {A = ℕ} 4800 0;
-      by-point = λ k l. getD-replicate 4800 k 0 0 (omega arith);
-      by-account = λ k l. getD-replicate 4800 (pointCells + k) 0 0 (omega arith);
+      whole = length-replicate {A = ℕ} usedCells 0;
+      by-point = λ k l. getD-replicate usedCells k 0 0 (omega arith);
+      by-account = λ k l. getD-replicate usedCells (pointCells + k) 0 0 (omega arith);
     })
 
 -- ---- one schedule more

@@ -17,7 +17,7 @@ use Rattle.rules.specs.declared.Schedule.{Schedule}
 use Rattle.rules.specs.Basics.{if_then_else_, nth, Each}
 use Rattle.rules.specs.Limits.{mostPoints, mostAccounts}
 use Rattle.rules.specs.Books.{Setup, noPoint, accountCount, pointAt, periods}
-use Rattle.rules.specs.Opening.{countsIn, pointsIn, setupOf}
+use Rattle.rules.specs.Opening.{countsIn, pointsIn, setupOf, priceWidth}
 use Rattle.rules.specs.Settlement.{Judged, used, accountOf, sameHourSide, pointLimit, accountLimit, metPrice, taken, judge, priceCount}
 use Rattle.rules.proofs.Basics.Searches.{each-nth, each-map}
 use Rattle.setup.specs.Faults.{Whole}
@@ -86,7 +86,7 @@ module _ (s : List ℕ) (h : isBook s ≡ true) (x : Schedule) (ok : scheduleOk 
 
   -- the price that it meets is one of the table's
   pub price-stands : (prices : List ℕ) → Priced s prices → (n : Counts) (p : Point) → n ≡ countsIn s → p ≡ pointAt (setupIn s) (x .point)
-      → (1 ≤ priceNumber (n .hours) p x) × (4 * priceNumber (n .hours) p x ≤ length prices)
+      → (1 ≤ priceNumber (n .hours) p x) × (priceWidth * priceNumber (n .hours) p x ≤ length prices)
   price-stands prices given n p en ep =
       let u = setupIn s in
       let zone = pointAt u (x .point) .zone in

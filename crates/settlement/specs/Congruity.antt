@@ -10,7 +10,7 @@ use Rattle.rules.specs.declared.Point.{Point}
 use Rattle.rules.specs.declared.Schedule.{Schedule}
 use Rattle.rules.specs.Basics.{if_then_else_}
 use Rattle.rules.specs.Limits.{mostHours}
-use Rattle.settlement.specs.Tables.{pointCells, accountCells}
+use Rattle.settlement.specs.Tables.{usedCells}
 
 -- the table has a cell for the owner, of so many at most, in the schedule's hour and side
 pub record InCells (most owner : ℕ) (x : Schedule) : Type 0 where
@@ -23,7 +23,7 @@ pub record InCells (most owner : ℕ) (x : Schedule) : Type 0 where
 
 -- the table before any schedule is judged
 unfoldable pub nothingUsed : List ℕ
-nothingUsed = replicate (pointCells + accountCells) 0
+nothingUsed = replicate usedCells 0
 
 -- the point's greatest amount on a side
 abbrev pub greatest : Point → ℕ → ℕ

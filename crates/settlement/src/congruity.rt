@@ -12,15 +12,19 @@ ghost use Rattle.rules.specs.Basics.{if_then_else_, nth, Each};
 ghost use Rattle.rules.specs.Limits.{mostPoints, mostAccounts};
 ghost use Rattle.rules.specs.Books.{Setup};
 ghost use Rattle.rules.specs.Settlement.{Judged, accountOf, judge, priceCount, pricesIn};
+ghost use Rattle.rules.specs.Opening.{priceWidth};
 ghost use Rattle.image.specs.Valid.{isBook, scheduleOk};
 ghost use Rattle.image.specs.Tables.{Room};
-ghost use Rattle.settlement.specs.Tables.{Priced, OnPoint, setupIn, netsIn, pricesOf, cellFor, pointCells, UsedBy};
+ghost use Rattle.settlement.specs.Tables.{Priced, OnPoint, setupIn, netsIn, pricesOf, cellFor, pointCells, UsedBy, usedCells};
 ghost use Rattle.settlement.specs.Congruity.{InCells, nothingUsed, greatest, leftBy, priceNumber, takenAt, resultBy};
 use crate::prices::price;
 use book::positions::net_at;
 use rules::Net;
 use rules::Point;
 use rules::Schedule;
+use rules::limits::MOST_ACCOUNTS;
+use rules::limits::MOST_POINTS;
+use rules::limits::PERIODS;
 use setup::counts::counts;
 use units::CentsPerMwh;
 use units::Kwh;
@@ -40,11 +44,11 @@ const OVER_ACCOUNT: u8 = 2;
 const NOT_TAKEN: u8 = 3;
 
 // The table of what is used up: the cells of an owner, of all points, and of the whole.
-const OWNER_CELLS: usize = 50;
+const OWNER_CELLS: usize = 2 * PERIODS;
 
-const POINT_CELLS: usize = 3_200;
+const POINT_CELLS: usize = OWNER_CELLS * (MOST_POINTS as usize);
 
-pub const USED_SIZE: usize = 4_800;
+pub const USED_SIZE: usize = POINT_CELLS + OWNER_CELLS * (MOST_ACCOUNTS as usize);
 
 // The cell of an owner, which is a point or an account, in the schedule's hour and side.
 fn cell_for(owner: u8, x: Schedule) -> usize
@@ -93,7 +97,7 @@ fn passes(limit: Kwh, before: u32, quantity: Kwh) -> bool
 
 // Whether a schedule passes what is left of its point's greatest amount.
 fn over_point(used: &[u32], x: Schedule, point: Point) -> bool
-    requires { ⌜ (length (now used) ≡ 4800) × InCells mostPoints (x .point) x ⌝ }
+    requires { ⌜ (length (now used) ≡ usedCells) × InCells mostPoints (x .point) x ⌝ }
     ensures { λ r. ⌜ r ≡ ltb (greatest point (x .side)) (getD (now (used .entry)) (cellFor (x .point) x) 0 + x .quantity .0) ⌝ }
 {
     let k = cell_for(x.point, x);
@@ -103,7 +107,7 @@ fn over_point(used: &[u32], x: Schedule, point: Point) -> bool
 
 // Whether a schedule passes what is left of its account's net position.
 fn over_account(book: &[u8], used: &[u32], x: Schedule, point: Point) -> bool
-    requires { ⌜ (isBook (now book) ≡ true) × OnPoint (setupIn (now book)) point x × (length (now used) ≡ 4800) ⌝ }
+    requires { ⌜ (isBook (now book) ≡ true) × OnPoint (setupIn (now book)) point x × (length (now used) ≡ usedCells) ⌝ }
     ensures { λ r. ⌜ r ≡ ltb (leftBy (netsIn (now (book .entry)) (point .account) (x .hour)) (x .side)) (getD (now (used .entry)) (pointCells + cellFor (point .account) x) 0 + x .quantity .0) ⌝ }
 {
     let k = POINT_CELLS + cell_for(point.account, x);
@@ -134,8 +138,8 @@ fn takes(x: Schedule, met: CentsPerMwh) -> bool
 
 // Whether a schedule on the point is taken at the prices of the table.
 fn is_taken(prices: &[u8], hours: u8, point: Point, x: Schedule) -> bool
-    requires { ⌜ (1 ≤ priceNumber hours point x) × (4 * priceNumber hours point x ≤ length (now prices)) ⌝ }
-    ensures { λ r. ⌜ ((u : Setup) → length (now (prices .entry)) ≡ 4 * priceCount u → r ≡ takenAt x (nth (pricesIn u (now (prices .entry))) (priceNumber hours point x) (centsPerMwh 0))) ⌝ }
+    requires { ⌜ (1 ≤ priceNumber hours point x) × (priceWidth * priceNumber hours point x ≤ length (now prices)) ⌝ }
+    ensures { λ r. ⌜ ((u : Setup) → length (now (prices .entry)) ≡ priceWidth * priceCount u → r ≡ takenAt x (nth (pricesIn u (now (prices .entry))) (priceNumber hours point x) (centsPerMwh 0))) ⌝ }
 {
     let number = price_number(hours, point, x);
     let met = price(prices, number);
@@ -161,7 +165,7 @@ fn ranked_result(point: bool, account: bool, taken: bool) -> u8
 // The result of a schedule on its point, after those that used up what the table says.
 pub fn result_of(book: &[u8], prices: &[u8], used: &[u32], point: Point, x: Schedule) -> u8
     requires { ⌜ Priced (now book) (now prices) ⌝ }
-    requires { ⌜ OnPoint (setupIn (now book)) point x × (length (now used) ≡ 4800) ⌝ }
+    requires { ⌜ OnPoint (setupIn (now book)) point x × (length (now used) ≡ usedCells) ⌝ }
     ensures meaning { λ r. ⌜ ((before : List Judged) → UsedBy (setupIn (now (book .entry))) (netsIn (now (book .entry))) (pricesOf (now (book .entry)) (now (prices .entry))) before (now (used .entry)) → Each (λ j. scheduleOk (setupIn (now (book .entry))) (j .schedule) ≡ true) before → r ≡ judge (setupIn (now (book .entry))) (netsIn (now (book .entry))) (pricesOf (now (book .entry)) (now (prices .entry))) before x) ⌝ }
     ensures bounded { λ r. ⌜ r ≤ 3 ⌝ }
 {
@@ -192,7 +196,7 @@ fn add_to(table: &mut [u32], k: usize, q: u32)
 
 // A schedule of that result more: a congruous one uses up its quantity of its point's and its account's limits.
 pub fn use_up(used: &mut [u32], account: u8, x: Schedule, result: u8)
-    requires { ⌜ (length (now used) ≡ 4800) × InCells mostPoints (x .point) x × InCells mostAccounts account x × Room (now used) 0 (x .quantity .0) ⌝ }
+    requires { ⌜ (length (now used) ≡ usedCells) × InCells mostPoints (x .point) x × InCells mostAccounts account x × Room (now used) 0 (x .quantity .0) ⌝ }
     ensures { λ _. ⌜ ((u : Setup) (net : ℕ → ℕ → Net) (t : List CentsPerMwh) (before : List Judged) (place : ℕ) → accountOf u net t x ≡ account → UsedBy u net t before (now (used .entry)) → UsedBy u net t (record { place = place; schedule = x; result = result } ∷ before) (now (used .exit))) ⌝ }
 {
     let q = share(x.quantity, result);

@@ -7,7 +7,7 @@ ghost use Rattle.rules.specs.Limits.{mostSchedules};
 ghost use Rattle.rules.specs.Settlement.{Judged, placed};
 ghost use Rattle.image.specs.Valid.{isBook, bookIn};
 ghost use Rattle.image.specs.Tables.{Room};
-ghost use Rattle.settlement.specs.Tables.{Priced, setupIn};
+ghost use Rattle.settlement.specs.Tables.{Priced, setupIn, usedCells};
 ghost use Rattle.settlement.specs.Balances.{credited, Creditable};
 ghost use Rattle.settlement.specs.Judging.{InPlace, nonePlaced, noResults, InOrder, NoneJudged, TablesIn, BeforeIn, judgedNext, settledIn, DrawnUp};
 use crate::Credit;
@@ -70,7 +70,7 @@ fn judge_next(
     next: Placed,
 ) -> Credit
     requires { ⌜ Priced (now book) (now prices) × InPlace (setupIn (now book)) next ⌝ }
-    requires { ⌜ (length (now used) ≡ 4800) × Room (now used) 0 (next .schedule .quantity .0) × (length (now results) ≡ mostSchedules) ⌝ }
+    requires { ⌜ (length (now used) ≡ usedCells) × Room (now used) 0 (next .schedule .quantity .0) × (length (now results) ≡ mostSchedules) ⌝ }
     ensures tables { λ r. ⌜ ((before : List Judged) (all : List Balance) → TablesIn (now (book .entry)) (now (prices .entry)) before (now (used .entry)) all (now (results .entry)) → BeforeIn (now (book .entry)) (now (prices .entry)) before next → TablesIn (now (book .entry)) (now (prices .entry)) (judgedNext (now (book .entry)) (now (prices .entry)) before next ∷ before) (now (used .exit)) (credited all (r .operator) (r .share)) (now (results .exit))) ⌝ }
     ensures bounded { λ r. ⌜ Creditable r ⌝ }
 {

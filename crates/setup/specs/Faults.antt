@@ -14,7 +14,7 @@ use Rattle.rules.specs.declared.Checked.the-variants.{Clear, Fails}
 use Rattle.rules.specs.declared.Refusal.the-variants.{SetupValue}
 use Rattle.rules.specs.Basics.{if_then_else_}
 use Rattle.rules.specs.Limits.{mostEnergy}
-use Rattle.rules.specs.Opening.{Value, valuesOf, estimateValues, operatorValues, accountValues, pointValues, countsIn, setupLength, estimatesFrom, operatorsFrom, accountsFrom, pointsFrom, estimatesIn, operatorsIn, accountsIn, pointsIn}
+use Rattle.rules.specs.Opening.{Value, valuesOf, estimateValues, operatorValues, accountValues, pointValues, countsIn, setupLength, estimatesFrom, operatorsFrom, accountsFrom, pointsFrom, estimatesIn, operatorsIn, accountsIn, pointsIn, priceWidth, operatorEntry, accountEntry, pointEntry}
 
 -- ---- faults
 
@@ -39,16 +39,16 @@ judged vs = judgedFrom Clear vs
 
 -- the first fault among the estimates, the operators, the accounts and the points of set-up bytes
 unfoldable pub estimateFaults : List ℕ → Checked
-estimateFaults s = judged (valuesOf 4 estimateValues estimatesFrom (estimatesIn s))
+estimateFaults s = judged (valuesOf priceWidth estimateValues estimatesFrom (estimatesIn s))
 
 unfoldable pub operatorFaults : List ℕ → Checked
-operatorFaults s = judged (valuesOf 10 operatorValues (operatorsFrom (countsIn s)) (operatorsIn s))
+operatorFaults s = judged (valuesOf operatorEntry operatorValues (operatorsFrom (countsIn s)) (operatorsIn s))
 
 unfoldable pub accountFaults : List ℕ → Checked
-accountFaults s = judged (valuesOf 10 (accountValues (countsIn s .operators)) (accountsFrom (countsIn s)) (accountsIn s))
+accountFaults s = judged (valuesOf accountEntry (accountValues (countsIn s .operators)) (accountsFrom (countsIn s)) (accountsIn s))
 
 unfoldable pub pointFaults : List ℕ → Checked
-pointFaults s = judged (valuesOf 11 (pointValues (accountsIn s) (countsIn s .zones)) (pointsFrom (countsIn s)) (pointsIn s))
+pointFaults s = judged (valuesOf pointEntry (pointValues (accountsIn s) (countsIn s .zones)) (pointsFrom (countsIn s)) (pointsIn s))
 
 -- a point's greatest amount in a direction that its kind has, or has not
 abbrev pub mostAmount : Bool → ℕ

@@ -2,12 +2,23 @@
 ghost use mathlib.Core.Path.{_≡_};
 ghost use Prim.Native.Nat.{_≤_};
 ghost use lib.ListN.{length};
-ghost use Rattle.rules.specs.Opening.{countsIn, operatorsFrom, accountsFrom, pointsFrom, setupLength};
+ghost use Rattle.rules.specs.Opening.{countsIn, operatorsFrom, accountsFrom, pointsFrom, setupLength, countsWidth};
 use rules::Counts;
 
-// The counts in the first 5 bytes.
+// How many bytes the counts and each entry have.
+pub const COUNTS_WIDTH: usize = 5;
+
+pub const PRICE_WIDTH: usize = 4;
+
+pub const OPERATOR_ENTRY: usize = 10;
+
+pub const ACCOUNT_ENTRY: usize = 10;
+
+pub const POINT_ENTRY: usize = 11;
+
+// The counts in the first bytes.
 pub fn counts(setup: &[u8]) -> Counts
-    requires { ⌜ 5 ≤ length (now setup) ⌝ }
+    requires { ⌜ countsWidth ≤ length (now setup) ⌝ }
     ensures { λ r. ⌜ r ≡ countsIn (now (setup .entry)) ⌝ }
 {
     Counts {
@@ -23,30 +34,33 @@ pub fn counts(setup: &[u8]) -> Counts
 pub fn operators_from(n: Counts) -> usize
     ensures { λ r. ⌜ r ≡ operatorsFrom n ⌝ }
 {
-    5 + 4 * (n.hours as usize)
+    COUNTS_WIDTH + PRICE_WIDTH * (n.hours as usize)
 }
 
 // Where the accounts begin.
 pub fn accounts_from(n: Counts) -> usize
     ensures { λ r. ⌜ r ≡ accountsFrom n ⌝ }
 {
-    5 + 4 * (n.hours as usize) + 10 * (n.operators as usize)
+    COUNTS_WIDTH + PRICE_WIDTH * (n.hours as usize) + OPERATOR_ENTRY * (n.operators as usize)
 }
 
 // Where the points begin.
 pub fn points_from(n: Counts) -> usize
     ensures { λ r. ⌜ r ≡ pointsFrom n ⌝ }
 {
-    5 + 4 * (n.hours as usize) + 10 * (n.operators as usize) + 10 * (n.accounts as usize)
+    COUNTS_WIDTH
+        + PRICE_WIDTH * (n.hours as usize)
+        + OPERATOR_ENTRY * (n.operators as usize)
+        + ACCOUNT_ENTRY * (n.accounts as usize)
 }
 
 // The length of a set-up of these counts: where its entries end.
 pub fn length_of(n: Counts) -> usize
     ensures { λ r. ⌜ r ≡ setupLength n ⌝ }
 {
-    5
-        + 4 * (n.hours as usize)
-        + 10 * (n.operators as usize)
-        + 10 * (n.accounts as usize)
-        + 11 * (n.points as usize)
+    COUNTS_WIDTH
+        + PRICE_WIDTH * (n.hours as usize)
+        + OPERATOR_ENTRY * (n.operators as usize)
+        + ACCOUNT_ENTRY * (n.accounts as usize)
+        + POINT_ENTRY * (n.points as usize)
 }

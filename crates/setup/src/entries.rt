@@ -5,8 +5,13 @@ ghost use lib.ListN.{length, take, drop};
 ghost use Rattle.units.specs.Units.{centsPerMwh};
 ghost use Rattle.rules.specs.Basics.{nth};
 ghost use Rattle.rules.specs.Books.{noAccount, noPoint, marginsOf};
-ghost use Rattle.rules.specs.Opening.{countsIn, priceIn, operatorIn, accountIn, pointIn, estimatesIn, operatorsIn, accountsIn, pointsIn};
+ghost use Rattle.rules.specs.Opening.{countsIn, priceIn, operatorIn, accountIn, pointIn, estimatesIn, operatorsIn, accountsIn, pointsIn, priceWidth, operatorEntry, accountEntry, pointEntry};
 ghost use Rattle.setup.specs.Faults.{Whole, noOperator};
+use crate::counts::ACCOUNT_ENTRY;
+use crate::counts::COUNTS_WIDTH;
+use crate::counts::OPERATOR_ENTRY;
+use crate::counts::POINT_ENTRY;
+use crate::counts::PRICE_WIDTH;
 use crate::counts::accounts_from;
 use crate::counts::counts;
 use crate::counts::operators_from;
@@ -23,18 +28,18 @@ use wire::numbers::get_u16;
 use wire::numbers::get_u32;
 use wire::numbers::get_u64;
 
-// The price in the 4 bytes from `at` on.
+// The price in the bytes from `at` on.
 pub fn price_at(bytes: &[u8], at: usize) -> CentsPerMwh
-    requires { ⌜ at + 4 ≤ length (now bytes) ⌝ }
-    ensures { λ r. ⌜ r ≡ priceIn (take 4 (drop at (now (bytes .entry)))) ⌝ }
+    requires { ⌜ at + priceWidth ≤ length (now bytes) ⌝ }
+    ensures { λ r. ⌜ r ≡ priceIn (take priceWidth (drop at (now (bytes .entry)))) ⌝ }
 {
     CentsPerMwh(get_u32(bytes, at))
 }
 
-// The operator in the 10 bytes from `at` on.
+// The operator in the bytes from `at` on.
 pub fn operator_at(bytes: &[u8], at: usize) -> Operator
-    requires { ⌜ at + 10 ≤ length (now bytes) ⌝ }
-    ensures { λ r. ⌜ r ≡ operatorIn (take 10 (drop at (now (bytes .entry)))) ⌝ }
+    requires { ⌜ at + operatorEntry ≤ length (now bytes) ⌝ }
+    ensures { λ r. ⌜ r ≡ operatorIn (take operatorEntry (drop at (now (bytes .entry)))) ⌝ }
 {
     Operator {
         guarantee: Cents(get_u64(bytes, at)),
@@ -42,10 +47,10 @@ pub fn operator_at(bytes: &[u8], at: usize) -> Operator
     }
 }
 
-// The account in the 10 bytes from `at` on.
+// The account in the bytes from `at` on.
 pub fn account_at(bytes: &[u8], at: usize) -> Account
-    requires { ⌜ at + 10 ≤ length (now bytes) ⌝ }
-    ensures { λ r. ⌜ r ≡ accountIn (take 10 (drop at (now (bytes .entry)))) ⌝ }
+    requires { ⌜ at + accountEntry ≤ length (now bytes) ⌝ }
+    ensures { λ r. ⌜ r ≡ accountIn (take accountEntry (drop at (now (bytes .entry)))) ⌝ }
 {
     Account {
         operator: get_u8(bytes, at),
@@ -55,10 +60,10 @@ pub fn account_at(bytes: &[u8], at: usize) -> Account
     }
 }
 
-// The point in the 11 bytes from `at` on.
+// The point in the bytes from `at` on.
 pub fn point_at(bytes: &[u8], at: usize) -> Point
-    requires { ⌜ at + 11 ≤ length (now bytes) ⌝ }
-    ensures { λ r. ⌜ r ≡ pointIn (take 11 (drop at (now (bytes .entry)))) ⌝ }
+    requires { ⌜ at + pointEntry ≤ length (now bytes) ⌝ }
+    ensures { λ r. ⌜ r ≡ pointIn (take pointEntry (drop at (now (bytes .entry)))) ⌝ }
 {
     Point {
         account: get_u8(bytes, at),
@@ -74,7 +79,7 @@ pub fn estimate(setup: &[u8], hour: u8) -> CentsPerMwh
     requires { ⌜ Whole (now setup) × (1 ≤ hour) × (hour ≤ countsIn (now setup) .hours) ⌝ }
     ensures { λ r. ⌜ r ≡ nth (estimatesIn (now (setup .entry))) hour (centsPerMwh 0) ⌝ }
 {
-    price_at(setup, 5 + 4 * (hour as usize - 1))
+    price_at(setup, COUNTS_WIDTH + PRICE_WIDTH * (hour as usize - 1))
 }
 
 // The operator of a number, from 1.
@@ -83,7 +88,7 @@ pub fn operator(setup: &[u8], number: u8) -> Operator
     ensures { λ r. ⌜ r ≡ nth (operatorsIn (now (setup .entry))) number noOperator ⌝ }
 {
     let from = operators_from(counts(setup));
-    operator_at(setup, from + 10 * (number as usize - 1))
+    operator_at(setup, from + OPERATOR_ENTRY * (number as usize - 1))
 }
 
 // The account of a number, from 1.
@@ -92,7 +97,7 @@ pub fn account(setup: &[u8], number: u8) -> Account
     ensures { λ r. ⌜ r ≡ nth (accountsIn (now (setup .entry))) number noAccount ⌝ }
 {
     let from = accounts_from(counts(setup));
-    account_at(setup, from + 10 * (number as usize - 1))
+    account_at(setup, from + ACCOUNT_ENTRY * (number as usize - 1))
 }
 
 // The margins of the account of a number, from 1.
@@ -112,5 +117,5 @@ pub fn point(setup: &[u8], number: u8) -> Point
     ensures { λ r. ⌜ r ≡ nth (pointsIn (now (setup .entry))) number noPoint ⌝ }
 {
     let from = points_from(counts(setup));
-    point_at(setup, from + 11 * (number as usize - 1))
+    point_at(setup, from + POINT_ENTRY * (number as usize - 1))
 }

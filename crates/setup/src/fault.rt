@@ -3,6 +3,11 @@ ghost use mathlib.Core.Path.{_≡_};
 ghost use Rattle.rules.specs.Verdicts.{checked};
 ghost use Rattle.rules.specs.Opening.{operatorsIn, values, setupOf, setupRefusal};
 ghost use Rattle.setup.specs.Faults.{judged, estimateFaults, operatorFaults, accountFaults, pointFaults, Shaped};
+use crate::counts::ACCOUNT_ENTRY;
+use crate::counts::COUNTS_WIDTH;
+use crate::counts::OPERATOR_ENTRY;
+use crate::counts::POINT_ENTRY;
+use crate::counts::PRICE_WIDTH;
 use crate::counts::accounts_from;
 use crate::counts::counts;
 use crate::counts::operators_from;
@@ -26,14 +31,14 @@ fn estimate_faults(setup: &[u8], n: Counts) -> Checked
     requires { ⌜ Shaped n (now setup) ⌝ }
     ensures { λ r. ⌜ r ≡ estimateFaults (now (setup .entry)) ⌝ }
 {
-    let mut at: usize = 5;
+    let mut at: usize = COUNTS_WIDTH;
     let mut left = n.hours;
     while 0 < left {
         let x = price_at(setup, at);
         if let Checked::Fails(r) = estimate_fault(x, at) {
             return Checked::Fails(r);
         }
-        at = at + 4;
+        at = at + PRICE_WIDTH;
         left = left - 1;
     }
     Checked::Clear
@@ -51,7 +56,7 @@ fn operator_faults(setup: &[u8], n: Counts) -> Checked
         if let Checked::Fails(r) = operator_fault(x, at) {
             return Checked::Fails(r);
         }
-        at = at + 10;
+        at = at + OPERATOR_ENTRY;
         left = left - 1;
     }
     Checked::Clear
@@ -69,7 +74,7 @@ fn account_faults(setup: &[u8], n: Counts) -> Checked
         if let Checked::Fails(r) = account_fault(x, n.operators, at) {
             return Checked::Fails(r);
         }
-        at = at + 10;
+        at = at + ACCOUNT_ENTRY;
         left = left - 1;
     }
     Checked::Clear
@@ -88,7 +93,7 @@ fn point_faults(setup: &[u8], n: Counts) -> Checked
         if let Checked::Fails(r) = point_fault(setup, accounts, n.accounts, n.zones, x, at) {
             return Checked::Fails(r);
         }
-        at = at + 11;
+        at = at + POINT_ENTRY;
         left = left - 1;
     }
     Checked::Clear

@@ -1,6 +1,7 @@
 // The shape of set-up bytes.
 ghost use mathlib.Core.Path.{_≡_};
 ghost use Rattle.rules.specs.Opening.{badCounts, misshapen};
+use crate::counts::COUNTS_WIDTH;
 use crate::counts::counts;
 use crate::counts::length_of;
 use rules::Counts;
@@ -22,11 +23,11 @@ pub fn bad_counts(n: Counts) -> bool
         | !((1 <= n.zones) & (n.zones <= MOST_ZONES))
 }
 
-// Under 5 bytes, a count out of range, or a wrong length.
+// Fewer bytes than the counts have, a count out of range, or a wrong length.
 pub fn misshapen(setup: &[u8]) -> bool
     ensures { λ r. ⌜ r ≡ misshapen (now (setup .entry)) ⌝ }
 {
-    if setup.len() < 5 {
+    if setup.len() < COUNTS_WIDTH {
         return true;
     }
     let n = counts(setup);

@@ -4,8 +4,9 @@ ghost use Prim.Native.Nat.{_+_, _*_, _≤_, _<_, _^_};
 ghost use lib.ListN.{length, drop};
 ghost use Rattle.rules.specs.Basics.{entries, nth};
 ghost use Rattle.rules.specs.Books.{noAccount};
-ghost use Rattle.rules.specs.Opening.{accountIn, estimateValues, operatorValues, accountValues, pointValues};
+ghost use Rattle.rules.specs.Opening.{accountIn, estimateValues, operatorValues, accountValues, pointValues, accountEntry, priceWidth, operatorEntry, pointEntry};
 ghost use Rattle.setup.specs.Faults.{orElse, orFault, judgedFrom, judged, mostAmount, amountValues};
+use crate::counts::ACCOUNT_ENTRY;
 use crate::entries::account_at;
 use rules::Account;
 use rules::Checked;
@@ -42,7 +43,7 @@ fn or_fault(found: Checked, fine: bool, at: usize) -> Checked
 
 // The fault of the price that stands at `at`.
 pub fn estimate_fault(x: CentsPerMwh, at: usize) -> Checked
-    requires { ⌜ at + 4 ≤ 2 ^ 16 ⌝ }
+    requires { ⌜ at + priceWidth ≤ 2 ^ 16 ⌝ }
     ensures { λ r. ⌜ r ≡ judged (estimateValues at x) ⌝ }
 {
     or_fault(Checked::Clear, x.0 <= MOST_PRICE, at)
@@ -50,7 +51,7 @@ pub fn estimate_fault(x: CentsPerMwh, at: usize) -> Checked
 
 // The first fault of the operator that stands at `at`.
 pub fn operator_fault(x: Operator, at: usize) -> Checked
-    requires { ⌜ at + 10 ≤ 2 ^ 16 ⌝ }
+    requires { ⌜ at + operatorEntry ≤ 2 ^ 16 ⌝ }
     ensures { λ r. ⌜ r ≡ judged (operatorValues at x) ⌝ }
 {
     let guarantee = or_fault(Checked::Clear, x.guarantee.0 <= MOST_GUARANTEE, at);
@@ -59,7 +60,7 @@ pub fn operator_fault(x: Operator, at: usize) -> Checked
 
 // The first fault of the account that stands at `at`, in a set-up of that many operators.
 pub fn account_fault(x: Account, operators: u8, at: usize) -> Checked
-    requires { ⌜ at + 10 ≤ 2 ^ 16 ⌝ }
+    requires { ⌜ at + accountEntry ≤ 2 ^ 16 ⌝ }
     ensures { λ r. ⌜ r ≡ judged (accountValues operators at x) ⌝ }
 {
     let operator = or_fault(
@@ -74,8 +75,8 @@ pub fn account_fault(x: Account, operators: u8, at: usize) -> Checked
 
 // The kind of an account, of `n` that stand from `from` on; 0 for a number that none has.
 fn kind_of(setup: &[u8], from: usize, n: u8, number: u8) -> u8
-    requires { ⌜ from + 10 * n ≤ length (now setup) ⌝ }
-    ensures { λ r. ⌜ r ≡ nth (entries 10 accountIn n (drop from (now (setup .entry)))) number noAccount .kind ⌝ }
+    requires { ⌜ from + accountEntry * n ≤ length (now setup) ⌝ }
+    ensures { λ r. ⌜ r ≡ nth (entries accountEntry accountIn n (drop from (now (setup .entry)))) number noAccount .kind ⌝ }
 {
     if number < 1 {
         return 0;
@@ -83,7 +84,7 @@ fn kind_of(setup: &[u8], from: usize, n: u8, number: u8) -> u8
     if n < number {
         return 0;
     }
-    let x = account_at(setup, from + 10 * (number as usize - 1));
+    let x = account_at(setup, from + ACCOUNT_ENTRY * (number as usize - 1));
     x.kind
 }
 
@@ -96,7 +97,7 @@ fn most_amount(barred: bool) -> u32
 
 // What was found so far, or the fault of an amount of the point that stands at `at`: its kind may bar a direction.
 fn amounts_fault(found: Checked, x: Point, at: usize) -> Checked
-    requires { ⌜ at + 11 ≤ 2 ^ 16 ⌝ }
+    requires { ⌜ at + pointEntry ≤ 2 ^ 16 ⌝ }
     ensures { λ r. ⌜ r ≡ judgedFrom found (amountValues at x) ⌝ }
 {
     let injection = or_fault(found, x.injection.0 <= most_amount(x.kind == 2), at + 3);
@@ -109,8 +110,8 @@ fn amounts_fault(found: Checked, x: Point, at: usize) -> Checked
 
 // The first fault of the point that stands at `at`, in a set-up whose `n` accounts stand from `from` on.
 pub fn point_fault(setup: &[u8], from: usize, n: u8, zones: u8, x: Point, at: usize) -> Checked
-    requires { ⌜ (from + 10 * n ≤ length (now setup)) × (at + 11 ≤ 2 ^ 16) ⌝ }
-    ensures { λ r. ⌜ r ≡ judged (pointValues (entries 10 accountIn n (drop from (now (setup .entry)))) zones at x) ⌝ }
+    requires { ⌜ (from + accountEntry * n ≤ length (now setup)) × (at + pointEntry ≤ 2 ^ 16) ⌝ }
+    ensures { λ r. ⌜ r ≡ judged (pointValues (entries accountEntry accountIn n (drop from (now (setup .entry)))) zones at x) ⌝ }
 {
     let own = kind_of(setup, from, n, x.account);
     let account = or_fault(Checked::Clear, (1 <= x.account) & (x.account <= n), at);

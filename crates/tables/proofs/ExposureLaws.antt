@@ -16,7 +16,7 @@ use Rattle.rules.specs.declared.AccountHour.{AccountHour}
 use Rattle.rules.specs.Basics.{total, nth, counting, Each}
 use Rattle.rules.specs.Books.{noAccount}
 use Rattle.rules.specs.Limits.{mostPrice}
-use Rattle.rules.specs.Opening.{countsIn, setupOf, estimatesIn, accountsIn, accountIn, accountsFrom}
+use Rattle.rules.specs.Opening.{countsIn, setupOf, estimatesIn, accountsIn, accountIn, accountsFrom, accountEntry}
 use Rattle.rules.specs.Registration.{accountHour, exposed, ofOperator, exposureOf, exposure}
 use Rattle.rules.proofs.Basics.Searches.{each-nth}
 use Rattle.rules.proofs.Setups.SetupEntries.{length-entries, length-estimates}
@@ -65,4 +65,4 @@ share-of-others s rows o a account e d =
 pub exposure-by-account : (s : List ℕ) (rows : List Row) (o : ℕ)
     → exposure (setupOf s) rows o ≡ total (exposureShare (setupOf s) rows o) (counting (countsIn s .accounts) 1)
 unfolding exposureOf ofOperator setupOf exposureShare accountExposure accountsIn
-exposure-by-account s rows o = rw (length-entries 10 accountIn (countsIn s .accounts) (drop (accountsFrom (countsIn s)) s))
+exposure-by-account s rows o = rw (length-entries accountEntry accountIn (countsIn s .accounts) (drop (accountsFrom (countsIn s)) s))

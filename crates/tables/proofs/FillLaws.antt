@@ -1,5 +1,5 @@
 -- The table row by row: what it holds and the sums of the rows that are left make the sums of all rows.
-use Prim.Native.Nat.{ℕ, zero, suc, _+_, _*_, _^_, _≤_, _<_}
+use Prim.Native.Nat.{ℕ, zero, suc, _+_, _^_, _≤_, _<_}
 use mathlib.Core.Path.{_≡_, refl, ap, _∙_}
 use mathlib.Core.List.{List, [], _∷_}
 use native.Mathlib.Omega.{arith}
@@ -8,7 +8,7 @@ use Rattle.rules.specs.declared.Row.{Row}
 use Rattle.rules.specs.Basics.{total, Each, cons}
 use Rattle.rules.specs.Limits.{mostEnergy}
 use Rattle.rules.specs.Registration.{moved, waiting}
-use Rattle.image.specs.Tables.{slots, cellOf, InTable, Tabled, Room}
+use Rattle.image.specs.Tables.{cellOf, InTable, Tabled, Room, tableSize}
 use Rattle.image.proofs.Tables.SumLaws.{zero-at}
 use Rattle.tables.specs.Sums.{SumsOf, NoSums, Taken, laneSum}
 
@@ -43,7 +43,7 @@ pub record Filling (top : ℕ) (all left : List Row) (table : List ℕ) (most : 
   pub sums : (lane a h : ℕ) → lane ≤ 3 → InTable top a h → getD table (cellOf top lane a h) 0 + laneSum lane left a h ≡ laneSum lane all a h
   pub bounded : (k : ℕ) → getD table k 0 ≤ most
 
-pub none-of-zeros : (top n : ℕ) → slots * top ≤ n → NoSums top (replicate n 0)
+pub none-of-zeros : (top n : ℕ) → tableSize top ≤ n → NoSums top (replicate n 0)
 none-of-zeros top n h = record { whole = omega (arith, length-replicate {A = ℕ} n 0); zeros = zero-at n }
 
 pub filling-none : {top : ℕ} (table : List ℕ) (rows : List Row) (most : ℕ) → NoSums top table → Filling top rows rows table most
@@ -68,7 +68,7 @@ filling-next all left rest before after most more r e d t w f =
     }
 
 -- a table whose cells are these lane sums
-pub sums-by : {top : ℕ} {rows : List Row} (table : List ℕ) → slots * top ≤ length table → ((k : ℕ) → getD table k 0 < 2 ^ 32)
+pub sums-by : {top : ℕ} {rows : List Row} (table : List ℕ) → tableSize top ≤ length table → ((k : ℕ) → getD table k 0 < 2 ^ 32)
     → ((lane : ℕ) → lane ≤ 3 → (a h : ℕ) → InTable top a h → getD table (cellOf top lane a h) 0 ≡ laneSum lane rows a h) → SumsOf top rows table
 unfolding laneSum
 sums-by table n small at =
@@ -81,7 +81,7 @@ sums-by table n small at =
       purchases-at = at 3 (omega arith);
     }
 
-pub filling-done : {top : ℕ} (all left : List Row) (table : List ℕ) (most : ℕ) → left ≡ [] → slots * top ≤ length table → most < 2 ^ 32
+pub filling-done : {top : ℕ} (all left : List Row) (table : List ℕ) (most : ℕ) → left ≡ [] → tableSize top ≤ length table → most < 2 ^ 32
     → Filling top all left table most → SumsOf top all table
 filling-done all left table most e n h f =
     sums-by table n (λ k. omega (arith, f .bounded k)) (λ lane l a h i.

@@ -8,7 +8,7 @@ use Rattle.rules.specs.declared.Margins.{Margins}
 use Rattle.rules.specs.declared.Row.{Row}
 use Rattle.rules.specs.Basics.{every, nth, counting, upTo}
 use Rattle.rules.specs.Books.{noAccount, marginsOf}
-use Rattle.rules.specs.Opening.{countsIn, setupOf, accountsIn, accountIn, accountsFrom}
+use Rattle.rules.specs.Opening.{countsIn, setupOf, accountsIn, accountIn, accountsFrom, accountEntry}
 use Rattle.rules.specs.Registration.{accountHour, keepsMargins}
 use Rattle.rules.proofs.Setups.SetupEntries.{length-entries}
 use Rattle.image.specs.Valid.{marginsKept}
@@ -20,7 +20,7 @@ accountKeeps rows margins hours a = every (λ h. keepsMargins margins (accountHo
 pub margins-by-account : (s : List ℕ) (rows : List Row)
     → marginsKept (setupOf s) rows ≡ every (λ a. accountKeeps rows (marginsOf (nth (accountsIn s) a noAccount)) (countsIn s .hours) a) (counting (countsIn s .accounts) 1)
 unfolding marginsKept setupOf accountKeeps accountsIn
-margins-by-account s rows = rw (length-entries 10 accountIn (countsIn s .accounts) (drop (accountsFrom (countsIn s)) s))
+margins-by-account s rows = rw (length-entries accountEntry accountIn (countsIn s .accounts) (drop (accountsFrom (countsIn s)) s))
 
 -- the test of an account that was read
 pub account-kept : (rows : List Row) (margins read : Margins) (hours count a : ℕ) {t : Bool} → read ≡ margins → count ≡ hours

@@ -9,14 +9,15 @@ use lib.Dec.{eqb}
 use Rattle.wire.specs.Numbers.{numberAt}
 use Rattle.rules.specs.declared.Row.{Row}
 use Rattle.rules.specs.Basics.{if_then_else_, total, every, upTo}
-use Rattle.rules.specs.Limits.{mostAccounts, mostHours}
+use Rattle.rules.specs.Limits.{mostAccounts}
 use Rattle.rules.specs.Books.{Setup, estimateAt, operatorOf, periods}
 use Rattle.rules.specs.Registration.{bought, sold, pendingSales, pendingPurchases, accountHour, exposed}
-use Rattle.image.specs.Tables.{slots, cellOf, placeOf, InTable}
+use Rattle.image.specs.Tables.{cellOf, placeOf, InTable, tableSize}
+use Rattle.image.specs.Layout.{netWidth}
 
 -- the table holds the sums of these rows, and each fits its 32 bits
 pub record SumsOf (top : ℕ) (rows : List Row) (table : List ℕ) : Type 0 where
-  pub whole : slots * top ≤ length table
+  pub whole : tableSize top ≤ length table
   pub small : (k : ℕ) → getD table k 0 < 2 ^ 32
   pub bought-at : (a h : ℕ) → InTable top a h → getD table (cellOf top 0 a h) 0 ≡ bought rows a h
   pub sold-at : (a h : ℕ) → InTable top a h → getD table (cellOf top 1 a h) 0 ≡ sold rows a h
@@ -27,7 +28,7 @@ pub record SumsOf (top : ℕ) (rows : List Row) (table : List ℕ) : Type 0 wher
 
 -- a table of no rows
 pub record NoSums (top : ℕ) (table : List ℕ) : Type 0 where
-  pub whole : slots * top ≤ length table
+  pub whole : tableSize top ≤ length table
   pub zeros : (k : ℕ) → getD table k 0 ≡ 0
 
 -- what a lane is the sum of
@@ -49,7 +50,7 @@ pub record Taken (top : ℕ) (before after : List ℕ) (r : Row) : Type 0 where
 unfoldable pub netStored : ℕ → List ℕ → ℕ → List ℕ → ℕ → ℕ → Bool
 netStored top s at table a h =
     eqb
-    ((numberAt s (at + 4 * placeOf top a h) 4 + getD table (cellOf top 1 a h) 0) % 2 ^ 32)
+    ((numberAt s (at + netWidth * placeOf top a h) netWidth + getD table (cellOf top 1 a h) 0) % 2 ^ 32)
     (getD table (cellOf top 0 a h) 0 % 2 ^ 32)
 
 unfoldable pub netsStored : ℕ → List ℕ → ℕ → List ℕ → Bool

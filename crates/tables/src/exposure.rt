@@ -5,13 +5,13 @@ ghost use Prim.Native.Nat.{_-_, _*_, _^_, _≤_};
 ghost use lib.ListN.{length};
 ghost use Rattle.rules.specs.declared.Row.{Row};
 ghost use Rattle.rules.specs.Basics.{Each};
-ghost use Rattle.rules.specs.Limits.{mostAccounts, mostHours, mostPrice};
+ghost use Rattle.rules.specs.Limits.{mostAccounts, mostPrice};
 ghost use Rattle.rules.specs.Opening.{countsIn, setupOf, estimatesIn};
 ghost use Rattle.rules.specs.Registration.{exposed, exposure};
-ghost use Rattle.image.specs.Tables.{SetupTabled};
+ghost use Rattle.image.specs.Tables.{SetupTabled, tableSize};
+ghost use Rattle.image.specs.Layout.{mostPeriods};
 ghost use Rattle.tables.specs.Sums.{SumsOf, accountExposure, exposureShare};
 use crate::sums::account_hour;
-use image::layout::PERIODS;
 use rules::AccountHour;
 use rules::hours::short;
 use setup::counts::counts;
@@ -32,16 +32,16 @@ fn hour_exposure(x: AccountHour, price: CentsPerMwh) -> MilliCents
 }
 
 // The exposure of an account over all hours, at the estimated prices.
-fn account_exposure(book: &[u8], table: &[u32], number: u8) -> MilliCents
-    requires { ⌜ SetupTabled (now book) × Each (λ p. p .0 ≤ mostPrice) (estimatesIn (now book)) × (length (now table) ≡ 3200) × (1 ≤ number) × (number ≤ mostAccounts) ⌝ }
-    ensures meaning { λ r. ⌜ ((rows : List Row) → SumsOf mostHours rows (now (table .entry)) → r .0 ≡ accountExposure (setupOf (now (book .entry))) rows number) ⌝ }
-    ensures bounded { λ r. ⌜ r .0 ≤ mostHours * (mostPrice * 2 ^ 33) ⌝ }
+fn account_exposure(book: &[u8], table: &[u32], top: usize, number: u8) -> MilliCents
+    requires { ⌜ SetupTabled top (now book) × Each (λ p. p .0 ≤ mostPrice) (estimatesIn (now book)) × (tableSize top ≤ length (now table)) × (top ≤ mostPeriods) × (1 ≤ number) × (number ≤ mostAccounts) ⌝ }
+    ensures meaning { λ r. ⌜ ((rows : List Row) → SumsOf top rows (now (table .entry)) → r .0 ≡ accountExposure (setupOf (now (book .entry))) rows number) ⌝ }
+    ensures bounded { λ r. ⌜ r .0 ≤ mostPeriods * (mostPrice * 2 ^ 33) ⌝ }
 {
     let n = counts(book);
     let mut sum = MilliCents(0);
     let mut hour: u8 = 1;
     while hour <= n.hours {
-        let x = account_hour(table, PERIODS, number, hour);
+        let x = account_hour(table, top, number, hour);
         let price = estimate(book, hour);
         sum = sum.plus(hour_exposure(x, price));
         hour = hour + 1;
@@ -50,28 +50,28 @@ fn account_exposure(book: &[u8], table: &[u32], number: u8) -> MilliCents
 }
 
 // What an account adds to the operator's exposure: nothing where it is another's.
-fn exposure_share(book: &[u8], table: &[u32], number: u8, operator: u8) -> MilliCents
-    requires { ⌜ SetupTabled (now book) × Each (λ p. p .0 ≤ mostPrice) (estimatesIn (now book)) × (length (now table) ≡ 3200) × (1 ≤ number) × (number ≤ countsIn (now book) .accounts) ⌝ }
-    ensures meaning { λ r. ⌜ ((rows : List Row) → SumsOf mostHours rows (now (table .entry)) → r .0 ≡ exposureShare (setupOf (now (book .entry))) rows operator number) ⌝ }
-    ensures bounded { λ r. ⌜ r .0 ≤ mostHours * (mostPrice * 2 ^ 33) ⌝ }
+fn exposure_share(book: &[u8], table: &[u32], top: usize, number: u8, operator: u8) -> MilliCents
+    requires { ⌜ SetupTabled top (now book) × Each (λ p. p .0 ≤ mostPrice) (estimatesIn (now book)) × (tableSize top ≤ length (now table)) × (top ≤ mostPeriods) × (1 ≤ number) × (number ≤ countsIn (now book) .accounts) ⌝ }
+    ensures meaning { λ r. ⌜ ((rows : List Row) → SumsOf top rows (now (table .entry)) → r .0 ≡ exposureShare (setupOf (now (book .entry))) rows operator number) ⌝ }
+    ensures bounded { λ r. ⌜ r .0 ≤ mostPeriods * (mostPrice * 2 ^ 33) ⌝ }
 {
     let owner = account(book, number);
     if owner.operator == operator {
-        return account_exposure(book, table, number);
+        return account_exposure(book, table, top, number);
     }
     MilliCents(0)
 }
 
 // The exposure of an operator.
-pub fn exposure_of(book: &[u8], table: &[u32], operator: u8) -> MilliCents
-    requires { ⌜ SetupTabled (now book) × Each (λ p. p .0 ≤ mostPrice) (estimatesIn (now book)) × (length (now table) ≡ 3200) ⌝ }
-    ensures { λ r. ⌜ ((rows : List Row) → SumsOf mostHours rows (now (table .entry)) → r .0 ≡ exposure (setupOf (now (book .entry))) rows operator) ⌝ }
+pub fn exposure_of(book: &[u8], table: &[u32], top: usize, operator: u8) -> MilliCents
+    requires { ⌜ SetupTabled top (now book) × Each (λ p. p .0 ≤ mostPrice) (estimatesIn (now book)) × (tableSize top ≤ length (now table)) × (top ≤ mostPeriods) ⌝ }
+    ensures { λ r. ⌜ ((rows : List Row) → SumsOf top rows (now (table .entry)) → r .0 ≡ exposure (setupOf (now (book .entry))) rows operator) ⌝ }
 {
     let n = counts(book);
     let mut sum = MilliCents(0);
     let mut number: u8 = 1;
     while number <= n.accounts {
-        sum = sum.plus(exposure_share(book, table, number, operator));
+        sum = sum.plus(exposure_share(book, table, top, number, operator));
         number = number + 1;
     }
     sum

@@ -5,16 +5,15 @@ ghost use Prim.Native.Nat.{_+_, _-_, _*_, _≤_, _<_};
 ghost use lib.ListN.{length, getD};
 ghost use Rattle.rules.specs.declared.Row.{Row};
 ghost use Rattle.rules.specs.Basics.{every, upTo, Each};
-ghost use Rattle.rules.specs.Limits.{mostAccounts, mostHours};
+ghost use Rattle.rules.specs.Limits.{mostAccounts, mostHours, mostRows};
 ghost use Rattle.rules.specs.Registration.{accountHour};
-ghost use Rattle.image.specs.Layout.{mostPeriods, accountWidth};
+ghost use Rattle.image.specs.Layout.{mostPeriods, accountWidth, rowWidth};
 ghost use Rattle.image.specs.Cells.{rowsFrom};
-ghost use Rattle.image.specs.Tables.{slots, placeOf, cellOf, Inside, InTable, Tabled, Room, Raised};
+ghost use Rattle.image.specs.Tables.{slots, placeOf, cellOf, Inside, InTable, Tabled, Room, Raised, tableSize};
 ghost use Rattle.tables.specs.Sums.{SumsOf, NoSums, Taken, netStored, netsStored};
 use image::cells::add_range;
 use image::layout::LANE_SLOTS;
 use image::layout::NET_WIDTH;
-use image::layout::PERIODS;
 use image::layout::ROW_WIDTH;
 use image::layout::TABLE_SIZE;
 use image::layout::TURN;
@@ -24,6 +23,7 @@ use rules::Net;
 use rules::Row;
 use rules::hours::pick;
 use rules::limits::MOST_ACCOUNTS;
+use rules::limits::PERIODS;
 use units::Kwh;
 use wire::numbers::get_u32;
 
@@ -54,7 +54,7 @@ fn place(top: usize, account: u8, hour: u8) -> usize
 
 // Adds the row's quantity to the account's cells of its hours in a lane.
 fn add_hours(table: &mut [u32], top: usize, lane: usize, account: u8, r: Row)
-    requires { ⌜ (slots * top ≤ length (now table)) × (lane ≤ 3) × (1 ≤ account) × (account ≤ mostAccounts) × Tabled top r × Room (now table) (top * (mostAccounts * lane)) (r .quantity .0) × (top ≤ mostPeriods) ⌝ }
+    requires { ⌜ (tableSize top ≤ length (now table)) × (lane ≤ 3) × (1 ≤ account) × (account ≤ mostAccounts) × Tabled top r × Room (now table) (top * (mostAccounts * lane)) (r .quantity .0) × (top ≤ mostPeriods) ⌝ }
     ensures { λ _. ⌜ Raised (now (table .entry)) (now (table .exit)) (cellOf top lane account (r .first)) (r .last - r .first + 1) (r .quantity .0) ⌝ }
 {
     let at = cell(top, lane, account, r.first);
@@ -65,7 +65,7 @@ fn add_hours(table: &mut [u32], top: usize, lane: usize, account: u8, r: Row)
 
 // A confirmed row: its buyer bought, and its seller sold.
 fn take_confirmed(table: &mut [u32], top: usize, r: Row)
-    requires { ⌜ (slots * top ≤ length (now table)) × Tabled top r × Room (now table) 0 (r .quantity .0) × (r .status ≡ 2) × (top ≤ mostPeriods) ⌝ }
+    requires { ⌜ (tableSize top ≤ length (now table)) × Tabled top r × Room (now table) 0 (r .quantity .0) × (r .status ≡ 2) × (top ≤ mostPeriods) ⌝ }
     ensures { λ _. ⌜ Taken top (now (table .entry)) (now (table .exit)) r ⌝ }
 {
     let buyer = pick(r.side == 1, r.counterparty, r.proposer);
@@ -76,7 +76,7 @@ fn take_confirmed(table: &mut [u32], top: usize, r: Row)
 
 // A pending row: it waits on its proposer, as a sale or as a purchase.
 fn take_pending(table: &mut [u32], top: usize, r: Row)
-    requires { ⌜ (slots * top ≤ length (now table)) × Tabled top r × Room (now table) 0 (r .quantity .0) × (r .status ≡ 1) × (top ≤ mostPeriods) ⌝ }
+    requires { ⌜ (tableSize top ≤ length (now table)) × Tabled top r × Room (now table) 0 (r .quantity .0) × (r .status ≡ 1) × (top ≤ mostPeriods) ⌝ }
     ensures { λ _. ⌜ Taken top (now (table .entry)) (now (table .exit)) r ⌝ }
 {
     if r.side == 1 {
@@ -88,7 +88,7 @@ fn take_pending(table: &mut [u32], top: usize, r: Row)
 
 // One row more. A withdrawn one counts for nobody.
 fn take_row(table: &mut [u32], top: usize, r: Row)
-    requires { ⌜ (slots * top ≤ length (now table)) × Tabled top r × Room (now table) 0 (r .quantity .0) × (top ≤ mostPeriods) ⌝ }
+    requires { ⌜ (tableSize top ≤ length (now table)) × Tabled top r × Room (now table) 0 (r .quantity .0) × (top ≤ mostPeriods) ⌝ }
     ensures { λ _. ⌜ Taken top (now (table .entry)) (now (table .exit)) r ⌝ }
 {
     if r.status == 2 {
@@ -107,7 +107,7 @@ fn zeros() -> [u32; TABLE_SIZE]
 
 // Takes the `n` rows that stand from `at` on into a table of no rows.
 fn fill(table: &mut [u32], top: usize, s: &[u8], at: usize, n: usize)
-    requires { ⌜ NoSums top (now table) × (at + 18 * n ≤ length (now s)) × (n ≤ 256) × Each (Tabled top) (rowsFrom (now s) at n) × (top ≤ mostPeriods) ⌝ }
+    requires { ⌜ NoSums top (now table) × (at + rowWidth * n ≤ length (now s)) × (n ≤ mostRows) × Each (Tabled top) (rowsFrom (now s) at n) × (top ≤ mostPeriods) ⌝ }
     ensures { λ _. ⌜ SumsOf top (rowsFrom (now (s .entry)) at n) (now (table .exit)) ⌝ }
 {
     let mut place = at;
@@ -122,7 +122,7 @@ fn fill(table: &mut [u32], top: usize, s: &[u8], at: usize, n: usize)
 
 // The sums of all account hours by the `n` rows that stand from `at` on.
 pub fn sums_of(s: &[u8], at: usize, n: usize) -> [u32; TABLE_SIZE]
-    requires { ⌜ (at + 18 * n ≤ length (now s)) × (n ≤ 256) × Each (Tabled mostHours) (rowsFrom (now s) at n) ⌝ }
+    requires { ⌜ (at + rowWidth * n ≤ length (now s)) × (n ≤ mostRows) × Each (Tabled mostHours) (rowsFrom (now s) at n) ⌝ }
     ensures { λ r. ⌜ SumsOf mostHours (rowsFrom (now (s .entry)) at n) r ⌝ }
 {
     let mut table = zeros();
@@ -132,7 +132,7 @@ pub fn sums_of(s: &[u8], at: usize, n: usize) -> [u32; TABLE_SIZE]
 
 // The sum that a lane holds for an account hour.
 fn sum_at(table: &[u32], top: usize, lane: usize, account: u8, hour: u8) -> u32
-    requires { ⌜ (slots * top ≤ length (now table)) × (lane ≤ 3) × InTable top account hour × (top ≤ mostPeriods) ⌝ }
+    requires { ⌜ (tableSize top ≤ length (now table)) × (lane ≤ 3) × InTable top account hour × (top ≤ mostPeriods) ⌝ }
     ensures { λ r. ⌜ r ≡ getD (now (table .entry)) (cellOf top lane account hour) 0 ⌝ }
 {
     let k = cell(top, lane, account, hour);
@@ -141,7 +141,7 @@ fn sum_at(table: &[u32], top: usize, lane: usize, account: u8, hour: u8) -> u32
 
 // What an account holds in an hour.
 pub fn account_hour(table: &[u32], top: usize, account: u8, hour: u8) -> AccountHour
-    requires { ⌜ (slots * top ≤ length (now table)) × InTable top account hour × (top ≤ mostPeriods) ⌝ }
+    requires { ⌜ (tableSize top ≤ length (now table)) × InTable top account hour × (top ≤ mostPeriods) ⌝ }
     ensures { λ r. ⌜ ((rows : List Row) → SumsOf top rows (now (table .entry)) → r ≡ accountHour rows account hour) ⌝ }
 {
     let net = Net {
@@ -157,7 +157,7 @@ pub fn account_hour(table: &[u32], top: usize, account: u8, hour: u8) -> Account
 
 // Whether the 4 bytes of a net position are what the account bought in the hour less what it sold.
 fn net_kept(s: &[u8], nets: usize, table: &[u32], top: usize, account: u8, hour: u8) -> bool
-    requires { ⌜ (nets + mostAccounts * accountWidth top ≤ length (now s)) × (slots * top ≤ length (now table)) × InTable top account hour × (top ≤ mostPeriods) ⌝ }
+    requires { ⌜ (nets + mostAccounts * accountWidth top ≤ length (now s)) × (tableSize top ≤ length (now table)) × InTable top account hour × (top ≤ mostPeriods) ⌝ }
     ensures { λ r. ⌜ r ≡ netStored top (now (s .entry)) nets (now (table .entry)) account hour ⌝ }
 {
     let at = nets + NET_WIDTH * place(top, account, hour);
@@ -169,7 +169,7 @@ fn net_kept(s: &[u8], nets: usize, table: &[u32], top: usize, account: u8, hour:
 
 // The same for all hours of an account.
 fn account_nets_kept(s: &[u8], nets: usize, table: &[u32], top: usize, account: u8) -> bool
-    requires { ⌜ (nets + mostAccounts * accountWidth top ≤ length (now s)) × (slots * top ≤ length (now table)) × (1 ≤ account) × (account ≤ mostAccounts) × (top ≤ mostPeriods) ⌝ }
+    requires { ⌜ (nets + mostAccounts * accountWidth top ≤ length (now s)) × (tableSize top ≤ length (now table)) × (1 ≤ account) × (account ≤ mostAccounts) × (top ≤ mostPeriods) ⌝ }
     ensures { λ r. ⌜ r ≡ every (netStored top (now (s .entry)) nets (now (table .entry)) account) (upTo top) ⌝ }
 {
     let mut hour: u8 = 1;
@@ -185,7 +185,7 @@ fn account_nets_kept(s: &[u8], nets: usize, table: &[u32], top: usize, account: 
 
 // Whether all net positions that stand from `nets` on are those of the table.
 pub fn nets_kept(s: &[u8], nets: usize, table: &[u32], top: usize) -> bool
-    requires { ⌜ (nets + mostAccounts * accountWidth top ≤ length (now s)) × (slots * top ≤ length (now table)) × (top ≤ mostPeriods) ⌝ }
+    requires { ⌜ (nets + mostAccounts * accountWidth top ≤ length (now s)) × (tableSize top ≤ length (now table)) × (top ≤ mostPeriods) ⌝ }
     ensures { λ r. ⌜ r ≡ netsStored top (now (s .entry)) nets (now (table .entry)) ⌝ }
 {
     let mut account: u8 = 1;

@@ -14,6 +14,7 @@ use Rattle.items.specs.Stream.{recordLength}
 use Rattle.items.proofs.StreamLaws.{call-parts}
 use Rattle.image.specs.Valid.{isBook, bookBytes, bookIn}
 use Rattle.day.specs.Doors.{callAnswer, callWith}
+use Rattle.settlement.specs.Tables.{balanceWidth}
 use Rattle.day.proofs.DoorLaws.{call-on-book}
 use Rattle.day.proofs.CallLaws.{BookInParts}
 
@@ -23,14 +24,14 @@ module _ (s item : List ℕ) (h : isBook s ≡ true) where
   rest-whole n = take-all (length item - n) (drop n item) (omega (arith, length-drop n item))
 
   called-as : {n : ℕ} {results balances : List ℕ} → n ≡ recordLength item → results ≡ replicate mostSchedules 0
-      → balances ≡ replicate (8 * mostOperators) 0
+      → balances ≡ replicate (balanceWidth * mostOperators) 0
       → callAnswer s (callWith (take n item) (take (length item - n) (drop n item)) results balances) ≡ carried bookBytes (step (bookIn s) (callOf item))
   called-as {n} en er eb =
       call-on-book s _ h ∙ rw (rest-whole n, en, er, eb) (ap (λ (c : Call). carried bookBytes (step (bookIn s) c)) (sym (call-parts item)))
 
   -- a call with them is the item's
   pub item-called : {n : ℕ} {results balances : List ℕ} → n ≡ recordLength item → results ≡ replicate mostSchedules 0
-      → balances ≡ replicate (8 * mostOperators) 0 → {o : Outcome} {t rs bs : List ℕ}
+      → balances ≡ replicate (balanceWidth * mostOperators) 0 → {o : Outcome} {t rs bs : List ℕ}
       → BookInParts (callAnswer s (callWith (take n item) (take (length item - n) (drop n item)) results balances)) o t rs bs
       → BookInParts (carried bookBytes (step (bookIn s) (callOf item))) o t rs bs
   item-called en er eb x = rw (called-as en er eb) at x

@@ -13,6 +13,7 @@ ghost use Rattle.rules.specs.Replay.{callOf, answerLines, text};
 ghost use Rattle.items.specs.Written.{Written, lineRoom};
 ghost use Rattle.items.specs.Figures.{SmallFigure};
 ghost use Rattle.image.specs.Valid.{isBook, bookIn, bookBytes};
+ghost use Rattle.settlement.specs.Tables.{balanceWidth};
 ghost use Rattle.walk.specs.Lent.{stepRoom, answerText};
 use book::state::schedule_count;
 use day::calls::call_in;
@@ -22,17 +23,19 @@ use items::stream::record_length;
 use rules::Outcome;
 use rules::Verdict;
 use rules::kinds::SETTLE;
+use rules::limits::MOST_OPERATORS;
 use rules::limits::MOST_SCHEDULES;
 use rules::verdicts::outcome_numbers;
+use settlement::balances::BALANCE_WIDTH;
 use setup::counts::counts;
 
 // Bytes of the balances of the most operators.
-const MOST_BALANCES: usize = 128;
+const MOST_BALANCES: usize = BALANCE_WIDTH * (MOST_OPERATORS as usize);
 
 // Calls the book with an item's record and prices, which are its two parts.
 fn call_item(item: &[u8], book: &mut [u8], results: &mut [u8], balances: &mut [u8]) -> Outcome
     requires { ⌜ isBook (now book) ≡ true ⌝ }
-    requires { ⌜ (now results ≡ replicate mostSchedules 0) × (now balances ≡ replicate (8 * mostOperators) 0) ⌝ }
+    requires { ⌜ (now results ≡ replicate mostSchedules 0) × (now balances ≡ replicate (balanceWidth * mostOperators) 0) ⌝ }
     ensures answer { λ o. ⌜ o ≡ step (bookIn (now (book .entry))) (callOf (now (item .entry))) .outcome ⌝ }
     ensures book { λ _. ⌜ now (book .exit) ≡ bookBytes (step (bookIn (now (book .entry))) (callOf (now (item .entry))) .book) ⌝ }
     ensures results { λ _. ⌜ now (results .exit) ≡ step (bookIn (now (book .entry))) (callOf (now (item .entry))) .results ⌝ }
@@ -69,7 +72,7 @@ fn put_answer(
     balances: &[u8],
     m: usize,
 ) -> usize
-    requires { ⌜ (n ≤ length (now results)) × (m ≤ mostOperators) × (8 * m ≤ length (now balances)) × (lineRoom * (n + m + 2) ≤ length (now out)) ⌝ }
+    requires { ⌜ (n ≤ length (now results)) × (m ≤ mostOperators) × (balanceWidth * m ≤ length (now balances)) × (lineRoom * (n + m + 2) ≤ length (now out)) ⌝ }
     requires { ⌜ (settled ≡ true → Each SmallFigure (figuresIn m (now balances))) ⌝ }
     ensures { λ r. ⌜ Written (now (out .entry)) 0 (answerText number outcome settled n (now (results .entry)) m (now (balances .entry))) (now (out .exit)) r ⌝ }
     ensures { λ r. ⌜ r ≤ lineRoom * (n + m + 2) ⌝ }
@@ -93,7 +96,7 @@ fn answer_with(
 ) -> usize
     requires { ⌜ isBook (now book) ≡ true ⌝ }
     requires { ⌜ stepRoom ≤ length (now out) ⌝ }
-    requires { ⌜ (now results ≡ replicate mostSchedules 0) × (now balances ≡ replicate (8 * mostOperators) 0) ⌝ }
+    requires { ⌜ (now results ≡ replicate mostSchedules 0) × (now balances ≡ replicate (balanceWidth * mostOperators) 0) ⌝ }
     ensures lines { λ r. ⌜ Written (now (out .entry)) 0 (text (answerLines number (bookIn (now (book .entry))) (callOf (now (item .entry))))) (now (out .exit)) r ⌝ }
     ensures bound { λ r. ⌜ r ≤ stepRoom ⌝ }
     ensures book { λ _. ⌜ now (book .exit) ≡ bookBytes (step (bookIn (now (book .entry))) (callOf (now (item .entry))) .book) ⌝ }

@@ -18,6 +18,8 @@ use items::lines::put_cut;
 use items::lines::put_long;
 use items::reader::next_item;
 use rules::Verdict;
+use rules::limits::MOST_OPERATORS;
+use rules::limits::MOST_SCHEDULES;
 use rules::verdicts::outcome_numbers;
 
 // Bytes of the longest stream that is replayed.
@@ -26,8 +28,11 @@ const LONGEST_STREAM: usize = 65_536;
 // One byte more, which tells that a stream is longer.
 pub const STREAM_ROOM: usize = LONGEST_STREAM + 1;
 
-// Room for the lines of any step.
-pub const STEP_ROOM: usize = 23_016;
+// Room for any line.
+const LINE_ROOM: usize = 84;
+
+// Room for the lines of any step: one for the item, for each schedule, for each operator, and for the total.
+pub const STEP_ROOM: usize = LINE_ROOM * (MOST_SCHEDULES + MOST_OPERATORS as usize + 2);
 
 // The walk ends, with lines up to `end`.
 fn ended(end: usize) -> Walked

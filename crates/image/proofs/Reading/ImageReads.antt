@@ -19,8 +19,9 @@ use Rattle.rules.specs.Basics.{upTo}
 use Rattle.rules.specs.Limits.{mostOperators, mostAccounts, mostRows, mostSchedules}
 use Rattle.rules.specs.Books.{Part, Book, noRow}
 use Rattle.rules.specs.Registration.{bought, sold, netOf, figure}
+use Rattle.rules.specs.Opening.{guaranteeWidth}
 use Rattle.rules.proofs.Basics.Searches.{counting-length}
-use Rattle.image.specs.Layout.{setupRoom, rowWidths, rowWidth, scheduleWidths, scheduleWidth, accountWidth, partWidths, partSize, bookWidths, phaseAt, flagAt, scheduleCountAt, schedulesAt, presentAt, savedAt, guaranteesAt, rowCountAt, rowAt, netAt}
+use Rattle.image.specs.Layout.{setupRoom, rowWidths, rowWidth, scheduleWidths, scheduleWidth, accountWidth, partWidths, partSize, bookWidths, phaseAt, flagAt, scheduleCountAt, schedulesAt, presentAt, savedAt, guaranteesAt, rowCountAt, rowAt, netAt, netWidth}
 use Rattle.image.specs.Image.{rowValues, rowBytes, scheduleValues, scheduleBytes, accountNets, netsBytes, partSections, partBytes, flag, savedBytes, storedSetup, sectionsWith, sections, image}
 use Rattle.image.proofs.Writing.Sizes.{PartFits, Fits, length-row, length-schedule, length-guarantee, length-account, wide-part, wide-book}
 use Rattle.image.proofs.Writing.Nets.{upTo-at, nets-end}
@@ -40,23 +41,23 @@ part-end (w ∷ ws) (suc k) = let ih = part-end ws k in omega arith
 -- ---- in a part
 
 nets-read : (top : ℕ) (rows : List Row) (a h at : ℕ) → 1 ≤ a → a ≤ mostAccounts → 1 ≤ h → h ≤ top
-    → at ≡ accountWidth top * (a - 1) + 4 * (h - 1)
-    → take 4 (drop at (netsBytes top rows)) ≡ signed 4 (figure (netOf rows a h))
+    → at ≡ accountWidth top * (a - 1) + netWidth * (h - 1)
+    → take netWidth (drop at (netsBytes top rows)) ≡ signed netWidth (figure (netOf rows a h))
 unfolding netsBytes accountNets
 nets-read top rows a h at a1 a2 h1 h2 e =
     let hours : ℕ → List ℕ = accountNets top rows in
-    let net : ℕ → List ℕ = λ k. signed 4 (figure (netOf rows a k)) in
+    let net : ℕ → List ℕ = λ k. signed netWidth (figure (netOf rows a k)) in
     let ea : suc (a - 1) ≡ a = omega arith in
     let eh : suc (h - 1) ≡ h = omega arith in
     let ga : getD (map hours (upTo mostAccounts)) (a - 1) [] ≡ hours a = upTo-at hours mostAccounts (a - 1) (omega arith) ∙ ap hours ea in
     let gh : getD (map net (upTo top)) (h - 1) [] ≡ net h = upTo-at net top (h - 1) (omega arith) ∙ ap net eh in
     read-cell (accountWidth top) (map hours (upTo mostAccounts)) (uniform-map (accountWidth top) hours (upTo mostAccounts) (length-account top rows))
-    (a - 1) (4 * (h - 1)) 4 at (omega (arith, length-map (upTo mostAccounts) hours, counting-length mostAccounts 1)) (omega arith) e
-    ∙ ap (λ (x : List ℕ). take 4 (drop (4 * (h - 1)) x)) ga
-    ∙ read-cell 4 (map net (upTo top)) (uniform-map 4 net (upTo top) (λ k. length-signed 4 _)) (h - 1) 0 4 (4 * (h - 1))
+    (a - 1) (netWidth * (h - 1)) 4 at (omega (arith, length-map (upTo mostAccounts) hours, counting-length mostAccounts 1)) (omega arith) e
+    ∙ ap (λ (x : List ℕ). take netWidth (drop (netWidth * (h - 1)) x)) ga
+    ∙ read-cell 4 (map net (upTo top)) (uniform-map netWidth net (upTo top) (λ k. length-signed netWidth _)) (h - 1) 0 4 (netWidth * (h - 1))
     (omega (arith, length-map (upTo top) net, counting-length top 1)) (omega arith) (omega arith)
     ∙ ap (take 4) gh
-    ∙ take-all 4 (net h) (omega (arith, length-signed 4 (figure (netOf rows a h))))
+    ∙ take-all 4 (net h) (omega (arith, length-signed netWidth (figure (netOf rows a h))))
 
 module _ (top : ℕ) (p : Part) (f : PartFits p) where
   pub part-row-count : numberAt (partBytes top p) rowCountAt 2 ≡ length (p .rows)
@@ -75,22 +76,22 @@ module _ (top : ℕ) (p : Part) (f : PartFits p) where
       read-part (partWidths top) (partSections top p) (wide-part top p f) 2 (rowWidth * i + j) m at (omega arith) (omega arith) (omega arith)
       ∙ slots-get rowWidth mostRows rowBytes length-row (p .rows) i j m (rowWidth * i + j) noRow rf h l refl
 
-  pub part-guarantee-read : (i at : ℕ) → i < length (p .guarantees) → at ≡ 8 * i
-      → take 8 (drop at (partBytes top p)) ≡ le 8 (getD (p .guarantees) i (cents 0) .0)
+  pub part-guarantee-read : (i at : ℕ) → i < length (p .guarantees) → at ≡ guaranteeWidth * i
+      → take guaranteeWidth (drop at (partBytes top p)) ≡ le guaranteeWidth (getD (p .guarantees) i (cents 0) .0)
   unfolding partBytes partSections
   part-guarantee-read i at h e =
       let gf = f .guarantees-fit in
-      let g : List ℕ = le 8 (getD (p .guarantees) i (cents 0) .0) in
-      read-part (partWidths top) (partSections top p) (wide-part top p f) 0 (8 * i) 8 at (omega arith) (omega arith) (omega arith)
-      ∙ slots-get 8 mostOperators (λ x. le 8 (x .0)) length-guarantee (p .guarantees) i 0 8 (8 * i) (cents 0) gf h (omega arith) (omega arith)
-      ∙ take-all 8 g (omega (arith, length-le 8 (getD (p .guarantees) i (cents 0) .0)))
+      let g : List ℕ = le guaranteeWidth (getD (p .guarantees) i (cents 0) .0) in
+      read-part (partWidths top) (partSections top p) (wide-part top p f) 0 (guaranteeWidth * i) 8 at (omega arith) (omega arith) (omega arith)
+      ∙ slots-get guaranteeWidth mostOperators (λ x. le guaranteeWidth (x .0)) length-guarantee (p .guarantees) i 0 8 (guaranteeWidth * i) (cents 0) gf h (omega arith) (omega arith)
+      ∙ take-all guaranteeWidth g (omega (arith, length-le guaranteeWidth (getD (p .guarantees) i (cents 0) .0)))
 
   pub part-net : (a h at : ℕ) → 1 ≤ a → a ≤ mostAccounts → 1 ≤ h → h ≤ top → at ≡ netAt top a h
-      → take 4 (drop at (partBytes top p)) ≡ signed 4 (figure (netOf (p .rows) a h))
+      → take netWidth (drop at (partBytes top p)) ≡ signed netWidth (figure (netOf (p .rows) a h))
   unfolding partBytes partSections
   part-net a h at a1 a2 h1 h2 e =
-      let j : ℕ = accountWidth top * (a - 1) + 4 * (h - 1) in
-      let end : j + 4 * 1 ≤ mostAccounts * accountWidth top = nets-end top a h 1 a1 a2 h1 (omega arith) in
+      let j : ℕ = accountWidth top * (a - 1) + netWidth * (h - 1) in
+      let end : j + netWidth * 1 ≤ mostAccounts * accountWidth top = nets-end top a h 1 a1 a2 h1 (omega arith) in
       read-part (partWidths top) (partSections top p) (wide-part top p f) 3 j 4 at (omega arith) (omega arith) (omega arith)
       ∙ nets-read top (p .rows) a h j a1 a2 h1 h2 refl
 
@@ -198,25 +199,25 @@ module _ (top size : ℕ) (b : Book) (f : Fits b) where
       ap number (row-piece i (startOf rowWidths k) (getD rowWidths k 0) at h (part-end rowWidths k) e)
       ∙ number-in-pack rowWidths (rowValues (getD (b .part .rows) i noRow)) k small
 
-  pub guarantee-read : (i at : ℕ) → i < length (b .part .guarantees) → getD (b .part .guarantees) i (cents 0) .0 < 256 ^ 8
-      → at ≡ presentAt + guaranteesAt + 8 * i
-      → numberAt (image top size b) at 8 ≡ getD (b .part .guarantees) i (cents 0) .0
+  pub guarantee-read : (i at : ℕ) → i < length (b .part .guarantees) → getD (b .part .guarantees) i (cents 0) .0 < 256 ^ guaranteeWidth
+      → at ≡ presentAt + guaranteesAt + guaranteeWidth * i
+      → numberAt (image top size b) at guaranteeWidth ≡ getD (b .part .guarantees) i (cents 0) .0
   unfolding numberAt
   guarantee-read i at h small e =
       let gf = f .part-fits .guarantees-fit in
-      ap number (present-read (8 * i) 8 at (omega arith) (omega arith) ∙ part-guarantee-read top (b .part) (f .part-fits) i (8 * i) h refl)
-      ∙ number-le 8 _ small
+      ap number (present-read (guaranteeWidth * i) 8 at (omega arith) (omega arith) ∙ part-guarantee-read top (b .part) (f .part-fits) i (guaranteeWidth * i) h refl)
+      ∙ number-le guaranteeWidth _ small
 
   -- the net of an account in an hour, signed
   pub net-bytes-read : (a h at : ℕ) → 1 ≤ a → a ≤ mostAccounts → 1 ≤ h → h ≤ top → at ≡ presentAt + netAt top a h
-      → take 4 (drop at (image top size b)) ≡ signed 4 (figure (netOf (b .part .rows) a h))
+      → take netWidth (drop at (image top size b)) ≡ signed netWidth (figure (netOf (b .part .rows) a h))
   net-bytes-read a h at a1 a2 h1 h2 e =
       let end = nets-end top a h 1 a1 a2 h1 (omega arith) in
-      present-read (netAt top a h) 4 at (omega arith) e ∙ part-net top (b .part) (f .part-fits) a h (netAt top a h) a1 a2 h1 h2 refl
+      present-read (netAt top a h) netWidth at (omega arith) e ∙ part-net top (b .part) (f .part-fits) a h (netAt top a h) a1 a2 h1 h2 refl
 
   -- as a number: what was bought, and all ones for each that was sold
   pub net-read : (a h at : ℕ) → 1 ≤ a → a ≤ mostAccounts → 1 ≤ h → h ≤ top → at ≡ presentAt + netAt top a h
-      → numberAt (image top size b) at 4 ≡ (bought (b .part .rows) a h + (256 ^ 4 - 1) * sold (b .part .rows) a h) % 256 ^ 4
+      → numberAt (image top size b) at netWidth ≡ (bought (b .part .rows) a h + (256 ^ netWidth - 1) * sold (b .part .rows) a h) % 256 ^ netWidth
   unfolding numberAt
   net-read a h at a1 a2 h1 h2 e =
-      ap number (net-bytes-read a h at a1 a2 h1 h2 e ∙ signed-sub 4 (bought (b .part .rows) a h) (sold (b .part .rows) a h)) ∙ number-le-rest 4 _
+      ap number (net-bytes-read a h at a1 a2 h1 h2 e ∙ signed-sub netWidth (bought (b .part .rows) a h) (sold (b .part .rows) a h)) ∙ number-le-rest 4 _

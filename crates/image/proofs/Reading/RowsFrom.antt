@@ -11,9 +11,9 @@ use Rattle.wire.specs.Parts.{chunks}
 use Rattle.wire.proofs.SlotLaws.{length-chunks, chunk-at, map-get}
 use Rattle.rules.specs.declared.Row.{Row}
 use Rattle.rules.specs.Basics.{any, every}
-use Rattle.rules.specs.Books.{noRow}
 use Rattle.image.specs.Image.{rowIn}
 use Rattle.image.specs.Cells.{rowsFrom}
+use Rattle.image.specs.Layout.{rowWidth}
 
 -- ---- cells of any width, whatever they say
 
@@ -56,20 +56,20 @@ not-any p (x ∷ xs) = go (p x) refl (not-any p xs)
 
 pub rows-done : (s : List ℕ) (at n : ℕ) → n ≤ 0 → rowsFrom s at n ≡ []
 unfolding rowsFrom
-rows-done s at n h = from-done rowIn 18 s at n h
+rows-done s at n h = from-done rowIn rowWidth s at n h
 
-pub rows-step : (s : List ℕ) (at n m : ℕ) → n ≡ m + 1 → rowsFrom s at n ≡ rowIn (take 18 (drop at s)) ∷ rowsFrom s (at + 18) m
+pub rows-step : (s : List ℕ) (at n m : ℕ) → n ≡ m + 1 → rowsFrom s at n ≡ rowIn (take rowWidth (drop at s)) ∷ rowsFrom s (at + rowWidth) m
 unfolding rowsFrom
-rows-step s at n m e = from-step rowIn 18 s at n m e
+rows-step s at n m e = from-step rowIn rowWidth s at n m e
 
 pub length-rows : (s : List ℕ) (at n : ℕ) → length (rowsFrom s at n) ≡ n
 unfolding rowsFrom
-length-rows s at n = length-map (chunks 18 n (drop at s)) rowIn ∙ length-chunks 18 n (drop at s)
+length-rows s at n = length-map (chunks rowWidth n (drop at s)) rowIn ∙ length-chunks rowWidth n (drop at s)
 
 -- row i stands 18 * i further
-pub row-get : (s : List ℕ) (at n i : ℕ) (d : Row) → i < n → getD (rowsFrom s at n) i d ≡ rowIn (take 18 (drop (at + 18 * i) s))
+pub row-get : (s : List ℕ) (at n i : ℕ) (d : Row) → i < n → getD (rowsFrom s at n) i d ≡ rowIn (take rowWidth (drop (at + rowWidth * i) s))
 unfolding rowsFrom
 row-get s at n i d h =
-    let l = length-chunks 18 n (drop at s) in
-    map-get rowIn (chunks 18 n (drop at s)) i [] d (omega arith)
-    ∙ ap rowIn (chunk-at 18 n (drop at s) i h ∙ ap (take 18) (drop-drop (18 * i) at s))
+    let l = length-chunks rowWidth n (drop at s) in
+    map-get rowIn (chunks rowWidth n (drop at s)) i [] d (omega arith)
+    ∙ ap rowIn (chunk-at rowWidth n (drop at s) i h ∙ ap (take rowWidth) (drop-drop (rowWidth * i) at s))

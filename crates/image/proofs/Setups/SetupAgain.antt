@@ -17,7 +17,7 @@ use Rattle.units.specs.Units.{cents}
 use Rattle.rules.specs.declared.Counts.{Counts}
 use Rattle.rules.specs.Basics.{entries, joined}
 use Rattle.rules.specs.Books.{operatorCount, accountCount, pointCount}
-use Rattle.rules.specs.Opening.{priceIn, operatorIn, accountIn, pointIn, countsIn, operatorsFrom, accountsFrom, pointsFrom, setupLength, estimatesIn, operatorsIn, accountsIn, pointsIn, setupOf, guaranteesOf, operatorBytes, accountBytes, pointBytes, operatorsOf, setupBytes, badCounts, misshapen, faultyOffset, setupChecks, setupRefusal}
+use Rattle.rules.specs.Opening.{priceIn, operatorIn, accountIn, pointIn, countsIn, operatorsFrom, accountsFrom, pointsFrom, setupLength, estimatesIn, operatorsIn, accountsIn, pointsIn, setupOf, guaranteesOf, operatorBytes, accountBytes, pointBytes, operatorsOf, setupBytes, badCounts, misshapen, faultyOffset, setupChecks, setupRefusal, priceWidth, operatorEntry, accountEntry, pointEntry, countsWidth, estimatesFrom}
 use Rattle.rules.proofs.Basics.Tests.{_and_, no-more, holds-all, holds-at, or-neither}
 use Rattle.rules.proofs.Checks.Clearing.{clear, clear-applies, spared}
 use Rattle.rules.proofs.Setups.SetupShape.{accepted-values}
@@ -31,7 +31,7 @@ use Rattle.image.proofs.Setups.StoredSetup.{price-again, operator-again
 
 -- ---- the bytes again
 
-first-five : (s : List ℕ) → 5 ≤ length s → getD s 0 0 ∷ getD s 1 0 ∷ getD s 2 0 ∷ getD s 3 0 ∷ getD s 4 0 ∷ [] ≡ take 5 s
+first-five : (s : List ℕ) → countsWidth ≤ length s → getD s 0 0 ∷ getD s 1 0 ∷ getD s 2 0 ∷ getD s 3 0 ∷ getD s 4 0 ∷ [] ≡ take countsWidth s
 first-five [] h = absurd (omega arith)
 first-five (a ∷ []) h = absurd (omega arith)
 first-five (a ∷ b ∷ []) h = absurd (omega arith)
@@ -52,8 +52,8 @@ module _ (s : List ℕ) where
   unfolding guaranteesOf operatorsIn
   length-guarantees = simp (length-map, length-entries)
 
-  counts-first : 5 ≤ length s
-      → setupOf s .hours ∷ operatorCount (setupOf s) ∷ accountCount (setupOf s) ∷ pointCount (setupOf s) ∷ setupOf s .zones ∷ [] ≡ take 5 s
+  counts-first : countsWidth ≤ length s
+      → setupOf s .hours ∷ operatorCount (setupOf s) ∷ accountCount (setupOf s) ∷ pointCount (setupOf s) ∷ setupOf s .zones ∷ [] ≡ take countsWidth s
   counts-first h =
       ap (λ (c : Counts). c .hours ∷ c .operators ∷ c .accounts ∷ c .points ∷ c .zones ∷ []) (counts-of-setup s) ∙ first-five s h
 
@@ -64,12 +64,12 @@ module _ (s : List ℕ) where
       let at1 : ℕ = operatorsFrom (countsIn s) in
       let at2 : ℕ = accountsFrom (countsIn s) in
       let at3 : ℕ = pointsFrom (countsIn s) in
-      let e = joined-entries 4 (λ p. le 4 (p .0)) priceIn (countsIn s .hours) (drop 5 s) (bytes-drop 5 b) (omega (arith, length-drop 5 s)) price-again in
-      let o = joined-entries 10 operatorBytes operatorIn (countsIn s .operators) (drop at1 s) (bytes-drop at1 b) (omega (arith, length-drop at1 s)) operator-again in
-      let a = joined-entries 10 accountBytes accountIn (countsIn s .accounts) (drop at2 s) (bytes-drop at2 b) (omega (arith, length-drop at2 s)) account-again in
-      let p = joined-entries 11 pointBytes pointIn (countsIn s .points) (drop at3 s) (bytes-drop at3 b) (omega (arith, length-drop at3 s)) point-again in
+      let e = joined-entries 4 (λ p. le 4 (p .0)) priceIn (countsIn s .hours) (drop estimatesFrom s) (bytes-drop 5 b) (omega (arith, length-drop 5 s)) price-again in
+      let o = joined-entries operatorEntry operatorBytes operatorIn (countsIn s .operators) (drop at1 s) (bytes-drop at1 b) (omega (arith, length-drop at1 s)) operator-again in
+      let a = joined-entries accountEntry accountBytes accountIn (countsIn s .accounts) (drop at2 s) (bytes-drop at2 b) (omega (arith, length-drop at2 s)) account-again in
+      let p = joined-entries pointEntry pointBytes pointIn (countsIn s .points) (drop at3 s) (bytes-drop at3 b) (omega (arith, length-drop at3 s)) point-again in
       side-by-side (counts-first (omega arith)) e (ap (joined operatorBytes) operators-read ∙ o) a p
-      ∙ rw (take-add at3 (11 * countsIn s .points) s, take-add at2 (10 * countsIn s .accounts) s, take-add at1 (10 * countsIn s .operators) s, take-add 5 (4 * countsIn s .hours) s)
+      ∙ rw (take-add at3 (pointEntry * countsIn s .points) s, take-add at2 (accountEntry * countsIn s .accounts) s, take-add at1 (operatorEntry * countsIn s .operators) s, take-add 5 (4 * countsIn s .hours) s)
 
   -- the day's guarantees are none, as in a stored set-up
   abbrev pub NoGuarantees : Type 0
@@ -92,8 +92,8 @@ module _ (s : List ℕ) (h : setupRefusal s ≡ none) where
   accepted-counts : badCounts (countsIn s) ≡ false
   unfolding misshapen
   accepted-counts =
-      let w = or-neither (ltb (length s) 5 || badCounts (countsIn s)) (not (eqb (length s) (setupLength (countsIn s)))) .0 shape in
-      or-neither (ltb (length s) 5) (badCounts (countsIn s)) .0 (w .0) .1
+      let w = or-neither (ltb (length s) countsWidth || badCounts (countsIn s)) (not (eqb (length s) (setupLength (countsIn s)))) .0 shape in
+      or-neither (ltb (length s) countsWidth) (badCounts (countsIn s)) .0 (w .0) .1
 
   pub accepted-in-range : InRange (setupOf s) (operatorsIn s)
   accepted-in-range = values-in-range (setupOf s) (operatorsIn s) (accepted-values s h)
@@ -115,7 +115,7 @@ module _ (s : List ℕ) (h : setupRefusal s ≡ none) where
   accepted-sound =
       holds-all (setupTests (setupOf s)) (
       (ap (λ (c : Counts). not (badCounts c)) (counts-of-setup s) ∙ rw accepted-counts)
-      and eq-eqb _ _ (length-entries 4 priceIn (countsIn s .hours) (drop 5 s))
+      and eq-eqb _ _ (length-entries priceWidth priceIn (countsIn s .hours) (drop estimatesFrom s))
       and (rw (in-range-values (setupOf s) _ without))
       and no-more
       )
@@ -128,7 +128,7 @@ sound-accepted s l z h =
     let os : operatorsOf (replicate (operatorCount (setupOf s)) (cents 0)) (setupOf s .maintenance) ≡ operatorsIn s =
     ap (λ (gs : List Cents). operatorsOf gs (setupOf s .maintenance)) (stored-guarantees s z) ∙ operators-read s in
     let v : faultyOffset (setupOf s) (operatorsIn s) ≡ none = ap (faultyOffset (setupOf s)) (sym os) ∙ sound-setup (setupOf s) h .in-range in
-    let short : ltb (length s) 5 ≡ false = le-ltb (length s) 5 (omega arith) in
+    let short : ltb (length s) countsWidth ≡ false = le-ltb (length s) countsWidth (omega arith) in
     clear-applies (setupChecks s) (rw (short, bad, eq-eqb _ _ l), (rw v, tt))
 
 -- ---- bytes in which the set-up is the first
@@ -137,7 +137,7 @@ module _ {A : Type 0} (w : ℕ) (say : List ℕ → A) where
   pub entries-first : (n at m : ℕ) (s : List ℕ) → at + w * n ≤ m → entries w say n (drop at (take m s)) ≡ entries w say n (drop at s)
   entries-first n at m s h = rw (entries-cells w say n (drop at (take m s)), entries-cells w say n (drop at s), chunks-within w n at m s h)
 
-pub counts-first-bytes : (m : ℕ) (s : List ℕ) → 5 ≤ m → countsIn (take m s) ≡ countsIn s
+pub counts-first-bytes : (m : ℕ) (s : List ℕ) → countsWidth ≤ m → countsIn (take m s) ≡ countsIn s
 counts-first-bytes m s h =
     let g : (i : ℕ) → i < 5 → getD (take m s) i 0 ≡ getD s i 0 = λ i l. getD-take m s i 0 (omega arith) in
     rw (g 0 (omega arith), g 1 (omega arith), g 2 (omega arith), g 3 (omega arith), g 4 (omega arith))
@@ -153,25 +153,25 @@ module _ (r : List ℕ) where
   estimates-front : estimatesIn front ≡ estimatesIn r
   unfolding estimatesIn front
   estimates-front =
-      ap (λ (c : Counts). entries 4 priceIn (c .hours) (drop 5 front)) counts-front ∙ entries-first 4 priceIn (countsIn r .hours) 5 (setupLength (countsIn r)) r (omega arith)
+      ap (λ (c : Counts). entries priceWidth priceIn (c .hours) (drop estimatesFrom front)) counts-front ∙ entries-first priceWidth priceIn (countsIn r .hours) 5 (setupLength (countsIn r)) r (omega arith)
 
   operators-front : operatorsIn front ≡ operatorsIn r
   unfolding operatorsIn front
   operators-front =
-      ap (λ (c : Counts). entries 10 operatorIn (c .operators) (drop (operatorsFrom c) front)) counts-front
-      ∙ entries-first 10 operatorIn (countsIn r .operators) (operatorsFrom (countsIn r)) (setupLength (countsIn r)) r (omega arith)
+      ap (λ (c : Counts). entries operatorEntry operatorIn (c .operators) (drop (operatorsFrom c) front)) counts-front
+      ∙ entries-first operatorEntry operatorIn (countsIn r .operators) (operatorsFrom (countsIn r)) (setupLength (countsIn r)) r (omega arith)
 
   accounts-front : accountsIn front ≡ accountsIn r
   unfolding accountsIn front
   accounts-front =
-      ap (λ (c : Counts). entries 10 accountIn (c .accounts) (drop (accountsFrom c) front)) counts-front
-      ∙ entries-first 10 accountIn (countsIn r .accounts) (accountsFrom (countsIn r)) (setupLength (countsIn r)) r (omega arith)
+      ap (λ (c : Counts). entries accountEntry accountIn (c .accounts) (drop (accountsFrom c) front)) counts-front
+      ∙ entries-first accountEntry accountIn (countsIn r .accounts) (accountsFrom (countsIn r)) (setupLength (countsIn r)) r (omega arith)
 
   points-front : pointsIn front ≡ pointsIn r
   unfolding pointsIn front
   points-front =
-      ap (λ (c : Counts). entries 11 pointIn (c .points) (drop (pointsFrom c) front)) counts-front
-      ∙ entries-first 11 pointIn (countsIn r .points) (pointsFrom (countsIn r)) (setupLength (countsIn r)) r (omega arith)
+      ap (λ (c : Counts). entries pointEntry pointIn (c .points) (drop (pointsFrom c) front)) counts-front
+      ∙ entries-first pointEntry pointIn (countsIn r .points) (pointsFrom (countsIn r)) (setupLength (countsIn r)) r (omega arith)
 
   pub setup-front : setupOf (take (setupLength (countsIn r)) r) ≡ setupOf r
   unfolding setupOf front

@@ -17,7 +17,7 @@ use Rattle.rules.specs.declared.Point.{Point}
 use Rattle.rules.specs.Basics.{if_then_else_, nth, within, Each, nil, cons}
 use Rattle.rules.specs.Limits.{mostEnergy, mostPrice, mostGuarantee, thousand}
 use Rattle.rules.specs.Books.{Setup, noAccount, countsOf, operatorCount}
-use Rattle.rules.specs.Opening.{Value, operatorsOf, operatorsFrom, accountsFrom, pointsFrom, estimatesFrom, valuesOf, estimateValues, operatorValues, accountValues, pointValues, values, faultyOffset}
+use Rattle.rules.specs.Opening.{Value, operatorsOf, operatorsFrom, accountsFrom, pointsFrom, estimatesFrom, valuesOf, estimateValues, operatorValues, accountValues, pointValues, values, faultyOffset, priceWidth, operatorEntry, accountEntry, pointEntry}
 use Rattle.rules.proofs.Basics.Tests.{and-both, within-true}
 use Rattle.rules.proofs.Basics.Searches.{find-none, none-find, each-map}
 
@@ -151,24 +151,24 @@ pub values-in-range : (u : Setup) (operators : List Operator) → faultyOffset u
 unfolding faultyOffset values
 values-in-range u os h =
     let good : Each Good (values u os) = each-map (λ v e. not-false (v .1) e) (find-none (λ v. not (v .1)) (values u os) (none-found _ h)) in
-    let d = each-split _ (valuesOf 11 (pointValues (u .accounts) (u .zones)) (pointsFrom (countsOf u)) (u .points)) good in
-    let c = each-split _ (valuesOf 10 (accountValues (operatorCount u)) (accountsFrom (countsOf u)) (u .accounts)) (d .0) in
-    let b = each-split (valuesOf 4 estimateValues estimatesFrom (u .estimates)) (valuesOf 10 operatorValues (operatorsFrom (countsOf u)) os) (c .0) in
+    let d = each-split _ (valuesOf pointEntry (pointValues (u .accounts) (u .zones)) (pointsFrom (countsOf u)) (u .points)) good in
+    let c = each-split _ (valuesOf accountEntry (accountValues (operatorCount u)) (accountsFrom (countsOf u)) (u .accounts)) (d .0) in
+    let b = each-split (valuesOf priceWidth estimateValues estimatesFrom (u .estimates)) (valuesOf operatorEntry operatorValues (operatorsFrom (countsOf u)) os) (c .0) in
     record {
-      estimates-sound = values-each 4 estimateValues sound-price _ _ (b .0);
-      operators-sound = values-each 10 operatorValues sound-operator _ _ (b .1);
-      accounts-sound = values-each 10 (accountValues (operatorCount u)) (sound-account (operatorCount u)) _ _ (c .1);
-      points-sound = values-each 11 (pointValues (u .accounts) (u .zones)) (sound-point (u .accounts) (u .zones)) _ _ (d .1);
+      estimates-sound = values-each priceWidth estimateValues sound-price _ _ (b .0);
+      operators-sound = values-each operatorEntry operatorValues sound-operator _ _ (b .1);
+      accounts-sound = values-each accountEntry (accountValues (operatorCount u)) (sound-account (operatorCount u)) _ _ (c .1);
+      points-sound = values-each pointEntry (pointValues (u .accounts) (u .zones)) (sound-point (u .accounts) (u .zones)) _ _ (d .1);
     }
 
 pub in-range-values : (u : Setup) (operators : List Operator) → InRange u operators → faultyOffset u operators ≡ none
 unfolding faultyOffset values
 in-range-values u os s =
     let good : Each Good (values u os) =
-    each-join (each-join (each-join (each-values 4 estimateValues price-sound _ (s .estimates-sound))
-    (each-values 10 operatorValues operator-sound _ (s .operators-sound)))
-    (each-values 10 (accountValues (operatorCount u)) (account-sound (operatorCount u)) _ (s .accounts-sound)))
-    (each-values 11 (pointValues (u .accounts) (u .zones)) (point-sound (u .accounts) (u .zones)) _ (s .points-sound)) in
+    each-join (each-join (each-join (each-values priceWidth estimateValues price-sound _ (s .estimates-sound))
+    (each-values operatorEntry operatorValues operator-sound _ (s .operators-sound)))
+    (each-values accountEntry (accountValues (operatorCount u)) (account-sound (operatorCount u)) _ (s .accounts-sound)))
+    (each-values pointEntry (pointValues (u .accounts) (u .zones)) (point-sound (u .accounts) (u .zones)) _ (s .points-sound)) in
     rw (none-find (λ v. not (v .1)) (each-map (λ v e. rw e) good))
 
 -- ---- operators with other guarantees

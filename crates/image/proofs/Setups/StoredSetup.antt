@@ -21,7 +21,7 @@ use Rattle.rules.specs.declared.Point.{Point}
 use Rattle.rules.specs.Basics.{if_then_else_, entries, joined}
 use Rattle.rules.specs.Limits.{mostEnergy, mostPrice, mostAccounts, mostOperators, mostZones}
 use Rattle.rules.specs.Books.{Setup, countsOf, operatorCount, accountCount, pointCount}
-use Rattle.rules.specs.Opening.{priceIn, operatorIn, accountIn, pointIn, countsIn, operatorsFrom, accountsFrom, pointsFrom, estimatesIn, operatorsIn, accountsIn, pointsIn, setupOf, guaranteesOf, operatorBytes, accountBytes, pointBytes, operatorsOf, setupBytes}
+use Rattle.rules.specs.Opening.{priceIn, operatorIn, accountIn, pointIn, countsIn, operatorsFrom, accountsFrom, pointsFrom, estimatesIn, operatorsIn, accountsIn, pointsIn, setupOf, guaranteesOf, operatorBytes, accountBytes, pointBytes, operatorsOf, setupBytes, priceWidth, operatorEntry, accountEntry, pointEntry, countsWidth}
 use Rattle.rules.proofs.Basics.Searches.{each-map}
 use Rattle.rules.proofs.Setups.SetupEntries.{entries-joined}
 use Rattle.image.specs.Layout.{setupRoom}
@@ -32,11 +32,11 @@ use Rattle.image.proofs.Setups.SetupRanges.{SoundOperator, SoundAccount
 
 -- ---- an entry
 
-price-back : (x : CentsPerMwh) → x .0 ≤ mostPrice → priceIn (le 4 (x .0)) ≡ x
+price-back : (x : CentsPerMwh) → x .0 ≤ mostPrice → priceIn (le priceWidth (x .0)) ≡ x
 unfolding priceIn
 price-back x h = rw (number-le 4 (x .0) (omega arith))
 
-pub price-again : (c : List ℕ) → Bytes c → length c ≡ 4 → le 4 (priceIn c .0) ≡ c
+pub price-again : (c : List ℕ) → Bytes c → length c ≡ priceWidth → le priceWidth (priceIn c .0) ≡ c
 unfolding priceIn
 price-again c b l = le-number-wide b 4 l
 
@@ -48,7 +48,7 @@ operator-back x h =
     let fit : Small ws vs = (omega (arith, h .0), (omega (arith, h .1), tt)) in
     rw (number-in-pack ws vs 0 fit, number-in-pack ws vs 1 fit)
 
-pub operator-again : (c : List ℕ) → Bytes c → length c ≡ 10 → operatorBytes (operatorIn c) ≡ c
+pub operator-again : (c : List ℕ) → Bytes c → length c ≡ operatorEntry → operatorBytes (operatorIn c) ≡ c
 unfolding operatorIn
 operator-again c b l = pack-numbers (8 ∷ 2 ∷ []) b l
 
@@ -60,7 +60,7 @@ account-back n m x s =
     let fit : Small ws vs = (omega arith, (omega arith, (omega arith, (omega arith, tt)))) in
     rw (number-in-pack ws vs 0 fit, number-in-pack ws vs 1 fit, number-in-pack ws vs 2 fit, number-in-pack ws vs 3 fit)
 
-pub account-again : (c : List ℕ) → Bytes c → length c ≡ 10 → accountBytes (accountIn c) ≡ c
+pub account-again : (c : List ℕ) → Bytes c → length c ≡ accountEntry → accountBytes (accountIn c) ≡ c
 unfolding accountIn
 account-again c b l = pack-numbers (1 ∷ 1 ∷ 4 ∷ 4 ∷ []) b l
 
@@ -79,7 +79,7 @@ point-back accounts zones m z x s =
     let fit : Small ws vs = (omega arith, (omega arith, (omega arith, (omega arith, (omega arith, tt))))) in
     rw (number-in-pack ws vs 0 fit, number-in-pack ws vs 1 fit, number-in-pack ws vs 2 fit, number-in-pack ws vs 3 fit, number-in-pack ws vs 4 fit)
 
-pub point-again : (c : List ℕ) → Bytes c → length c ≡ 11 → pointBytes (pointIn c) ≡ c
+pub point-again : (c : List ℕ) → Bytes c → length c ≡ pointEntry → pointBytes (pointIn c) ≡ c
 unfolding pointIn
 point-again c b l = pack-numbers (1 ∷ 1 ∷ 1 ∷ 4 ∷ 4 ∷ []) b l
 
@@ -108,7 +108,7 @@ setupParts u gs rest =
     ∷ []
 
 setupWidths : Counts → ℕ → List ℕ
-setupWidths n rest = 5 ∷ 4 * n .hours ∷ 10 * n .operators ∷ 10 * n .accounts ∷ 11 * n .points ∷ rest ∷ []
+setupWidths n rest = countsWidth ∷ priceWidth * n .hours ∷ operatorEntry * n .operators ∷ accountEntry * n .accounts ∷ pointEntry * n .points ∷ rest ∷ []
 
 setup-parts : (u : Setup) (gs : List Cents) (rest : List ℕ) → setupBytes u gs ++ rest ≡ flat (setupParts u gs rest)
 unfolding setupBytes flat setupParts
@@ -122,10 +122,10 @@ module _ (u : Setup) (gs : List Cents) (rest : List ℕ) (estimates : length (u 
     (
       length-joined 4 (λ p. le 4 (p .0)) (u .estimates) (λ p. length-le 4 (p .0)) ∙ omega arith,
       (
-        length-joined 10 operatorBytes (operatorsOf gs (u .maintenance)) length-operator-bytes ∙ omega (arith, length-operators gs (u .maintenance) all),
+        length-joined operatorEntry operatorBytes (operatorsOf gs (u .maintenance)) length-operator-bytes ∙ omega (arith, length-operators gs (u .maintenance) all),
         (
-          length-joined 10 accountBytes (u .accounts) length-account-bytes,
-          (length-joined 11 pointBytes (u .points) length-point-bytes, (refl, tt)),
+          length-joined accountEntry accountBytes (u .accounts) length-account-bytes,
+          (length-joined pointEntry pointBytes (u .points) length-point-bytes, (refl, tt)),
         ),
       ),
     ),
@@ -148,30 +148,30 @@ module _ (u : Setup) (gs : List Cents) (rest : List ℕ) (sound : SoundSetup u) 
   estimates-back : estimatesIn bytes ≡ u .estimates
   unfolding estimatesIn setupParts setupWidths flat
   estimates-back =
-      ap (λ (n : Counts). entries 4 priceIn (n .hours) (drop 5 bytes)) counts-back
+      ap (λ (n : Counts). entries priceWidth priceIn (n .hours) (drop 5 bytes)) counts-back
       ∙ rw (from 1 5 (omega arith), ← (sound .estimates-all))
       (entries-joined 4 (λ p. le 4 (p .0)) priceIn (u .estimates) _ (each-map price-back (range .estimates-sound)) (λ p. length-le 4 (p .0)))
 
   operators-back : operatorsIn bytes ≡ operatorsOf gs (u .maintenance)
   unfolding operatorsIn setupParts setupWidths flat
   operators-back =
-      ap (λ (n : Counts). entries 10 operatorIn (n .operators) (drop (operatorsFrom n) bytes)) counts-back
+      ap (λ (n : Counts). entries operatorEntry operatorIn (n .operators) (drop (operatorsFrom n) bytes)) counts-back
       ∙ rw (from 2 (operatorsFrom (countsOf u)) (omega arith), ← (length-operators gs (u .maintenance) all))
-      (entries-joined 10 operatorBytes operatorIn (operatorsOf gs (u .maintenance)) _ (each-map operator-back (range .operators-sound)) length-operator-bytes)
+      (entries-joined operatorEntry operatorBytes operatorIn (operatorsOf gs (u .maintenance)) _ (each-map operator-back (range .operators-sound)) length-operator-bytes)
 
   accounts-back : accountsIn bytes ≡ u .accounts
   unfolding accountsIn setupParts setupWidths flat
   accounts-back =
-      ap (λ (n : Counts). entries 10 accountIn (n .accounts) (drop (accountsFrom n) bytes)) counts-back
+      ap (λ (n : Counts). entries accountEntry accountIn (n .accounts) (drop (accountsFrom n) bytes)) counts-back
       ∙ rw (from 3 (accountsFrom (countsOf u)) (omega arith))
-      (entries-joined 10 accountBytes accountIn (u .accounts) _ (each-map (account-back (operatorCount u) (sound .operators-high)) (range .accounts-sound)) length-account-bytes)
+      (entries-joined accountEntry accountBytes accountIn (u .accounts) _ (each-map (account-back (operatorCount u) (sound .operators-high)) (range .accounts-sound)) length-account-bytes)
 
   points-back : pointsIn bytes ≡ u .points
   unfolding pointsIn setupParts setupWidths flat
   points-back =
-      ap (λ (n : Counts). entries 11 pointIn (n .points) (drop (pointsFrom n) bytes)) counts-back
+      ap (λ (n : Counts). entries pointEntry pointIn (n .points) (drop (pointsFrom n) bytes)) counts-back
       ∙ rw (from 4 (pointsFrom (countsOf u)) (omega arith))
-      (entries-joined 11 pointBytes pointIn (u .points) _ (each-map (point-back (u .accounts) (u .zones) (sound .accounts-high) (sound .zones-high)) (range .points-sound)) length-point-bytes)
+      (entries-joined pointEntry pointBytes pointIn (u .points) _ (each-map (point-back (u .accounts) (u .zones) (sound .accounts-high) (sound .zones-high)) (range .points-sound)) length-point-bytes)
 
   pub bytes-say-setup : setupOf (setupBytes u gs ++ rest) ≡ u
   unfolding setupOf bytes

@@ -24,9 +24,10 @@ use Rattle.rules.specs.Limits.{mostRows, mostSchedules}
 use Rattle.rules.specs.Books.{Part, Book, noRow, withRows, withPhase, withPart}
 use Rattle.rules.specs.Registration.{pending, seller, buyer, closed}
 use Rattle.rules.specs.Calls.{addRows, setStatus, setGuarantee, savePart, restorePart, dropSaved, shutGate, addSchedule, endDay, restored, apply}
+use Rattle.rules.specs.Opening.{guaranteeWidth}
 use Rattle.rules.proofs.Rows.RowChanges.{length-closed}
 use Rattle.rules.proofs.Rows.AccountHours.{pending-inside}
-use Rattle.image.specs.Layout.{rowWidth, scheduleWidth, partSize, usedSize, bookWidths, phaseAt, flagAt, scheduleCountAt, schedulesAt, presentAt, savedAt, guaranteesAt, rowCountAt, rowAt, netAt, statusIn}
+use Rattle.image.specs.Layout.{rowWidth, scheduleWidth, partSize, usedSize, bookWidths, phaseAt, flagAt, scheduleCountAt, schedulesAt, presentAt, savedAt, guaranteesAt, rowCountAt, rowAt, netAt, statusIn, netWidth}
 use Rattle.image.specs.Image.{rowBytes, scheduleBytes, partBytes, savedBytes, sectionsWith, sections, image}
 use Rattle.image.specs.Changes.{raised, ended}
 use Rattle.image.proofs.Writing.Sizes.{RowFits, Fits, length-row, length-schedule, length-part, length-saved, wide-with, wide-book, length-image}
@@ -95,7 +96,7 @@ module _ (top size : ℕ) (b : Book) (f : Fits b) where
       → r ≡ nth (b .part .rows) number noRow → pending r ≡ true → RowFits top r → r .first + n ≡ suc (r .last)
       → at ≡ presentAt + rowAt i + statusIn
       → low ≡ presentAt + netAt top (seller r) (r .first) → high ≡ presentAt + netAt top (buyer r) (r .first)
-      → sweep (raised 4 (r .quantity .0)) 4 (sweep (raised 4 (256 ^ 4 - r .quantity .0)) 4 (splice (image top size b) at (le 1 2)) low n) high n
+      → sweep (raised netWidth (r .quantity .0)) netWidth (sweep (raised netWidth (256 ^ netWidth - r .quantity .0)) netWidth (splice (image top size b) at (le 1 2)) low n) high n
       ≡ image top size (apply (setStatus number 2) b)
   unfolding apply
   write-confirmed number i n at low high r e er pend fit count a el eh =
@@ -105,8 +106,8 @@ module _ (top size : ℕ) (b : Book) (f : Fits b) where
       let l2 = length-le 1 2 in
       let x : List ℕ = partBytes top p in
       let l : length x ≡ partSize top = length-part top p (f .part-fits) in
-      let down : List ℕ → List ℕ = raised 4 (256 ^ 4 - r .quantity .0) in
-      let up : List ℕ → List ℕ = raised 4 (r .quantity .0) in
+      let down : List ℕ → List ℕ = raised netWidth (256 ^ netWidth - r .quantity .0) in
+      let up : List ℕ → List ℕ = raised netWidth (r .quantity .0) in
       let both = party-fits top r fit in
       let fl = fit .first-low in
       let lh = fit .last-high in
@@ -116,14 +117,14 @@ module _ (top size : ℕ) (b : Book) (f : Fits b) where
       let hh = nets-end top (buyer r) (r .first) n (both .1 .0) (both .1 .1) fl (omega arith) in
       let x1 : List ℕ = splice x (rowAt i + statusIn) (le 1 2) in
       let l1 : length x1 ≡ partSize top = length-splice x (rowAt i + statusIn) (le 1 2) (omega arith) ∙ l in
-      let x2 : List ℕ = sweep down 4 x1 jl n in
-      let l2 : length x2 ≡ partSize top = length-sweep down 4 (length-raised 4 _) n x1 jl (omega arith) ∙ l1 in
+      let x2 : List ℕ = sweep down netWidth x1 jl n in
+      let l2 : length x2 ≡ partSize top = length-sweep down netWidth (length-raised netWidth _) n x1 jl (omega arith) ∙ l1 in
       let one = framed-splice x (rowAt i + statusIn) at (le 1 2) l (omega (arith, length-le 1 2)) (omega arith) in
-      let two = framed-sweep x1 down 4 (length-raised 4 _) jl n low l1 (omega arith) el in
-      let three = framed-sweep x2 up 4 (length-raised 4 _) jh n high l2 (omega arith) eh in
-      ap (λ (s : List ℕ). sweep up 4 (sweep down 4 (splice s at (le 1 2)) low n) high n) framed-image
-      ∙ ap (λ (s : List ℕ). sweep up 4 (sweep down 4 s low n) high n) one
-      ∙ ap (λ (s : List ℕ). sweep up 4 s high n) two
+      let two = framed-sweep x1 down netWidth (length-raised netWidth _) jl n low l1 (omega arith) el in
+      let three = framed-sweep x2 up netWidth (length-raised netWidth _) jh n high l2 (omega arith) eh in
+      ap (λ (s : List ℕ). sweep up netWidth (sweep down netWidth (splice s at (le 1 2)) low n) high n) framed-image
+      ∙ ap (λ (s : List ℕ). sweep up netWidth (sweep down netWidth s low n) high n) one
+      ∙ ap (λ (s : List ℕ). sweep up netWidth s high n) two
       ∙ three
       ∙ ap (framed top size b) (part-confirm top p (f .part-fits) number i n (rowAt i + statusIn) jl jh r e er pend fit count refl refl refl)
       ∙ image-framed _
@@ -146,16 +147,16 @@ module _ (top size : ℕ) (b : Book) (f : Fits b) where
   -- ---- a guarantee replaced
 
   pub write-guarantee : (o i at : ℕ) (g : Cents) → o ≡ suc i → o ≤ length (b .part .guarantees)
-      → at ≡ presentAt + guaranteesAt + 8 * i
-      → splice (image top size b) at (le 8 (g .0)) ≡ image top size (apply (setGuarantee o g) b)
+      → at ≡ presentAt + guaranteesAt + guaranteeWidth * i
+      → splice (image top size b) at (le guaranteeWidth (g .0)) ≡ image top size (apply (setGuarantee o g) b)
   unfolding apply
   write-guarantee o i at g e h a =
       let p : Part = b .part in
       let gf = f .part-fits .guarantees-fit in
-      let new : List ℕ = le 8 (g .0) in
+      let new : List ℕ = le guaranteeWidth (g .0) in
       ap (λ (s : List ℕ). splice s at new) framed-image
-      ∙ framed-splice (partBytes top p) (8 * i) at new (length-part top p (f .part-fits)) (omega (arith, length-le 8 (g .0))) (omega arith)
-      ∙ ap (framed top size b) (part-guarantee top p (f .part-fits) o i (8 * i) g e h refl)
+      ∙ framed-splice (partBytes top p) (guaranteeWidth * i) at new (length-part top p (f .part-fits)) (omega (arith, length-le guaranteeWidth (g .0))) (omega arith)
+      ∙ ap (framed top size b) (part-guarantee top p (f .part-fits) o i (guaranteeWidth * i) g e h refl)
       ∙ image-framed _
 
   -- ---- a part saved a batch: the present part copied over the saved one, then the flag

@@ -1,7 +1,7 @@
 -- The bytes of a row and of a schedule, one by one: a value of one byte is that byte, a larger one is taken apart by nested division.
-use Prim.Native.Nat.{ℕ, _/_, _%_}
+use Prim.Native.Nat.{_/_, _%_}
 use mathlib.Core.Path.{_≡_}
-use mathlib.Core.List.{List, [], _∷_}
+use mathlib.Core.List.{[], _∷_}
 use Rattle.wire.specs.Numbers.{le}
 use Rattle.wire.specs.Parts.{flat, pieces, pack, Small}
 use Rattle.wire.proofs.NumberLaws.{byte}

@@ -27,7 +27,7 @@ use Rattle.rules.proofs.Basics.Searches.{counting-at, counting-length}
 use Rattle.rules.proofs.Rows.Balanced.{picked-in}
 use Rattle.rules.proofs.Rows.AccountHours.{share, moved-confirm}
 use Rattle.rules.proofs.Basics.Differences.{lt-or-ge}
-use Rattle.image.specs.Layout.{accountWidth}
+use Rattle.image.specs.Layout.{accountWidth, netWidth}
 use Rattle.image.specs.Image.{accountNets, netsBytes}
 use Rattle.image.specs.Changes.{raised}
 use Rattle.image.proofs.Writing.Sizes.{RowFits}
@@ -82,7 +82,7 @@ netsOf top g = flat (map (λ a. flat (map (g a) (upTo top))) (upTo mostAccounts)
 pub nets-same : (top : ℕ) (g g′ : ℕ → ℕ → List ℕ) → ((a h : ℕ) → g a h ≡ g′ a h) → netsOf top g ≡ netsOf top g′
 nets-same top g g′ e = λ i. netsOf top (λ a h. e a h i)
 
-pub nets-of : (top : ℕ) (rows : List Row) → netsBytes top rows ≡ netsOf top (λ a h. signed 4 (subℕ (bought rows a h) (sold rows a h)))
+pub nets-of : (top : ℕ) (rows : List Row) → netsBytes top rows ≡ netsOf top (λ a h. signed netWidth (subℕ (bought rows a h) (sold rows a h)))
 unfolding netsBytes accountNets netsOf
 nets-of top rows = refl
 
@@ -145,12 +145,12 @@ set-upTo g g′ m k l other =
         ∙ other (suc j) (λ e. n (omega arith))) (or-not j k)
 
 -- f where the loop goes, nothing else changed
-pub sweep-nets : (f : List ℕ → List ℕ) → ((c : List ℕ) → length c ≡ 4 → length (f c) ≡ 4)
-    → (top a first n at : ℕ) (g g′ : ℕ → ℕ → List ℕ) → ((x h : ℕ) → length (g x h) ≡ 4)
-    → 1 ≤ a → a ≤ mostAccounts → 1 ≤ first → first + n ≤ suc top → at ≡ accountWidth top * (a - 1) + 4 * (first - 1)
+pub sweep-nets : (f : List ℕ → List ℕ) → ((c : List ℕ) → length c ≡ netWidth → length (f c) ≡ netWidth)
+    → (top a first n at : ℕ) (g g′ : ℕ → ℕ → List ℕ) → ((x h : ℕ) → length (g x h) ≡ netWidth)
+    → 1 ≤ a → a ≤ mostAccounts → 1 ≤ first → first + n ≤ suc top → at ≡ accountWidth top * (a - 1) + netWidth * (first - 1)
     → ((h : ℕ) → first ≤ h → h < first + n → f (g a h) ≡ g′ a h)
     → ((x h : ℕ) → (x ≡ a → (h < first) ⊎ (first + n ≤ h)) → g x h ≡ g′ x h)
-    → sweep f 4 (netsOf top g) at n ≡ netsOf top g′
+    → sweep f netWidth (netsOf top g) at n ≡ netsOf top g′
 unfolding netsOf
 sweep-nets f keeps top a first n at g g′ four a1 a2 f1 f2 e inside outside =
     let k : ℕ = a - 1 in
@@ -158,17 +158,17 @@ sweep-nets f keeps top a first n at g g′ four a1 a2 f1 f2 e inside outside =
     let hours : ℕ → List ℕ = λ x. flat (map (g x) (upTo top)) in
     let hours′ : ℕ → List ℕ = λ x. flat (map (g′ x) (upTo top)) in
     let cs : List (List ℕ) = map hours (upTo mostAccounts) in
-    let u : (x : ℕ) → Uniform 4 (map (g x) (upTo top)) = λ x. uniform-map 4 (g x) (upTo top) (four x) in
-    let w : (x : ℕ) → length (hours x) ≡ 4 * top = λ x. length-uniform 4 (map (g x) (upTo top)) (u x) ∙ rw (length-upTo (g x) top) in
+    let u : (x : ℕ) → Uniform netWidth (map (g x) (upTo top)) = λ x. uniform-map netWidth (g x) (upTo top) (four x) in
+    let w : (x : ℕ) → length (hours x) ≡ netWidth * top = λ x. length-uniform netWidth (map (g x) (upTo top)) (u x) ∙ rw (length-upTo (g x) top) in
     let lc : length cs ≡ mostAccounts = length-upTo hours mostAccounts in
-    let b : before cs k ≡ 4 * top * k = before-uniform (4 * top) cs k (uniform-map (4 * top) hours (upTo mostAccounts) w) (omega arith) in
+    let b : before cs k ≡ netWidth * top * k = before-uniform (netWidth * top) cs k (uniform-map (netWidth * top) hours (upTo mostAccounts) w) (omega arith) in
     let ak : suc k ≡ a = omega arith in
     let ga : getD cs k [] ≡ hours a = upTo-at hours mostAccounts k (omega arith) ∙ ap hours ak in
-    let p : at ≡ before cs k + 4 * i = omega arith in
-    let one : sweep f 4 (flat cs) at n ≡ flat (set cs k (sweep f 4 (getD cs k []) (4 * i) n)) =
-    ap (λ (z : ℕ). sweep f 4 (flat cs) z n) p ∙ sweep-flat f 4 keeps cs k (4 * i) n (omega arith) (omega (arith, ap length ga, w a)) in
-    let two : sweep f 4 (hours a) (4 * i) n ≡ hours′ a =
-    sweep-cells f 4 keeps n (map (g a) (upTo top)) i (4 * i) (u a) (omega (arith, length-upTo (g a) top)) refl
+    let p : at ≡ before cs k + netWidth * i = omega arith in
+    let one : sweep f netWidth (flat cs) at n ≡ flat (set cs k (sweep f netWidth (getD cs k []) (netWidth * i) n)) =
+    ap (λ (z : ℕ). sweep f netWidth (flat cs) z n) p ∙ sweep-flat f netWidth keeps cs k (netWidth * i) n (omega arith) (omega (arith, ap length ga, w a)) in
+    let two : sweep f netWidth (hours a) (netWidth * i) n ≡ hours′ a =
+    sweep-cells f netWidth keeps n (map (g a) (upTo top)) i (netWidth * i) (u a) (omega (arith, length-upTo (g a) top)) refl
     ∙ ap flat (over-upTo f (g a) (g′ a) top i n (omega arith) (λ h l m. inside h (omega arith) (omega arith)) (λ h o.
     outside a h (λ z. ⊎-elim (λ (v : h ≤ i). inl (omega arith)) (λ (v : i + n < h). inr (omega arith)) o))) in
     let three : set cs k (hours′ a) ≡ map hours′ (upTo mostAccounts) =
@@ -191,10 +191,10 @@ share-all party r h a b = rw (le-leb (r .first) h a, le-leb h (r .last) b, eq-eq
 
 module _ (top : ℕ) (r : Row) (fit : RowFits top r) (n at : ℕ) (count : r .first + n ≡ suc (r .last)) where
   -- a loop over the row's hours of one party, of which net says how so much changes it
-  sweep-party : (party : Row → ℕ) → 1 ≤ party r → party r ≤ mostAccounts → at ≡ accountWidth top * (party r - 1) + 4 * (r .first - 1)
-      → (f : List ℕ → List ℕ) → ((c : List ℕ) → length c ≡ 4 → length (f c) ≡ 4)
-      → (net : ℕ → ℕ → ℕ → List ℕ) → ((a h v : ℕ) → length (net a h v) ≡ 4) → ((a h : ℕ) → f (net a h 0) ≡ net a h (r .quantity .0))
-      → sweep f 4 (netsOf top (λ a h. net a h 0)) at n ≡ netsOf top (λ a h. net a h (share party a h r))
+  sweep-party : (party : Row → ℕ) → 1 ≤ party r → party r ≤ mostAccounts → at ≡ accountWidth top * (party r - 1) + netWidth * (r .first - 1)
+      → (f : List ℕ → List ℕ) → ((c : List ℕ) → length c ≡ netWidth → length (f c) ≡ netWidth)
+      → (net : ℕ → ℕ → ℕ → List ℕ) → ((a h v : ℕ) → length (net a h v) ≡ netWidth) → ((a h : ℕ) → f (net a h 0) ≡ net a h (r .quantity .0))
+      → sweep f netWidth (netsOf top (λ a h. net a h 0)) at n ≡ netsOf top (λ a h. net a h (share party a h r))
   sweep-party party low high e f keeps net four moves =
       let fl = fit .first-low in
       let lh = fit .last-high in
@@ -213,9 +213,9 @@ party-fits top r f =
 -- the nets of the seller lowered, then those of the buyer raised
 pub nets-confirm : (top : ℕ) (rows : List Row) (named n low high : ℕ) (r : Row) → r ≡ nth rows named noRow → pending r ≡ true → RowFits top r
     → r .first + n ≡ suc (r .last)
-    → low ≡ accountWidth top * (seller r - 1) + 4 * (r .first - 1)
-    → high ≡ accountWidth top * (buyer r - 1) + 4 * (r .first - 1)
-    → sweep (raised 4 (r .quantity .0)) 4 (sweep (raised 4 (256 ^ 4 - r .quantity .0)) 4 (netsBytes top rows) low n) high n
+    → low ≡ accountWidth top * (seller r - 1) + netWidth * (r .first - 1)
+    → high ≡ accountWidth top * (buyer r - 1) + netWidth * (r .first - 1)
+    → sweep (raised netWidth (r .quantity .0)) netWidth (sweep (raised netWidth (256 ^ netWidth - r .quantity .0)) netWidth (netsBytes top rows) low n) high n
     ≡ netsBytes top (mark named 2 rows)
 nets-confirm top rows named n low high r e pend fit count el eh =
     let q : ℕ = r .quantity .0 in
@@ -226,21 +226,21 @@ nets-confirm top rows named n low high r e pend fit count el eh =
     moved-confirm seller a h (λ status x. refl) rows named pend′ ∙ rw (← e) in
     let bo : (a h : ℕ) → bought rows′ a h ≡ bought rows a h + share buyer a h r = λ a h.
     moved-confirm buyer a h (λ status x. refl) rows named pend′ ∙ rw (← e) in
-    let less : ℕ → ℕ → ℕ → List ℕ = λ a h v. signed 4 (subℕ (bought rows a h) (sold rows a h + v)) in
-    let more : ℕ → ℕ → ℕ → List ℕ = λ a h v. signed 4 (subℕ (bought rows a h + v) (sold rows′ a h)) in
-    let one : sweep (raised 4 (256 ^ 4 - q)) 4 (netsBytes top rows) low n ≡ netsOf top (λ a h. more a h 0) =
-    ap (λ (s : List ℕ). sweep (raised 4 (256 ^ 4 - q)) 4 s low n) (nets-of top rows ∙ nets-same top _ _ (λ a h. rw (add-zero (sold rows a h))))
-    ∙ sweep-party top r fit n low count seller (p .0 .0) (p .0 .1) el (raised 4 (256 ^ 4 - q)) (length-raised 4 (256 ^ 4 - q)) less
-    (λ a h v. length-signed 4 _) (λ a h. rw (add-zero (sold rows a h)) (raised-sold 4 (bought rows a h) (sold rows a h) q (fit .quantity-fits)))
+    let less : ℕ → ℕ → ℕ → List ℕ = λ a h v. signed netWidth (subℕ (bought rows a h) (sold rows a h + v)) in
+    let more : ℕ → ℕ → ℕ → List ℕ = λ a h v. signed netWidth (subℕ (bought rows a h + v) (sold rows′ a h)) in
+    let one : sweep (raised netWidth (256 ^ netWidth - q)) netWidth (netsBytes top rows) low n ≡ netsOf top (λ a h. more a h 0) =
+    ap (λ (s : List ℕ). sweep (raised netWidth (256 ^ netWidth - q)) netWidth s low n) (nets-of top rows ∙ nets-same top _ _ (λ a h. rw (add-zero (sold rows a h))))
+    ∙ sweep-party top r fit n low count seller (p .0 .0) (p .0 .1) el (raised netWidth (256 ^ netWidth - q)) (length-raised netWidth (256 ^ netWidth - q)) less
+    (λ a h v. length-signed netWidth _) (λ a h. rw (add-zero (sold rows a h)) (raised-sold netWidth (bought rows a h) (sold rows a h) q (fit .quantity-fits)))
     ∙ nets-same top _ _ (λ a h. rw (add-zero (bought rows a h), so a h)) in
-    let two : sweep (raised 4 q) 4 (netsOf top (λ a h. more a h 0)) high n ≡ netsBytes top rows′ =
-    sweep-party top r fit n high count buyer (p .1 .0) (p .1 .1) eh (raised 4 q) (length-raised 4 q) more
-    (λ a h v. length-signed 4 _) (λ a h. rw (add-zero (bought rows a h)) (raised-bought 4 (bought rows a h) (sold rows′ a h) q))
+    let two : sweep (raised netWidth q) netWidth (netsOf top (λ a h. more a h 0)) high n ≡ netsBytes top rows′ =
+    sweep-party top r fit n high count buyer (p .1 .0) (p .1 .1) eh (raised netWidth q) (length-raised netWidth q) more
+    (λ a h v. length-signed netWidth _) (λ a h. rw (add-zero (bought rows a h)) (raised-bought netWidth (bought rows a h) (sold rows′ a h) q))
     ∙ nets-same top _ _ (λ a h. rw (bo a h))
     ∙ sym (nets-of top rows′) in
-    ap (λ (s : List ℕ). sweep (raised 4 q) 4 s high n) one ∙ two
+    ap (λ (s : List ℕ). sweep (raised netWidth q) netWidth s high n) one ∙ two
 
 -- the nets of an account's hours end inside those of the part
 pub nets-end : (top a first n : ℕ) → 1 ≤ a → a ≤ mostAccounts → 1 ≤ first → first + n ≤ suc top
-    → accountWidth top * (a - 1) + 4 * (first - 1) + 4 * n ≤ mostAccounts * accountWidth top
-nets-end top a first n a1 a2 f1 f2 = omega (arith, mul-le-mul-left {m = a - 1} {n = 31} (4 * top) (omega arith))
+    → accountWidth top * (a - 1) + netWidth * (first - 1) + netWidth * n ≤ mostAccounts * accountWidth top
+nets-end top a first n a1 a2 f1 f2 = omega (arith, mul-le-mul-left {m = a - 1} {n = 31} (netWidth * top) (omega arith))

@@ -22,10 +22,10 @@ use Rattle.rules.specs.declared.Schedule.{Schedule}
 use Rattle.rules.specs.Basics.{joined, upTo, Each}
 use Rattle.rules.specs.Limits.{mostOperators, mostAccounts, mostRows, mostSchedules}
 use Rattle.rules.specs.Books.{Setup, Part, Book, countsOf, operatorCount, accountCount, pointCount}
-use Rattle.rules.specs.Opening.{operatorBytes, accountBytes, pointBytes, operatorsOf, setupBytes, setupLength}
+use Rattle.rules.specs.Opening.{operatorBytes, accountBytes, pointBytes, operatorsOf, setupBytes, setupLength, operatorEntry, accountEntry, pointEntry, guaranteeWidth}
 use Rattle.rules.specs.Registration.{netOf, figure}
 use Rattle.rules.proofs.Basics.Searches.{counting-length, each-map}
-use Rattle.image.specs.Layout.{setupRoom, rowWidths, rowWidth, scheduleWidths, scheduleWidth, accountWidth, partWidths, partSize, usedSize, bookWidths}
+use Rattle.image.specs.Layout.{setupRoom, rowWidths, rowWidth, scheduleWidths, scheduleWidth, accountWidth, partWidths, partSize, usedSize, bookWidths, netWidth}
 use Rattle.image.specs.Image.{rowValues, rowBytes, scheduleValues, scheduleBytes, accountNets, netsBytes, partSections, partBytes, savedBytes, storedSetup, sectionsWith, sections, image}
 use Rattle.image.proofs.Sound.Soundness.{SoundSetup, SoundRow, SoundSchedule}
 use Rattle.image.proofs.Sound.SoundBooks.{SoundPart, SavedSound, SoundBook}
@@ -68,14 +68,14 @@ unfolding scheduleBytes
 length-schedule x = length-pack scheduleWidths (scheduleValues x) refl
 
 -- a guarantee has 8 bytes
-pub length-guarantee : (g : Cents) → length (le 8 (g .0)) ≡ 8
-length-guarantee g = length-le 8 (g .0)
+pub length-guarantee : (g : Cents) → length (le guaranteeWidth (g .0)) ≡ guaranteeWidth
+length-guarantee g = length-le guaranteeWidth (g .0)
 
 pub length-account : (top : ℕ) (rows : List Row) (a : ℕ) → length (accountNets top rows a) ≡ accountWidth top
 unfolding accountNets
 length-account top rows a =
-    let net : ℕ → List ℕ = λ h. signed 4 (figure (netOf rows a h)) in
-    length-uniform 4 (map net (upTo top)) (uniform-map 4 net (upTo top) (λ h. length-signed 4 _))
+    let net : ℕ → List ℕ = λ h. signed netWidth (figure (netOf rows a h)) in
+    length-uniform netWidth (map net (upTo top)) (uniform-map netWidth net (upTo top) (λ h. length-signed netWidth _))
     ∙ rw (length-map (upTo top) net, counting-length top 1)
 
 pub length-nets : (top : ℕ) (rows : List Row) → length (netsBytes top rows) ≡ mostAccounts * accountWidth top
@@ -90,7 +90,7 @@ length-nets top rows =
 pub wide-part : (top : ℕ) (p : Part) → PartFits p → Wide (partWidths top) (partSections top p)
 unfolding partSections
 wide-part top p f = (
-  length-slots 8 mostOperators (λ g. le 8 (g .0)) length-guarantee (p .guarantees) (f .guarantees-fit),
+  length-slots guaranteeWidth mostOperators (λ g. le guaranteeWidth (g .0)) length-guarantee (p .guarantees) (f .guarantees-fit),
   (
     length-le 2 _,
     (length-slots rowWidth mostRows rowBytes length-row (p .rows) (f .rows-fit), (length-nets top (p .rows), tt)),
@@ -146,13 +146,13 @@ length-joined w bytes [] h = omega arith
 length-joined w bytes (x ∷ xs) h =
     length-append (bytes x) (joined bytes xs) ∙ omega (arith, h x, length-joined w bytes xs h)
 
-pub length-operator-bytes : (x : Operator) → length (operatorBytes x) ≡ 10
+pub length-operator-bytes : (x : Operator) → length (operatorBytes x) ≡ operatorEntry
 length-operator-bytes x = length-pack (8 ∷ 2 ∷ []) _ refl
 
-pub length-account-bytes : (x : Account) → length (accountBytes x) ≡ 10
+pub length-account-bytes : (x : Account) → length (accountBytes x) ≡ accountEntry
 length-account-bytes x = length-pack (1 ∷ 1 ∷ 4 ∷ 4 ∷ []) _ refl
 
-pub length-point-bytes : (x : Point) → length (pointBytes x) ≡ 11
+pub length-point-bytes : (x : Point) → length (pointBytes x) ≡ pointEntry
 length-point-bytes x = length-pack (1 ∷ 1 ∷ 1 ∷ 4 ∷ 4 ∷ []) _ refl
 
 -- as many operators as guarantees and maintenances
@@ -170,9 +170,9 @@ unfolding setupBytes
 length-setup u gs g e =
     let o = length-operators gs (u .maintenance) g in
     let le4 = length-joined 4 (λ p. le 4 (p .0)) (u .estimates) (λ p. length-le 4 (p .0)) in
-    let lo = length-joined 10 operatorBytes (operatorsOf gs (u .maintenance)) length-operator-bytes in
-    let la = length-joined 10 accountBytes (u .accounts) length-account-bytes in
-    let lp = length-joined 11 pointBytes (u .points) length-point-bytes in
+    let lo = length-joined operatorEntry operatorBytes (operatorsOf gs (u .maintenance)) length-operator-bytes in
+    let la = length-joined accountEntry accountBytes (u .accounts) length-account-bytes in
+    let lp = length-joined pointEntry pointBytes (u .points) length-point-bytes in
     rw (length-append, length-append, length-append) (omega arith)
 
 pub length-stored : (u : Setup) → length (u .estimates) ≡ u .hours → length (storedSetup u) ≡ setupLength (countsOf u)

@@ -25,7 +25,8 @@ use Rattle.rules.specs.Books.{Part, noRow}
 use Rattle.rules.specs.Registration.{pending, seller, buyer, withStatus, mark, closed}
 use Rattle.rules.proofs.Rows.RowChanges.{length-mark}
 use Rattle.rules.proofs.Rows.AccountHours.{pending-inside, moved-added, moved-withdraw, moved-close}
-use Rattle.image.specs.Layout.{rowWidths, rowWidth, accountWidth, partWidths, rowCountAt, rowAt, netAt, statusIn}
+use Rattle.image.specs.Layout.{rowWidths, rowWidth, accountWidth, partWidths, rowCountAt, rowAt, netAt, statusIn, netWidth}
+use Rattle.rules.specs.Opening.{guaranteeWidth}
 use Rattle.image.specs.Image.{rowValues, rowBytes, netsBytes, partSections, partBytes}
 use Rattle.image.specs.Changes.{raised, ended}
 use Rattle.image.proofs.Writing.Sizes.{RowFits, PartFits, length-row, length-guarantee, length-nets, wide-part}
@@ -62,7 +63,7 @@ row-ended r h = rw (status-read r h) (go (pending r))
 -- its sections, with these bytes for the nets
 partOver : Part → List Row → List ℕ → List (List ℕ)
 partOver p rows nets =
-    slots 8 mostOperators (λ g. le 8 (g .0)) (p .guarantees)
+    slots guaranteeWidth mostOperators (λ g. le guaranteeWidth (g .0)) (p .guarantees)
     ∷ le 2 (length rows)
     ∷ slots rowWidth mostRows rowBytes rows
     ∷ nets
@@ -73,7 +74,7 @@ module _ (top : ℕ) (p : Part) (f : PartFits p) where
       → Wide (partWidths top) (partOver p rows nets)
   unfolding partOver
   wide-over rows nets h l = (
-    length-slots 8 mostOperators (λ g. le 8 (g .0)) length-guarantee (p .guarantees) (f .guarantees-fit),
+    length-slots guaranteeWidth mostOperators (λ g. le guaranteeWidth (g .0)) length-guarantee (p .guarantees) (f .guarantees-fit),
     (length-le 2 _, (length-slots rowWidth mostRows rowBytes length-row rows h, (l, tt))),
   )
 
@@ -128,50 +129,50 @@ module _ (top : ℕ) (p : Part) (f : PartFits p) where
   pub part-confirm : (number i n at low high : ℕ) (r : Row) → number ≡ suc i → r ≡ nth (p .rows) number noRow → pending r ≡ true
       → RowFits top r → r .first + n ≡ suc (r .last)
       → at ≡ rowAt i + statusIn → low ≡ netAt top (seller r) (r .first) → high ≡ netAt top (buyer r) (r .first)
-      → sweep (raised 4 (r .quantity .0)) 4 (sweep (raised 4 (256 ^ 4 - r .quantity .0)) 4 (splice (partBytes top p) at (le 1 2)) low n) high n
+      → sweep (raised netWidth (r .quantity .0)) netWidth (sweep (raised netWidth (256 ^ netWidth - r .quantity .0)) netWidth (splice (partBytes top p) at (le 1 2)) low n) high n
       ≡ partBytes top (record { guarantees = p .guarantees; rows = mark number 2 (p .rows) })
   unfolding partOver
   part-confirm number i n at low high r e er pend fit count a el eh =
       let rows′ : List Row = mark number 2 (p .rows) in
       let inside = pending-inside (p .rows) number (rw (← er) pend) in
       let ws : List ℕ = partWidths top in
-      let down : List ℕ → List ℕ = raised 4 (256 ^ 4 - r .quantity .0) in
-      let up : List ℕ → List ℕ = raised 4 (r .quantity .0) in
+      let down : List ℕ → List ℕ = raised netWidth (256 ^ netWidth - r .quantity .0) in
+      let up : List ℕ → List ℕ = raised netWidth (r .quantity .0) in
       let both = party-fits top r fit in
       let fl = fit .first-low in
       let lh = fit .last-high in
-      let jl : ℕ = accountWidth top * (seller r - 1) + 4 * (r .first - 1) in
-      let jh : ℕ = accountWidth top * (buyer r - 1) + 4 * (r .first - 1) in
-      let hl : jl + 4 * n ≤ mostAccounts * accountWidth top = nets-end top (seller r) (r .first) n (both .0 .0) (both .0 .1) fl (omega arith) in
-      let hh : jh + 4 * n ≤ mostAccounts * accountWidth top = nets-end top (buyer r) (r .first) n (both .1 .0) (both .1 .1) fl (omega arith) in
+      let jl : ℕ = accountWidth top * (seller r - 1) + netWidth * (r .first - 1) in
+      let jh : ℕ = accountWidth top * (buyer r - 1) + netWidth * (r .first - 1) in
+      let hl : jl + netWidth * n ≤ mostAccounts * accountWidth top = nets-end top (seller r) (r .first) n (both .0 .0) (both .0 .1) fl (omega arith) in
+      let hh : jh + netWidth * n ≤ mostAccounts * accountWidth top = nets-end top (buyer r) (r .first) n (both .1 .0) (both .1 .1) fl (omega arith) in
       let ns : List ℕ = netsBytes top (p .rows) in
       let ls : length ns ≡ mostAccounts * accountWidth top = length-nets top (p .rows) in
-      let ns′ : List ℕ = sweep down 4 ns jl n in
-      let ls′ : length ns′ ≡ mostAccounts * accountWidth top = length-sweep down 4 (length-raised 4 _) n ns jl (omega arith) ∙ ls in
+      let ns′ : List ℕ = sweep down netWidth ns jl n in
+      let ls′ : length ns′ ≡ mostAccounts * accountWidth top = length-sweep down netWidth (length-raised netWidth _) n ns jl (omega arith) ∙ ls in
       let lr : length rows′ ≤ mostRows = omega (arith, length-mark number 2 (p .rows), f .rows-fit) in
       let marked : splice (partBytes top p) at (le 1 2) ≡ flat (partOver p rows′ ns) = part-mark i 2 at (omega arith) a ∙ rw (← e) in
-      let one : sweep down 4 (flat (partOver p rows′ ns)) low n ≡ flat (partOver p rows′ ns′) =
-      sweep-part down 4 (length-raised 4 _) ws (partOver p rows′ ns) (wide-over rows′ ns lr ls) 3 jl n low (omega arith) hl (omega arith) in
-      let two : sweep up 4 (flat (partOver p rows′ ns′)) high n ≡ flat (partOver p rows′ (sweep up 4 ns′ jh n)) =
-      sweep-part up 4 (length-raised 4 _) ws (partOver p rows′ ns′) (wide-over rows′ ns′ lr ls′) 3 jh n high (omega arith) hh (omega arith) in
-      ap (λ (s : List ℕ). sweep up 4 (sweep down 4 s low n) high n) marked
-      ∙ ap (λ (s : List ℕ). sweep up 4 s high n) one
+      let one : sweep down netWidth (flat (partOver p rows′ ns)) low n ≡ flat (partOver p rows′ ns′) =
+      sweep-part down netWidth (length-raised netWidth _) ws (partOver p rows′ ns) (wide-over rows′ ns lr ls) 3 jl n low (omega arith) hl (omega arith) in
+      let two : sweep up netWidth (flat (partOver p rows′ ns′)) high n ≡ flat (partOver p rows′ (sweep up netWidth ns′ jh n)) =
+      sweep-part up netWidth (length-raised netWidth _) ws (partOver p rows′ ns′) (wide-over rows′ ns′ lr ls′) 3 jh n high (omega arith) hh (omega arith) in
+      ap (λ (s : List ℕ). sweep up netWidth (sweep down netWidth s low n) high n) marked
+      ∙ ap (λ (s : List ℕ). sweep up netWidth s high n) one
       ∙ two
       ∙ ap (λ (s : List ℕ). flat (partOver p rows′ s)) (nets-confirm top (p .rows) number n jl jh r er pend fit count refl refl)
       ∙ over-part rows′
 
   -- a guarantee replaced
-  pub part-guarantee : (operator i at : ℕ) (g : Cents) → operator ≡ suc i → operator ≤ length (p .guarantees) → at ≡ 8 * i
-      → splice (partBytes top p) at (le 8 (g .0))
+  pub part-guarantee : (operator i at : ℕ) (g : Cents) → operator ≡ suc i → operator ≤ length (p .guarantees) → at ≡ guaranteeWidth * i
+      → splice (partBytes top p) at (le guaranteeWidth (g .0))
       ≡ partBytes top (record { guarantees = put (p .guarantees) operator g; rows = p .rows })
   unfolding partBytes partSections
   part-guarantee operator i at g e h a =
       let gf = f .guarantees-fit in
-      let l = length-le 8 (g .0) in
+      let l = length-le guaranteeWidth (g .0) in
       let old : Cents = getD (p .guarantees) i (cents 0) in
-      let more = slots-set 8 mostOperators (λ x. le 8 (x .0)) length-guarantee (p .guarantees) i 0 (8 * i) (le 8 (g .0)) (cents 0) g gf (omega arith) (omega arith) (omega arith)
-      (splice-all (le 8 (old .0)) (le 8 (g .0)) (l ∙ sym (length-le 8 (old .0)))) in
-      write-part (partWidths top) (partSections top p) (wide-part top p f) 0 (8 * i) at (le 8 (g .0)) (omega arith) (omega arith) (omega arith)
+      let more = slots-set guaranteeWidth mostOperators (λ x. le guaranteeWidth (x .0)) length-guarantee (p .guarantees) i 0 (guaranteeWidth * i) (le guaranteeWidth (g .0)) (cents 0) g gf (omega arith) (omega arith) (omega arith)
+      (splice-all (le guaranteeWidth (old .0)) (le guaranteeWidth (g .0)) (l ∙ sym (length-le guaranteeWidth (old .0)))) in
+      write-part (partWidths top) (partSections top p) (wide-part top p f) 0 (guaranteeWidth * i) at (le guaranteeWidth (g .0)) (omega arith) (omega arith) (omega arith)
       ∙ rw (e, more)
 
   -- a loop over the rows: the pending ones withdrawn

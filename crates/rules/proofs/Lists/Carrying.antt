@@ -1,13 +1,12 @@
 -- Lists of calls on books of two forms: where every call answers alike on both, so does every list, and what is heard, accepted, ended
 -- and undone on the one is so on the other.
-use Prim.Native.Nat.{ℕ}
 use mathlib.Core.Path.{_≡_, refl, sym, ap, _∙_}
 use mathlib.Core.List.{List, [], _∷_, map, map-map}
-use mathlib.Core.Bool.{Bool, true, _&&_}
+use mathlib.Core.Bool.{Bool, _&&_}
 use Rattle.rules.specs.Basics.{every, Each, nil, cons}
 use Rattle.rules.specs.Requests.{Kind, openBatch, undo}
 use Rattle.rules.specs.Calls.{Call, Answer, carried, kindIn, _∈_}
-use Rattle.rules.specs.Lists.{Run, isAcceptance, runs, after, accepts, acceptsAs, heard, endsNoBatch, UndoneBatch}
+use Rattle.rules.specs.Lists.{Run, isAcceptance, runs, after, acceptsAs, heard, endsNoBatch, UndoneBatch}
 use Rattle.rules.proofs.Lists.CallLists.{after-keeps}
 
 every-map : {A B : Type 0} (p : B → Bool) (f : A → B) (xs : List A) → every p (map f xs) ≡ every (λ x. p (f x)) xs

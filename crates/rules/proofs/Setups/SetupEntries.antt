@@ -14,7 +14,7 @@ use Rattle.wire.proofs.SlotLaws.{length-chunks, chunk-at, flat-chunks, chunks-a
 use Rattle.units.specs.Units.{kwh, cents, centsPerMwh}
 use Rattle.rules.specs.Basics.{nth, entries, joined, Each, cons}
 use Rattle.rules.specs.Books.{countsOf}
-use Rattle.rules.specs.Opening.{countsIn, setupOf, estimatesIn, operatorsIn, accountsIn, pointsIn, priceIn, operatorIn, accountIn, pointIn, Value, valuesOf}
+use Rattle.rules.specs.Opening.{countsIn, setupOf, estimatesIn, operatorsIn, accountsIn, pointsIn, priceIn, operatorIn, accountIn, pointIn, Value, valuesOf, priceWidth, operatorEntry, accountEntry, pointEntry}
 
 -- ---- entries by number
 
@@ -81,20 +81,20 @@ module _ (s : List ℕ) (at : ℕ) where
   first : (w m : ℕ) → m ≤ w → numberAt (take w (drop at s)) 0 m ≡ numberAt s at m
   first w m h = number-inner m 0 w at s (omega arith) ∙ rw (add-zero at)
 
-  pub price-at : priceIn (take 4 (drop at s)) ≡ centsPerMwh (numberAt s at 4)
+  pub price-at : priceIn (take priceWidth (drop at s)) ≡ centsPerMwh (numberAt s at 4)
   unfolding priceIn numberAt
   price-at = refl
 
-  pub operator-at : operatorIn (take 10 (drop at s)) ≡ record { guarantee = cents (numberAt s at 8); maintenance = numberAt s (at + 8) 2 }
+  pub operator-at : operatorIn (take operatorEntry (drop at s)) ≡ record { guarantee = cents (numberAt s at 8); maintenance = numberAt s (at + 8) 2 }
   unfolding operatorIn
-  operator-at = rw (first 10 8 (omega arith), number-inner 2 8 10 at s (omega arith))
+  operator-at = rw (first operatorEntry 8 (omega arith), number-inner 2 8 operatorEntry at s (omega arith))
 
-  pub account-at : accountIn (take 10 (drop at s)) ≡
+  pub account-at : accountIn (take accountEntry (drop at s)) ≡
       record { operator = numberAt s at 1; kind = numberAt s (at + 1) 1; lower = kwh (numberAt s (at + 2) 4); upper = kwh (numberAt s (at + 6) 4) }
   unfolding accountIn
-  account-at = rw (first 10 1 (omega arith), number-inner 1 1 10 at s (omega arith), number-inner 4 2 10 at s (omega arith), number-inner 4 6 10 at s (omega arith))
+  account-at = rw (first accountEntry 1 (omega arith), number-inner 1 1 accountEntry at s (omega arith), number-inner 4 2 accountEntry at s (omega arith), number-inner 4 6 accountEntry at s (omega arith))
 
-  pub point-at : pointIn (take 11 (drop at s)) ≡
+  pub point-at : pointIn (take pointEntry (drop at s)) ≡
       record {
         account = numberAt s at 1;
         kind = numberAt s (at + 1) 1;
@@ -103,7 +103,7 @@ module _ (s : List ℕ) (at : ℕ) where
         withdrawal = kwh (numberAt s (at + 7) 4);
       }
   unfolding pointIn
-  point-at = rw (first 11 1 (omega arith), number-inner 1 1 11 at s (omega arith), number-inner 1 2 11 at s (omega arith), number-inner 4 3 11 at s (omega arith), number-inner 4 7 11 at s (omega arith))
+  point-at = rw (first pointEntry 1 (omega arith), number-inner 1 1 pointEntry at s (omega arith), number-inner 1 2 pointEntry at s (omega arith), number-inner 4 3 pointEntry at s (omega arith), number-inner 4 7 pointEntry at s (omega arith))
 
 -- ---- what set-up bytes say
 

@@ -1,5 +1,5 @@
 -- What is known of set-up bytes that are in shape, and of those that are not refused.
-use Prim.Native.Nat.{ℕ, _≤_}
+use Prim.Native.Nat.{ℕ, _≤_, _+_, _*_}
 use mathlib.Core.Path.{_≡_}
 use mathlib.Core.List.{List}
 use mathlib.Core.Option.{none}
@@ -10,7 +10,7 @@ use borrow.Author.Tests.{ltb-false, leb-true, eqb-true, not-false}
 use Rattle.rules.specs.declared.Counts.{Counts}
 use Rattle.rules.specs.Basics.{within}
 use Rattle.rules.specs.Limits.{fewestHours, mostHours, mostOperators, mostAccounts, mostPoints, mostZones}
-use Rattle.rules.specs.Opening.{countsIn, setupLength, badCounts, misshapen, setupOf, operatorsIn, faultyOffset, setupRefusal}
+use Rattle.rules.specs.Opening.{countsIn, setupLength, badCounts, misshapen, setupOf, operatorsIn, faultyOffset, setupRefusal, countsWidth, priceWidth, operatorEntry, accountEntry, pointEntry}
 use Rattle.rules.proofs.Basics.Tests.{or-neither, within-true}
 use Rattle.rules.proofs.Checks.Clearing.{clear, spared, spared↑}
 
@@ -48,7 +48,7 @@ in-range n h =
 -- ---- the shape
 
 pub record Shape (s : List ℕ) : Type 0 where
-  pub long : 5 ≤ length s
+  pub long : countsWidth ≤ length s
   pub counts : InRange (countsIn s)
   pub exact : length s ≡ setupLength (countsIn s)
 
@@ -64,7 +64,11 @@ shape-of s h =
     }
 
 -- the longest set-up
-pub shape-length : (s : List ℕ) → Shape s → length s ≤ 1289
+abbrev pub longestSetup : ℕ
+longestSetup =
+    countsWidth + priceWidth * mostHours + operatorEntry * mostOperators + accountEntry * mostAccounts + pointEntry * mostPoints
+
+pub shape-length : (s : List ℕ) → Shape s → length s ≤ longestSetup
 shape-length s h = omega (arith, h .exact, h .counts)
 
 -- ---- a set-up that is not refused

@@ -11,6 +11,7 @@ use Rattle.units.specs.Units.{cents}
 use Rattle.units.specs.declared.Cents.{Cents}
 use Rattle.rules.specs.Basics.{every}
 use Rattle.rules.specs.Limits.{mostGuarantee}
+use Rattle.rules.specs.Opening.{guaranteeWidth}
 use Rattle.image.specs.Cells.{guaranteesFrom}
 use Rattle.image.proofs.Reading.RowsFrom.{every-done, every-step}
 use Rattle.audit.proofs.checks.guarantees_ok.Statement.{statement}
@@ -21,7 +22,7 @@ small g = leb (g .0) mostGuarantee
 
 abbrev Inv-loop : tie.InvT-loop
 Inv-loop s at n ok₀ k₀ left₀ ok k left =
-    (k + 8 * left ≤ length s)
+    (k + guaranteeWidth * left ≤ length s)
     × (every small (guaranteesFrom s at n) ≡ (ok && every small (guaranteesFrom s k left)))
 
 abbrev μ-loop : tie.MeasureT-loop
@@ -48,14 +49,14 @@ loop-again c =
     let b = c .before .before in
     let l = b .loop in (
       search needs,
-      every-step (λ x. cents (number x)) 8 (l .ok) small (b .before .before .args .s .now) (l .k) (l .left) (l .left - 1) (omega arith) (ap cents (c .get-u64 .ensures)) refl (l .inv .1),
+      every-step (λ x. cents (number x)) guaranteeWidth (l .ok) small (b .before .before .args .s .now) (l .k) (l .left) (l .left - 1) (omega arith) (ap cents (c .get-u64 .ensures)) refl (l .inv .1),
     )
 
 returns : tie.Need-returns Inv-loop μ-loop
 unfolding guaranteesFrom
 returns c =
     let l = c .before .loop in
-    every-done (λ x. cents (number x)) 8 (l .ok) small (c .before .before .before .args .s .now) (l .k) (l .left) (omega arith) (l .inv .1)
+    every-done (λ x. cents (number x)) guaranteeWidth (l .ok) small (c .before .before .before .args .s .now) (l .k) (l .left) (omega arith) (l .inv .1)
 
 pub guarantees-ok-spec : {M : Type 1} → statement M
 guarantees-ok-spec =

@@ -9,13 +9,14 @@ use Rattle.rules.specs.Basics.{any, every}
 use Rattle.rules.specs.Registration.{pending}
 use Rattle.image.specs.Image.{rowIn}
 use Rattle.image.specs.Cells.{rowsFrom}
+use Rattle.image.specs.Layout.{rowWidth}
 use Rattle.image.proofs.Reading.RowsFrom.{every-done, every-step, not-any}
 use Rattle.audit.proofs.checks.none_pending.Statement.{statement}
 use Rattle.audit.proofs.checks.none_pending.Tie as tie
 
 abbrev Inv-loop : tie.InvT-loop
 Inv-loop s at n ok₀ k₀ left₀ ok k left =
-    (k + 18 * left ≤ length s)
+    (k + rowWidth * left ≤ length s)
     × (not (any pending (rowsFrom s at n)) ≡ (ok && every (λ r. not (pending r)) (rowsFrom s k left)))
 
 abbrev μ-loop : tie.MeasureT-loop
@@ -42,14 +43,14 @@ loop-again c =
     let b = c .before .before .before in
     let l = b .loop in (
       search needs,
-      every-step rowIn 18 (l .ok) (λ r. not (pending r)) (b .before .before .args .s .now) (l .k) (l .left) (l .left - 1) (omega arith) (c .before .row-at .ensures) refl (l .inv .1),
+      every-step rowIn rowWidth (l .ok) (λ r. not (pending r)) (b .before .before .args .s .now) (l .k) (l .left) (l .left - 1) (omega arith) (c .before .row-at .ensures) refl (l .inv .1),
     )
 
 returns : tie.Need-returns Inv-loop μ-loop
 unfolding rowsFrom
 returns c =
     let l = c .before .loop in
-    every-done rowIn 18 (l .ok) (λ r. not (pending r)) (c .before .before .before .args .s .now) (l .k) (l .left) (omega arith) (l .inv .1)
+    every-done rowIn rowWidth (l .ok) (λ r. not (pending r)) (c .before .before .before .args .s .now) (l .k) (l .left) (omega arith) (l .inv .1)
 
 pub none-pending-spec : {M : Type 1} → statement M
 none-pending-spec =

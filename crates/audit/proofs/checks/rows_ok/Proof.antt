@@ -10,13 +10,14 @@ use Rattle.rules.specs.Books.{Setup, accountCount, periods}
 use Rattle.image.specs.Image.{rowIn}
 use Rattle.image.specs.Valid.{rowOk}
 use Rattle.image.specs.Cells.{rowsFrom}
+use Rattle.image.specs.Layout.{rowWidth}
 use Rattle.image.proofs.Reading.RowsFrom.{every-done, every-step}
 use Rattle.audit.proofs.checks.rows_ok.Statement.{statement}
 use Rattle.audit.proofs.checks.rows_ok.Tie as tie
 
 abbrev Inv-loop : tie.InvT-loop
 Inv-loop s at n accounts hours ok₀ k₀ left₀ ok k left =
-    (k + 18 * left ≤ length s)
+    (k + rowWidth * left ≤ length s)
     × ((u : Setup) → accountCount u ≡ accounts → periods u ≡ hours → every (rowOk u) (rowsFrom s at n) ≡ (ok && every (rowOk u) (rowsFrom s k left)))
 
 abbrev μ-loop : tie.MeasureT-loop
@@ -46,14 +47,14 @@ loop-again c =
     let b = c .before .before .before in
     let l = b .loop in (
       search needs,
-      λ u n h. every-step rowIn 18 (l .ok) (rowOk u) (b .before .before .args .s .now) (l .k) (l .left) (l .left - 1) (omega arith) (c .before .row-at .ensures) (c .row-ok .ensures u n h) (l .inv .1 u n h),
+      λ u n h. every-step rowIn rowWidth (l .ok) (rowOk u) (b .before .before .args .s .now) (l .k) (l .left) (l .left - 1) (omega arith) (c .before .row-at .ensures) (c .row-ok .ensures u n h) (l .inv .1 u n h),
     )
 
 returns : tie.Need-returns Inv-loop μ-loop
 unfolding rowsFrom
 returns c u n h =
     let l = c .before .loop in
-    every-done rowIn 18 (l .ok) (rowOk u) (c .before .before .before .args .s .now) (l .k) (l .left) (omega arith) (l .inv .1 u n h)
+    every-done rowIn rowWidth (l .ok) (rowOk u) (c .before .before .before .args .s .now) (l .k) (l .left) (omega arith) (l .inv .1 u n h)
 
 pub rows-ok-spec : {M : Type 1} → statement M
 rows-ok-spec =

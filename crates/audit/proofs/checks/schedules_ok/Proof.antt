@@ -10,13 +10,14 @@ use Rattle.rules.specs.Books.{Setup, pointCount, periods}
 use Rattle.image.specs.Image.{scheduleIn}
 use Rattle.image.specs.Valid.{scheduleOk}
 use Rattle.image.specs.Cells.{schedulesFrom}
+use Rattle.image.specs.Layout.{scheduleWidth}
 use Rattle.image.proofs.Reading.RowsFrom.{every-done, every-step}
 use Rattle.audit.proofs.checks.schedules_ok.Statement.{statement}
 use Rattle.audit.proofs.checks.schedules_ok.Tie as tie
 
 abbrev Inv-loop : tie.InvT-loop
 Inv-loop s at n points hours ok₀ k₀ left₀ ok k left =
-    (k + 11 * left ≤ length s)
+    (k + scheduleWidth * left ≤ length s)
     × ((u : Setup) → pointCount u ≡ points → periods u ≡ hours → every (scheduleOk u) (schedulesFrom s at n) ≡ (ok && every (scheduleOk u) (schedulesFrom s k left)))
 
 abbrev μ-loop : tie.MeasureT-loop
@@ -46,14 +47,14 @@ loop-again c =
     let b = c .before .before .before in
     let l = b .loop in (
       search needs,
-      λ u n h. every-step scheduleIn 11 (l .ok) (scheduleOk u) (b .before .before .args .s .now) (l .k) (l .left) (l .left - 1) (omega arith) (c .before .schedule-at .ensures) (c .schedule-ok .ensures u n h) (l .inv .1 u n h),
+      λ u n h. every-step scheduleIn scheduleWidth (l .ok) (scheduleOk u) (b .before .before .args .s .now) (l .k) (l .left) (l .left - 1) (omega arith) (c .before .schedule-at .ensures) (c .schedule-ok .ensures u n h) (l .inv .1 u n h),
     )
 
 returns : tie.Need-returns Inv-loop μ-loop
 unfolding schedulesFrom
 returns c u n h =
     let l = c .before .loop in
-    every-done scheduleIn 11 (l .ok) (scheduleOk u) (c .before .before .before .args .s .now) (l .k) (l .left) (omega arith) (l .inv .1 u n h)
+    every-done scheduleIn scheduleWidth (l .ok) (scheduleOk u) (c .before .before .before .args .s .now) (l .k) (l .left) (omega arith) (l .inv .1 u n h)
 
 pub schedules-ok-spec : {M : Type 1} → statement M
 schedules-ok-spec =

@@ -9,7 +9,6 @@ use Rattle.rules.specs.declared.Row.{Row}
 use Rattle.rules.specs.Basics.{every, counting}
 use Rattle.rules.specs.Opening.{countsIn, setupOf}
 use Rattle.rules.specs.Registration.{covered}
-use Rattle.rules.specs.Limits.{mostHours}
 use Rattle.rules.proofs.Setups.SetupEntries.{counts-of-setup}
 use Rattle.rules.proofs.Basics.CountingLaws.{every-done, every-next, every-fails, every-same}
 use Rattle.image.specs.Valid.{guaranteesKept}
@@ -19,16 +18,16 @@ use Rattle.audit.proofs.part.guarantees_cover.Statement.{statement}
 use Rattle.audit.proofs.part.guarantees_cover.Tie as tie
 
 abbrev Inv-loop : tie.InvT-loop
-Inv-loop book at table n number₀ number =
+Inv-loop book at table top n number₀ number =
     (n .operators ≡ countsIn book .operators)
     × (1 ≤ number)
     × (number ≤ countsIn book .operators + 1)
-    × ((rows : List Row) → SumsOf mostHours rows table
+    × ((rows : List Row) → SumsOf top rows table
     → guaranteesKept (setupOf book) (partWith book at rows)
     ≡ every (covered (setupOf book) (partWith book at rows)) (counting (countsIn book .operators + 1 - number) number))
 
 abbrev μ-loop : tie.MeasureT-loop
-μ-loop book at table n number₀ number = countsIn book .operators + 1 - number
+μ-loop book at table top n number₀ number = countsIn book .operators + 1 - number
 
 counts-requires : tie.Need-counts-requires Inv-loop μ-loop
 counts-requires c κs = search needs

@@ -1,6 +1,6 @@
 -- What was compared so far, with what follows of the rows left on both sides, is what follows of all.
 use Prim.Native.Nat.{_+_, _-_, _*_, _≤_}
-use mathlib.Core.Path.{_≡_, refl, sym, _∙_}
+use mathlib.Core.Path.{_≡_, sym, _∙_}
 use mathlib.Core.Bool.{_&&_}
 use native.Mathlib.Omega.{arith}
 use lib.ListN.{length, take, drop}
@@ -8,6 +8,7 @@ use borrow.Author.Needs.{needs}
 use Rattle.image.specs.Image.{rowIn}
 use Rattle.image.specs.Valid.{follows}
 use Rattle.image.specs.Cells.{rowsFrom}
+use Rattle.image.specs.Layout.{rowWidth}
 use Rattle.audit.proofs.FollowLaws.{rowFollows, follows-short, follows-done, follows-step}
 use Rattle.audit.proofs.saved.rows_follow.Statement.{statement}
 use Rattle.audit.proofs.saved.rows_follow.Tie as tie
@@ -15,8 +16,8 @@ use Rattle.audit.proofs.saved.rows_follow.Tie as tie
 abbrev Inv-loop : tie.InvT-loop
 Inv-loop s from m at n ok₀ i₀ k₀ left₀ ok i k left =
     (m ≤ n)
-    × (i + 18 * left ≤ length s)
-    × (k + 18 * (left + (n - m)) ≤ length s)
+    × (i + rowWidth * left ≤ length s)
+    × (k + rowWidth * (left + (n - m)) ≤ length s)
     × (follows (rowsFrom s from m) (rowsFrom s at n) ≡ (ok && follows (rowsFrom s i left) (rowsFrom s k (left + (n - m)))))
 
 abbrev μ-loop : tie.MeasureT-loop
@@ -57,7 +58,7 @@ loop-again c =
     let l = c .before .before .before .before .loop in
     let a = c .before .before .before .before .before .before .before .args in
     let s = a .s .now in
-    let e : c .row-follows .result ≡ rowFollows (rowIn (take 18 (drop (l .i) s))) (rowIn (take 18 (drop (l .k) s))) =
+    let e : c .row-follows .result ≡ rowFollows (rowIn (take rowWidth (drop (l .i) s))) (rowIn (take rowWidth (drop (l .k) s))) =
     rw (← c .before .before .row-at .ensures, ← c .before .row-at2 .ensures) (c .row-follows .ensures) in
     let left = l .left - 1 in (
       search needs,

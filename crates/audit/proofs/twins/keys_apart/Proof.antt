@@ -6,14 +6,14 @@ use native.Mathlib.Nat.{zero-add, sub-zero}
 use native.Mathlib.Omega.{arith}
 use lib.ListN.{length, length-set}
 use borrow.Author.Needs.{needs}
-use Rattle.audit.specs.Twins.{keysApart}
+use Rattle.audit.specs.Twins.{keysApart, marks}
 use Rattle.audit.proofs.TwinLaws.{Marked, none-marked, mark-more, unmarked, apart-done, apart-found, apart-next, apart-before}
 use Rattle.audit.proofs.twins.keys_apart.Statement.{statement}
 use Rattle.audit.proofs.twins.keys_apart.Tie as tie
 
 abbrev Inv-loop : tie.InvT-loop
 Inv-loop codes pairs seen₀ n left₀ seen left =
-    (left ≤ n) × (length seen ≡ 8192) × (keysApart codes pairs left (n - left) ≡ true) × Marked codes pairs left n seen
+    (left ≤ n) × (length seen ≡ marks) × (keysApart codes pairs left (n - left) ≡ true) × Marked codes pairs left n seen
 
 abbrev μ-loop : tie.MeasureT-loop
 μ-loop codes pairs seen₀ n left₀ seen left = left

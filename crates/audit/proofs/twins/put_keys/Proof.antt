@@ -5,13 +5,14 @@ use native.Mathlib.Omega.{arith}
 use lib.ListN.{length, length-set}
 use borrow.Author.Needs.{needs}
 use Rattle.rules.specs.declared.Row.{Row}
+use Rattle.rules.specs.Limits.{mostRows}
 use Rattle.audit.specs.Twins.{pairOf, Keyed}
 use Rattle.audit.proofs.TwinLaws.{no-keys, keys-more}
 use Rattle.audit.proofs.twins.put_keys.Statement.{statement}
 use Rattle.audit.proofs.twins.put_keys.Tie as tie
 
 abbrev Inv-loop : tie.InvT-loop
-Inv-loop codes₀ pairs₀ s at n i₀ codes pairs i = (length codes ≡ 256) × (length pairs ≡ 256) × (i ≤ n) × Keyed s at i codes pairs
+Inv-loop codes₀ pairs₀ s at n i₀ codes pairs i = (length codes ≡ mostRows) × (length pairs ≡ mostRows) × (i ≤ n) × Keyed s at i codes pairs
 
 abbrev μ-loop : tie.MeasureT-loop
 μ-loop codes₀ pairs₀ s at n i₀ codes pairs i = n - i

@@ -7,6 +7,7 @@ use Rattle.audit.proofs.PartStands.{few-rows}
 use Rattle.audit.proofs.StandLaws.{setup-known}
 use Rattle.audit.proofs.BookStands.{not-sized, one-falls, rest-decides}
 use borrow.Author.Needs.{needs}
+use Rattle.image.specs.Layout.{presentAt}
 use Rattle.audit.proofs.whole.is_book.Statement.{statement}
 use Rattle.audit.proofs.whole.is_book.Tie as tie
 
@@ -38,7 +39,7 @@ saved-stands-requires c κs =
     let stands = part .before in
     let tested = stands .before in (
       setup-known _ (tested .before .if1 .left) (sym (tested .setup-stands .ensures) ∙ not-false _ (stands .if2 .left)),
-      few-rows _ 11012 (sym (part .part-stands .ensures) ∙ not-false _ (c .if3 .left)),
+      few-rows _ presentAt (sym (part .part-stands .ensures) ∙ not-false _ (c .if3 .left)),
     )
 
 returns-4 : tie.Need-returns-4
@@ -55,7 +56,7 @@ schedules-stand-requires c κs =
 phase-stands-requires : tie.Need-phase-stands-requires
 phase-stands-requires c κs =
     let stands = c .before .before .before in
-    (search needs, few-rows _ 11012 (sym (stands .before .part-stands .ensures) ∙ not-false _ (stands .if3 .left)))
+    (search needs, few-rows _ presentAt (sym (stands .before .part-stands .ensures) ∙ not-false _ (stands .if3 .left)))
 
 sub-all-zero : tie.Need-sub-all-zero
 sub-all-zero c = search needs

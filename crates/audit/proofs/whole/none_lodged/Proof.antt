@@ -5,13 +5,14 @@ use mathlib.Core.Bool.{_&&_}
 use native.Mathlib.Omega.{arith}
 use lib.ListN.{length}
 use borrow.Author.Needs.{needs}
+use Rattle.rules.specs.Opening.{operatorEntry}
 use Rattle.audit.specs.Plain.{noneLodged}
 use Rattle.audit.proofs.StandLaws.{none-lodged-done, none-lodged-step}
 use Rattle.audit.proofs.whole.none_lodged.Statement.{statement}
 use Rattle.audit.proofs.whole.none_lodged.Tie as tie
 
 abbrev Inv-loop : tie.InvT-loop
-Inv-loop s at n ok₀ k₀ left₀ ok k left = (k + 10 * left ≤ length s) × (noneLodged s at n ≡ (ok && noneLodged s k left))
+Inv-loop s at n ok₀ k₀ left₀ ok k left = (k + operatorEntry * left ≤ length s) × (noneLodged s at n ≡ (ok && noneLodged s k left))
 
 abbrev μ-loop : tie.MeasureT-loop
 μ-loop s at n ok₀ k₀ left₀ ok k left = left

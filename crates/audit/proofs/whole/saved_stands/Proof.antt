@@ -5,6 +5,8 @@ use borrow.Author.Tests.{not-true, not-false}
 use Rattle.audit.proofs.PartStands.{few-rows}
 use Rattle.audit.proofs.BookStands.{saved-without, saved-with}
 use borrow.Author.Needs.{needs}
+use Rattle.rules.specs.Limits.{mostHours}
+use Rattle.image.specs.Layout.{savedAt}
 use Rattle.audit.proofs.whole.saved_stands.Statement.{statement}
 use Rattle.audit.proofs.whole.saved_stands.Tie as tie
 
@@ -55,7 +57,7 @@ rows-follow-requires c κs =
     let stands = saved .before in
     let tested = stands .before in
     let s = tested .before .before .before .before .args .book .now in
-    let few = few-rows s 18950 (sym (tested .part-stands .ensures) ∙ not-false _ (stands .if2 .left)) in
+    let few = few-rows s (savedAt mostHours) (sym (tested .part-stands .ensures) ∙ not-false _ (stands .if2 .left)) in
     (omega (arith, few, saved .get-u16 .ensures), omega (arith, c .get-u162 .ensures))
 
 returns-3 : tie.Need-returns-3

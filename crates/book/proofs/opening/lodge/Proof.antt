@@ -4,6 +4,7 @@ use mathlib.Core.Path.{_≡_, refl, sym, _∙_}
 use lib.ListN.{length, length-take, length-drop}
 use native.Mathlib.Omega.{arith}
 use borrow.Author.Needs.{needs}
+use Rattle.rules.specs.Opening.{guaranteeWidth, operatorEntry}
 use Rattle.book.specs.Fresh.{lodged}
 use Rattle.book.proofs.OpeningLaws.{lodged-done, lodged-step}
 use Rattle.book.proofs.opening.lodge.Statement.{statement}
@@ -11,7 +12,7 @@ use Rattle.book.proofs.opening.lodge.Tie as tie
 
 abbrev Inv-loop : tie.InvT-loop
 Inv-loop book₀ to setup from n at₀ next₀ left₀ book at next left =
-    (next + 10 * left ≤ length setup) × (at + 8 * left ≤ length book) × (length book ≡ length book₀) × (lodged book₀ to setup from n ≡ lodged book at setup next left)
+    (next + operatorEntry * left ≤ length setup) × (at + guaranteeWidth * left ≤ length book) × (length book ≡ length book₀) × (lodged book₀ to setup from n ≡ lodged book at setup next left)
 
 abbrev μ-loop : tie.MeasureT-loop
 μ-loop book₀ to setup from n at₀ next₀ left₀ book at next left = left

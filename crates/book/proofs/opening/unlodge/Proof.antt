@@ -4,13 +4,14 @@ use mathlib.Core.Path.{_≡_, refl, sym, _∙_}
 use lib.ListN.{length}
 use native.Mathlib.Omega.{arith}
 use borrow.Author.Needs.{needs}
+use Rattle.rules.specs.Opening.{operatorEntry}
 use Rattle.book.specs.Fresh.{unlodged}
 use Rattle.book.proofs.OpeningLaws.{unlodged-done, unlodged-step}
 use Rattle.book.proofs.opening.unlodge.Statement.{statement}
 use Rattle.book.proofs.opening.unlodge.Tie as tie
 
 abbrev Inv-loop : tie.InvT-loop
-Inv-loop s₀ from n at₀ standing₀ s at standing = (at + 10 * standing ≤ length s) × (length s ≡ length s₀) × (unlodged s₀ from n ≡ unlodged s at standing)
+Inv-loop s₀ from n at₀ standing₀ s at standing = (at + operatorEntry * standing ≤ length s) × (length s ≡ length s₀) × (unlodged s₀ from n ≡ unlodged s at standing)
 
 abbrev μ-loop : tie.MeasureT-loop
 μ-loop s₀ from n at₀ standing₀ s at standing = standing

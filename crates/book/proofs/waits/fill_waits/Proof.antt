@@ -10,6 +10,7 @@ use Rattle.rules.specs.Basics.{any}
 use Rattle.rules.specs.Limits.{mostEnergy, mostRows}
 use Rattle.rules.specs.Registration.{alike}
 use Rattle.image.specs.Valid.{bookIn}
+use Rattle.book.specs.Waits.{waitsSize}
 use Rattle.book.proofs.WaitLaws.{Waiting, length-no-waits, waiting-first, waiting-next, waiting-last, told-next, told-last}
 use Rattle.book.proofs.waits.fill_waits.Statement.{statement}
 use Rattle.book.proofs.waits.fill_waits.Tie as tie
@@ -21,7 +22,7 @@ Inv-loop table₀ book account counterparty code n found₀ number₀ table foun
     × (n ≤ mostRows)
     × (1 ≤ number)
     × (number ≤ n + 1)
-    × (length table ≡ 50)
+    × (length table ≡ waitsSize)
     × Waiting account rows (drop (number - 1) rows) table ((number - 1) * mostEnergy)
     × (found || any (alike account counterparty code) (drop (number - 1) rows) ≡ any (alike account counterparty code) rows)
 

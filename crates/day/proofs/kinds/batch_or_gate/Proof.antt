@@ -1,5 +1,4 @@
--- Each kind is answered by the function that is named in its arm; the last arm is 8.
-use mathlib.Core.Path.{_≡_}
+-- Each kind is answered by the function that is named in its arm; no other number comes there.
 use native.Mathlib.Omega.{arith}
 use borrow.Author.Needs.{needs}
 use Rattle.day.proofs.kinds.batch_or_gate.Statement.{statement}
@@ -16,6 +15,9 @@ keep-requires c κs = search needs
 
 close-gate-requires : tie.Need-close-gate-requires
 close-gate-requires c κs = search needs
+
+no-kind-requires : tie.Need-no-kind-requires
+no-kind-requires c κs = search needs
 
 same-length : tie.Need-same-length
 same-length c = search needs
@@ -39,7 +41,10 @@ same-length-4 : tie.Need-same-length-4
 same-length-4 c = search needs
 
 returns-4 : tie.Need-returns-4
-returns-4 c = let last : c .before .before .before .before .before .before .args .kind ≡ 8 = omega arith in rw last (c .before .before .close-gate .ensures)
+returns-4 c = rw (c .before .before .before .before .match .keys4) (c .before .before .close-gate .ensures)
+
+returns-5 : tie.Need-returns-5
+returns-5 c = absurd (omega arith)
 
 pub batch-or-gate-spec : {M : Type 1} → statement M
 batch-or-gate-spec =
@@ -49,6 +54,7 @@ batch-or-gate-spec =
     undo-requires
     keep-requires
     close-gate-requires
+    no-kind-requires
     same-length
     returns
     same-length-2
@@ -56,4 +62,5 @@ batch-or-gate-spec =
     same-length-3
     returns-3
     same-length-4
-    returns-4)
+    returns-4
+    returns-5)

@@ -1,15 +1,10 @@
--- Each kind is answered by the function that is named in its arm; the last arm is 9.
-use mathlib.Core.Path.{_≡_}
+-- Each kind is answered by the function that is named in its arm; no other number comes there.
 use mathlib.Core.Logic.{⊎-elim}
 use native.Mathlib.Omega.{arith}
-use Rattle.day.proofs.RequestLaws.{kind-numbered, ready-numbered}
+use Rattle.day.proofs.RequestLaws.{kind-numbered}
 use borrow.Author.Needs.{needs}
 use Rattle.day.proofs.kinds.by_kind.Statement.{statement}
 use Rattle.day.proofs.kinds.by_kind.Tie as tie
-
--- what is left is 9
-last : (c : tie.Joined1) → c .before .before .before .args .request .kind ≡ 9
-last c = ⊎-elim (λ w. omega (arith, w)) (λ w. omega (arith, w)) (c .if1 .came)
 
 register-requires : tie.Need-register-requires
 register-requires c κs = search needs
@@ -23,11 +18,14 @@ withdraw-requires c κs = search needs
 guarantee-requires : tie.Need-guarantee-requires
 guarantee-requires c κs = search needs
 
+schedule-requires : tie.Need-schedule-requires
+schedule-requires c κs = search needs
+
 batch-or-gate-requires : tie.Need-batch-or-gate-requires
 batch-or-gate-requires c κs = search needs
 
-schedule-requires : tie.Need-schedule-requires
-schedule-requires c κs = (c .before .before .before .before .pre .0, ready-numbered _ _ (last (c .before)) (c .before .before .before .before .pre .1 .2))
+no-kind-requires : tie.Need-no-kind-requires
+no-kind-requires c κs = search needs
 
 same-length : tie.Need-same-length
 same-length c = search needs
@@ -57,13 +55,16 @@ same-length-5 : tie.Need-same-length-5
 same-length-5 c = search needs
 
 returns-5 : tie.Need-returns-5
-returns-5 c = let e = c .before .before .batch-or-gate .ensures in (e .0 _, (e .1 .0 _, e .1 .1))
+returns-5 c = kind-numbered _ _ (c .before .before .before .before .match .keys5) (c .before .before .schedule .ensures)
 
 same-length-6 : tie.Need-same-length-6
 same-length-6 c = search needs
 
 returns-6 : tie.Need-returns-6
-returns-6 c = kind-numbered _ _ (last (c .before .before .before .before)) (c .before .before .schedule .ensures)
+returns-6 c = let e = c .before .before .batch-or-gate .ensures in (e .0 _, (e .1 .0 _, e .1 .1))
+
+returns-7 : tie.Need-returns-7
+returns-7 c = absurd (⊎-elim (λ w. omega (arith, w)) (λ w. omega (arith, w)) (c .before .if1 .came))
 
 pub by-kind-spec : {M : Type 1} → statement M
 by-kind-spec =
@@ -73,8 +74,9 @@ by-kind-spec =
     confirm-requires
     withdraw-requires
     guarantee-requires
-    batch-or-gate-requires
     schedule-requires
+    batch-or-gate-requires
+    no-kind-requires
     same-length
     returns
     same-length-2
@@ -86,4 +88,5 @@ by-kind-spec =
     same-length-5
     returns-5
     same-length-6
-    returns-6)
+    returns-6
+    returns-7)

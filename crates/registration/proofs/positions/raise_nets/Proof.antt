@@ -6,13 +6,14 @@ use lib.ListN.{length}
 use borrow.Author.Needs.{needs}
 use Rattle.wire.specs.Parts.{sweep}
 use Rattle.image.specs.Changes.{raised}
+use Rattle.image.specs.Layout.{netWidth}
 use Rattle.image.proofs.Writing.Loops.{sweep-on, sweep-done}
 use Rattle.registration.proofs.positions.raise_nets.Statement.{statement}
 use Rattle.registration.proofs.positions.raise_nets.Tie as tie
 
 abbrev Inv-loop : tie.InvT-loop
 Inv-loop s₀ from n more at₀ left₀ s at left =
-    (at + 4 * left ≤ length s) × (length s ≡ length s₀) × (sweep (raised 4 more) 4 s₀ from n ≡ sweep (raised 4 more) 4 s at left)
+    (at + netWidth * left ≤ length s) × (length s ≡ length s₀) × (sweep (raised netWidth more) netWidth s₀ from n ≡ sweep (raised netWidth more) netWidth s at left)
 
 abbrev μ-loop : tie.MeasureT-loop
 μ-loop s₀ from n more at₀ left₀ s at left = left

@@ -8,13 +8,14 @@ use Rattle.rules.specs.Basics.{indexOf}
 use Rattle.rules.specs.Registration.{alike}
 use Rattle.rules.specs.Calls.{numberFrom}
 use Rattle.image.specs.Cells.{rowsFrom}
+use Rattle.image.specs.Layout.{rowWidth}
 use Rattle.registration.proofs.PendingLaws.{numbered, none-passed, number-none, number-here, number-next}
 use Rattle.registration.proofs.search.number_among.Statement.{statement}
 use Rattle.registration.proofs.search.number_among.Tie as tie
 
 abbrev Inv-loop : tie.InvT-loop
 Inv-loop book at n proposer counterparty code k₀ passed₀ k passed =
-    (k + 18 * (n - passed) ≤ length book)
+    (k + rowWidth * (n - passed) ≤ length book)
     × (passed ≤ n)
     × (numberFrom (indexOf (alike proposer counterparty code) (rowsFrom book at n))
     ≡ numbered passed (indexOf (alike proposer counterparty code) (rowsFrom book k (n - passed))))

@@ -5,6 +5,7 @@ use native.Mathlib.Omega.{arith}
 use lib.ListN.{length}
 use borrow.Author.Needs.{needs}
 use Rattle.image.specs.Valid.{bookIn}
+use Rattle.rules.specs.Limits.{mostSchedules}
 use Rattle.book.proofs.StateLaws.{schedule-count-high}
 use Rattle.settlement.specs.Judging.{TablesIn}
 use Rattle.settlement.proofs.BalanceLaws.{credited-made}
@@ -14,7 +15,7 @@ use Rattle.settlement.proofs.judging.judge_all.Tie as tie
 
 abbrev Inv-loop : tie.InvT-loop
 Inv-loop book prices n used₀ results₀ order all₀ k₀ used results all k =
-    (k ≤ n) × (n ≤ 256) × TablesIn book prices (judgedIn book prices k) used all results
+    (k ≤ n) × (n ≤ mostSchedules) × TablesIn book prices (judgedIn book prices k) used all results
 
 abbrev μ-loop : tie.MeasureT-loop
 μ-loop book prices n used₀ results₀ order all₀ k₀ used results all k = n - k

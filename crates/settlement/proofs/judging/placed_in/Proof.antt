@@ -6,6 +6,7 @@ use lib.ListN.{length, length-set, take}
 use lib.Seq.{take-all}
 use borrow.Author.Needs.{needs}
 use Rattle.rules.specs.Settlement.{placed}
+use Rattle.rules.specs.Limits.{mostSchedules}
 use Rattle.image.specs.Valid.{bookIn}
 use Rattle.book.proofs.StateLaws.{book-length, schedule-count-high}
 use Rattle.settlement.proofs.PlacingLaws.{schedule-stands, length-placed, none-placed, placed-next}
@@ -13,7 +14,7 @@ use Rattle.settlement.proofs.judging.placed_in.Statement.{statement}
 use Rattle.settlement.proofs.judging.placed_in.Tie as tie
 
 abbrev Inv-loop : tie.InvT-loop
-Inv-loop book n all₀ k₀ all k = (k ≤ n) × (n ≤ 256) × (length all ≡ 256) × (take k all ≡ take k (placed 1 (bookIn book .schedules)))
+Inv-loop book n all₀ k₀ all k = (k ≤ n) × (n ≤ mostSchedules) × (length all ≡ mostSchedules) × (take k all ≡ take k (placed 1 (bookIn book .schedules)))
 
 abbrev μ-loop : tie.MeasureT-loop
 μ-loop book n all₀ k₀ all k = n - k

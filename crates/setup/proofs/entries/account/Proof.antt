@@ -1,7 +1,7 @@
 -- The entry that was read at its place is the one of that number.
 use mathlib.Core.Path.{_∙_, ap}
 use native.Mathlib.Omega.{arith}
-use Rattle.rules.specs.Opening.{accountsIn, accountsFrom}
+use Rattle.rules.specs.Opening.{accountsIn, accountsFrom, accountEntry}
 use Rattle.rules.proofs.Setups.SetupEntries.{entry-by-number}
 use borrow.Author.Needs.{needs}
 use Rattle.setup.proofs.entries.account.Statement.{statement}
@@ -27,7 +27,7 @@ account-at-requires c κs = omega (arith, c .accounts-from .ensures ∙ ap accou
 
 returns : tie.Need-returns
 unfolding accountsIn
-returns c = let start = c .before .before .before .before in entry-by-number 10 _ _ _ _ _ _ _ (c .before .accounts-from .ensures ∙ ap accountsFrom (c .before .before .counts .ensures)) (start .pre .1) (start .pre .2) (c .account-at .ensures)
+returns c = let start = c .before .before .before .before in entry-by-number accountEntry _ _ _ _ _ _ _ (c .before .accounts-from .ensures ∙ ap accountsFrom (c .before .before .counts .ensures)) (start .pre .1) (start .pre .2) (c .account-at .ensures)
 
 pub account-spec : {M : Type 1} → statement M
 account-spec =

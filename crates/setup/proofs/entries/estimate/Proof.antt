@@ -1,6 +1,6 @@
 -- The entry that was read at its place is the one of that number.
 use mathlib.Core.Path.{refl}
-use Rattle.rules.specs.Opening.{estimatesIn}
+use Rattle.rules.specs.Opening.{estimatesIn, priceWidth}
 use Rattle.rules.proofs.Setups.SetupEntries.{entry-by-number}
 use borrow.Author.Needs.{needs}
 use Rattle.setup.proofs.entries.estimate.Statement.{statement}
@@ -20,7 +20,7 @@ price-at-requires c κs = search needs
 
 returns : tie.Need-returns
 unfolding estimatesIn
-returns c = let start = c .before .before in entry-by-number 4 _ _ _ _ _ _ _ refl (start .pre .1) (start .pre .2) (c .price-at .ensures)
+returns c = let start = c .before .before in entry-by-number priceWidth _ _ _ _ _ _ _ refl (start .pre .1) (start .pre .2) (c .price-at .ensures)
 
 pub estimate-spec : {M : Type 1} → statement M
 estimate-spec =

@@ -1,7 +1,7 @@
 -- The entry that was read at its place is the one of that number.
 use mathlib.Core.Path.{_∙_, ap}
 use native.Mathlib.Omega.{arith}
-use Rattle.rules.specs.Opening.{operatorsIn, operatorsFrom}
+use Rattle.rules.specs.Opening.{operatorsIn, operatorsFrom, operatorEntry}
 use Rattle.rules.proofs.Setups.SetupEntries.{entry-by-number}
 use borrow.Author.Needs.{needs}
 use Rattle.setup.proofs.entries.operator.Statement.{statement}
@@ -27,7 +27,7 @@ operator-at-requires c κs = omega (arith, c .operators-from .ensures ∙ ap ope
 
 returns : tie.Need-returns
 unfolding operatorsIn
-returns c = let start = c .before .before .before .before in entry-by-number 10 _ _ _ _ _ _ _ (c .before .operators-from .ensures ∙ ap operatorsFrom (c .before .before .counts .ensures)) (start .pre .1) (start .pre .2) (c .operator-at .ensures)
+returns c = let start = c .before .before .before .before in entry-by-number operatorEntry _ _ _ _ _ _ _ (c .before .operators-from .ensures ∙ ap operatorsFrom (c .before .before .counts .ensures)) (start .pre .1) (start .pre .2) (c .operator-at .ensures)
 
 pub operator-spec : {M : Type 1} → statement M
 operator-spec =

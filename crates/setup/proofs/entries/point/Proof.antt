@@ -1,7 +1,7 @@
 -- The entry that was read at its place is the one of that number.
 use mathlib.Core.Path.{_∙_, ap}
 use native.Mathlib.Omega.{arith}
-use Rattle.rules.specs.Opening.{pointsIn, pointsFrom}
+use Rattle.rules.specs.Opening.{pointsIn, pointsFrom, pointEntry}
 use Rattle.rules.proofs.Setups.SetupEntries.{entry-by-number}
 use borrow.Author.Needs.{needs}
 use Rattle.setup.proofs.entries.point.Statement.{statement}
@@ -27,7 +27,7 @@ point-at-requires c κs = omega (arith, c .points-from .ensures ∙ ap pointsFro
 
 returns : tie.Need-returns
 unfolding pointsIn
-returns c = let start = c .before .before .before .before in entry-by-number 11 _ _ _ _ _ _ _ (c .before .points-from .ensures ∙ ap pointsFrom (c .before .before .counts .ensures)) (start .pre .1) (start .pre .2) (c .point-at .ensures)
+returns c = let start = c .before .before .before .before in entry-by-number pointEntry _ _ _ _ _ _ _ (c .before .points-from .ensures ∙ ap pointsFrom (c .before .before .counts .ensures)) (start .pre .1) (start .pre .2) (c .point-at .ensures)
 
 pub point-spec : {M : Type 1} → statement M
 point-spec =

@@ -5,7 +5,7 @@ use lib.ListN.{length, drop}
 use native.Mathlib.Omega.{arith}
 use Rattle.rules.specs.declared.Counts.{Counts}
 use Rattle.rules.specs.Basics.{entries}
-use Rattle.rules.specs.Opening.{accountIn, accountsFrom, accountsIn, accountValues, valuesOf}
+use Rattle.rules.specs.Opening.{accountIn, accountsFrom, accountsIn, accountValues, valuesOf, accountEntry}
 use Rattle.setup.specs.Faults.{judged, accountFaults}
 use Rattle.setup.proofs.FaultLaws.{none-left, first-clear, first-fails, at-counts}
 use borrow.Author.Needs.{needs}
@@ -14,7 +14,7 @@ use Rattle.setup.proofs.fault.account_faults.Tie as tie
 
 abbrev Inv-loop : tie.InvT-loop
 Inv-loop setup n at₀ left₀ at left =
-    (at + 10 * left ≤ length setup) × (judged (valuesOf 10 (accountValues (n .operators)) at (entries 10 accountIn left (drop at setup))) ≡ accountFaults setup)
+    (at + accountEntry * left ≤ length setup) × (judged (valuesOf accountEntry (accountValues (n .operators)) at (entries accountEntry accountIn left (drop at setup))) ≡ accountFaults setup)
 
 abbrev μ-loop : tie.MeasureT-loop
 μ-loop setup n at₀ left₀ at left = left
@@ -26,7 +26,7 @@ loop-holds : tie.Need-loop-holds Inv-loop μ-loop
 unfolding accountFaults accountsIn
 loop-holds c =
     let s = c .before .before .args .setup .now in
-    (search needs, at-counts (λ (n : Counts) (at : ℕ). judged (valuesOf 10 (accountValues (n .operators)) at (entries 10 accountIn (n .accounts) (drop at s)))) accountsFrom (c .before .before .pre .counted) (c .accounts-from .ensures))
+    (search needs, at-counts (λ (n : Counts) (at : ℕ). judged (valuesOf accountEntry (accountValues (n .operators)) at (entries accountEntry accountIn (n .accounts) (drop at s)))) accountsFrom (c .before .before .pre .counted) (c .accounts-from .ensures))
 
 account-at-requires : tie.Need-account-at-requires Inv-loop μ-loop
 account-at-requires c κs = search needs
@@ -40,7 +40,7 @@ enum-known-r c = search needs
 returns : tie.Need-returns Inv-loop μ-loop
 returns c =
     let l = c .before .before .before .before .before .before .loop in
-    first-fails 10 accountIn (accountValues _) _ _ _ (l .inv .1) (l .left - 1) (omega arith) (c .before .before .before .before .account-at .ensures) (c .before .before .before .account-fault .ensures) (c .before .r .given .1)
+    first-fails accountEntry accountIn (accountValues _) _ _ _ (l .inv .1) (l .left - 1) (omega arith) (c .before .before .before .before .account-at .ensures) (c .before .before .before .account-fault .ensures) (c .before .r .given .1)
 
 enum-told : tie.Need-enum-told Inv-loop μ-loop
 enum-told c = search needs
@@ -57,10 +57,10 @@ loop-less c = search needs
 loop-again : tie.Need-loop-again Inv-loop μ-loop
 loop-again c =
     let l = c .before .before .before .before .before .loop in
-    (search needs, first-clear 10 accountIn (accountValues _) _ _ _ (l .inv .1) (l .left - 1) (omega arith) (c .before .before .before .account-at .ensures) (c .before .before .account-fault .ensures) (c .enum-told .given .1))
+    (search needs, first-clear accountEntry accountIn (accountValues _) _ _ _ (l .inv .1) (l .left - 1) (omega arith) (c .before .before .before .account-at .ensures) (c .before .before .account-fault .ensures) (c .enum-told .given .1))
 
 returns-2 : tie.Need-returns-2 Inv-loop μ-loop
-returns-2 c = none-left 10 accountIn (accountValues _) _ _ _ (c .before .loop .inv .1) (omega arith)
+returns-2 c = none-left accountEntry accountIn (accountValues _) _ _ _ (c .before .loop .inv .1) (omega arith)
 
 pub account-faults-spec : {M : Type 1} → statement M
 account-faults-spec =

@@ -5,7 +5,7 @@ use lib.ListN.{length, drop}
 use native.Mathlib.Omega.{arith}
 use Rattle.rules.specs.declared.Counts.{Counts}
 use Rattle.rules.specs.Basics.{entries}
-use Rattle.rules.specs.Opening.{priceIn, estimatesIn, estimateValues, valuesOf}
+use Rattle.rules.specs.Opening.{priceIn, estimatesIn, estimateValues, valuesOf, priceWidth, estimatesFrom}
 use Rattle.setup.specs.Faults.{judged, estimateFaults}
 use Rattle.setup.proofs.FaultLaws.{none-left, first-clear, first-fails}
 use borrow.Author.Needs.{needs}
@@ -14,8 +14,8 @@ use Rattle.setup.proofs.fault.estimate_faults.Tie as tie
 
 abbrev Inv-loop : tie.InvT-loop
 Inv-loop setup at₀ left₀ at left =
-    (at + 4 * left ≤ length setup)
-    × (judged (valuesOf 4 estimateValues at (entries 4 priceIn left (drop at setup)))
+    (at + priceWidth * left ≤ length setup)
+    × (judged (valuesOf priceWidth estimateValues at (entries priceWidth priceIn left (drop at setup)))
     ≡ estimateFaults setup)
 
 abbrev μ-loop : tie.MeasureT-loop
@@ -24,7 +24,7 @@ abbrev μ-loop : tie.MeasureT-loop
 loop-holds : tie.Need-loop-holds Inv-loop μ-loop
 unfolding estimateFaults estimatesIn
 loop-holds c =
-    (search needs, ap (λ (n : Counts). judged (valuesOf 4 estimateValues 5 (entries 4 priceIn (n .hours) (drop 5 (c .before .args .setup .now))))) (c .before .pre .counted))
+    (search needs, ap (λ (n : Counts). judged (valuesOf priceWidth estimateValues estimatesFrom (entries priceWidth priceIn (n .hours) (drop estimatesFrom (c .before .args .setup .now))))) (c .before .pre .counted))
 
 price-at-requires : tie.Need-price-at-requires Inv-loop μ-loop
 price-at-requires c κs = search needs
@@ -38,7 +38,7 @@ enum-known-r c = search needs
 returns : tie.Need-returns Inv-loop μ-loop
 returns c =
     let l = c .before .before .before .before .before .before .loop in
-    first-fails 4 priceIn estimateValues _ _ _ (l .inv .1) (l .left - 1) (omega arith) (c .before .before .before .before .price-at .ensures) (c .before .before .before .estimate-fault .ensures) (c .before .r .given .1)
+    first-fails priceWidth priceIn estimateValues _ _ _ (l .inv .1) (l .left - 1) (omega arith) (c .before .before .before .before .price-at .ensures) (c .before .before .before .estimate-fault .ensures) (c .before .r .given .1)
 
 enum-told : tie.Need-enum-told Inv-loop μ-loop
 enum-told c = search needs
@@ -55,10 +55,10 @@ loop-less c = search needs
 loop-again : tie.Need-loop-again Inv-loop μ-loop
 loop-again c =
     let l = c .before .before .before .before .before .loop in
-    (search needs, first-clear 4 priceIn estimateValues _ _ _ (l .inv .1) (l .left - 1) (omega arith) (c .before .before .before .price-at .ensures) (c .before .before .estimate-fault .ensures) (c .enum-told .given .1))
+    (search needs, first-clear priceWidth priceIn estimateValues _ _ _ (l .inv .1) (l .left - 1) (omega arith) (c .before .before .before .price-at .ensures) (c .before .before .estimate-fault .ensures) (c .enum-told .given .1))
 
 returns-2 : tie.Need-returns-2 Inv-loop μ-loop
-returns-2 c = none-left 4 priceIn estimateValues _ _ _ (c .before .loop .inv .1) (omega arith)
+returns-2 c = none-left priceWidth priceIn estimateValues _ _ _ (c .before .loop .inv .1) (omega arith)
 
 pub estimate-faults-spec : {M : Type 1} → statement M
 estimate-faults-spec =

@@ -5,7 +5,7 @@ use lib.ListN.{length, drop}
 use native.Mathlib.Omega.{arith}
 use Rattle.rules.specs.declared.Counts.{Counts}
 use Rattle.rules.specs.Basics.{entries}
-use Rattle.rules.specs.Opening.{operatorIn, operatorsFrom, operatorsIn, operatorValues, valuesOf}
+use Rattle.rules.specs.Opening.{operatorIn, operatorsFrom, operatorsIn, operatorValues, valuesOf, operatorEntry}
 use Rattle.setup.specs.Faults.{judged, operatorFaults}
 use Rattle.setup.proofs.FaultLaws.{none-left, first-clear, first-fails, at-counts}
 use borrow.Author.Needs.{needs}
@@ -14,7 +14,7 @@ use Rattle.setup.proofs.fault.operator_faults.Tie as tie
 
 abbrev Inv-loop : tie.InvT-loop
 Inv-loop setup at₀ left₀ at left =
-    (at + 10 * left ≤ length setup) × (judged (valuesOf 10 operatorValues at (entries 10 operatorIn left (drop at setup))) ≡ operatorFaults setup)
+    (at + operatorEntry * left ≤ length setup) × (judged (valuesOf operatorEntry operatorValues at (entries operatorEntry operatorIn left (drop at setup))) ≡ operatorFaults setup)
 
 abbrev μ-loop : tie.MeasureT-loop
 μ-loop setup at₀ left₀ at left = left
@@ -26,7 +26,7 @@ loop-holds : tie.Need-loop-holds Inv-loop μ-loop
 unfolding operatorFaults operatorsIn
 loop-holds c =
     let s = c .before .before .args .setup .now in
-    (search needs, at-counts (λ (n : Counts) (at : ℕ). judged (valuesOf 10 operatorValues at (entries 10 operatorIn (n .operators) (drop at s)))) operatorsFrom (c .before .before .pre .counted) (c .operators-from .ensures))
+    (search needs, at-counts (λ (n : Counts) (at : ℕ). judged (valuesOf operatorEntry operatorValues at (entries operatorEntry operatorIn (n .operators) (drop at s)))) operatorsFrom (c .before .before .pre .counted) (c .operators-from .ensures))
 
 operator-at-requires : tie.Need-operator-at-requires Inv-loop μ-loop
 operator-at-requires c κs = search needs
@@ -40,7 +40,7 @@ enum-known-r c = search needs
 returns : tie.Need-returns Inv-loop μ-loop
 returns c =
     let l = c .before .before .before .before .before .before .loop in
-    first-fails 10 operatorIn operatorValues _ _ _ (l .inv .1) (l .left - 1) (omega arith) (c .before .before .before .before .operator-at .ensures) (c .before .before .before .operator-fault .ensures) (c .before .r .given .1)
+    first-fails operatorEntry operatorIn operatorValues _ _ _ (l .inv .1) (l .left - 1) (omega arith) (c .before .before .before .before .operator-at .ensures) (c .before .before .before .operator-fault .ensures) (c .before .r .given .1)
 
 enum-told : tie.Need-enum-told Inv-loop μ-loop
 enum-told c = search needs
@@ -57,10 +57,10 @@ loop-less c = search needs
 loop-again : tie.Need-loop-again Inv-loop μ-loop
 loop-again c =
     let l = c .before .before .before .before .before .loop in
-    (search needs, first-clear 10 operatorIn operatorValues _ _ _ (l .inv .1) (l .left - 1) (omega arith) (c .before .before .before .operator-at .ensures) (c .before .before .operator-fault .ensures) (c .enum-told .given .1))
+    (search needs, first-clear operatorEntry operatorIn operatorValues _ _ _ (l .inv .1) (l .left - 1) (omega arith) (c .before .before .before .operator-at .ensures) (c .before .before .operator-fault .ensures) (c .enum-told .given .1))
 
 returns-2 : tie.Need-returns-2 Inv-loop μ-loop
-returns-2 c = none-left 10 operatorIn operatorValues _ _ _ (c .before .loop .inv .1) (omega arith)
+returns-2 c = none-left operatorEntry operatorIn operatorValues _ _ _ (c .before .loop .inv .1) (omega arith)
 
 pub operator-faults-spec : {M : Type 1} → statement M
 operator-faults-spec =

@@ -5,7 +5,7 @@ use lib.ListN.{length, drop}
 use native.Mathlib.Omega.{arith}
 use Rattle.rules.specs.declared.Counts.{Counts}
 use Rattle.rules.specs.Basics.{entries}
-use Rattle.rules.specs.Opening.{accountIn, pointIn, accountsFrom, pointsFrom, accountsIn, pointsIn, pointValues, valuesOf}
+use Rattle.rules.specs.Opening.{accountIn, pointIn, accountsFrom, pointsFrom, accountsIn, pointsIn, pointValues, valuesOf, accountEntry, pointEntry}
 use Rattle.setup.specs.Faults.{judged, pointFaults}
 use Rattle.setup.proofs.FaultLaws.{none-left, first-clear, first-fails, at-counts}
 use borrow.Author.Needs.{needs}
@@ -14,7 +14,7 @@ use Rattle.setup.proofs.fault.point_faults.Tie as tie
 
 abbrev Inv-loop : tie.InvT-loop
 Inv-loop setup n accounts at₀ left₀ at left =
-    (at + 11 * left ≤ length setup) × (judged (valuesOf 11 (pointValues (entries 10 accountIn (n .accounts) (drop accounts setup)) (n .zones)) at (entries 11 pointIn left (drop at setup))) ≡ pointFaults setup)
+    (at + pointEntry * left ≤ length setup) × (judged (valuesOf pointEntry (pointValues (entries accountEntry accountIn (n .accounts) (drop accounts setup)) (n .zones)) at (entries pointEntry pointIn left (drop at setup))) ≡ pointFaults setup)
 
 abbrev μ-loop : tie.MeasureT-loop
 μ-loop setup n accounts at₀ left₀ at left = left
@@ -29,7 +29,7 @@ loop-holds : tie.Need-loop-holds Inv-loop μ-loop
 unfolding pointFaults accountsIn pointsIn
 loop-holds c =
     let s = c .before .before .before .args .setup .now in
-    (search needs, rw (c .before .accounts-from .ensures) (at-counts (λ (n : Counts) (at : ℕ). judged (valuesOf 11 (pointValues (entries 10 accountIn (n .accounts) (drop (accountsFrom n) s)) (n .zones)) at (entries 11 pointIn (n .points) (drop at s)))) pointsFrom (c .before .before .before .pre .counted) (c .points-from .ensures)))
+    (search needs, rw (c .before .accounts-from .ensures) (at-counts (λ (n : Counts) (at : ℕ). judged (valuesOf pointEntry (pointValues (entries accountEntry accountIn (n .accounts) (drop (accountsFrom n) s)) (n .zones)) at (entries pointEntry pointIn (n .points) (drop at s)))) pointsFrom (c .before .before .before .pre .counted) (c .points-from .ensures)))
 
 point-at-requires : tie.Need-point-at-requires Inv-loop μ-loop
 point-at-requires c κs = search needs
@@ -43,7 +43,7 @@ enum-known-r c = search needs
 returns : tie.Need-returns Inv-loop μ-loop
 returns c =
     let l = c .before .before .before .before .before .before .loop in
-    first-fails 11 pointIn (pointValues _ _) _ _ _ (l .inv .1) (l .left - 1) (omega arith) (c .before .before .before .before .point-at .ensures) (c .before .before .before .point-fault .ensures) (c .before .r .given .1)
+    first-fails pointEntry pointIn (pointValues _ _) _ _ _ (l .inv .1) (l .left - 1) (omega arith) (c .before .before .before .before .point-at .ensures) (c .before .before .before .point-fault .ensures) (c .before .r .given .1)
 
 enum-told : tie.Need-enum-told Inv-loop μ-loop
 enum-told c = search needs
@@ -60,10 +60,10 @@ loop-less c = search needs
 loop-again : tie.Need-loop-again Inv-loop μ-loop
 loop-again c =
     let l = c .before .before .before .before .before .loop in
-    (search needs, first-clear 11 pointIn (pointValues _ _) _ _ _ (l .inv .1) (l .left - 1) (omega arith) (c .before .before .before .point-at .ensures) (c .before .before .point-fault .ensures) (c .enum-told .given .1))
+    (search needs, first-clear pointEntry pointIn (pointValues _ _) _ _ _ (l .inv .1) (l .left - 1) (omega arith) (c .before .before .before .point-at .ensures) (c .before .before .point-fault .ensures) (c .enum-told .given .1))
 
 returns-2 : tie.Need-returns-2 Inv-loop μ-loop
-returns-2 c = none-left 11 pointIn (pointValues _ _) _ _ _ (c .before .loop .inv .1) (omega arith)
+returns-2 c = none-left pointEntry pointIn (pointValues _ _) _ _ _ (c .before .loop .inv .1) (omega arith)
 
 pub point-faults-spec : {M : Type 1} → statement M
 point-faults-spec =

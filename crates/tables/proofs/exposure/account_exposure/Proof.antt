@@ -7,7 +7,7 @@ use borrow.Author.Needs.{needs}
 use Rattle.rules.specs.declared.Counts.{Counts}
 use Rattle.rules.specs.declared.Row.{Row}
 use Rattle.rules.specs.Basics.{total, counting}
-use Rattle.rules.specs.Limits.{mostPrice, mostHours}
+use Rattle.rules.specs.Limits.{mostPrice}
 use Rattle.rules.specs.Opening.{countsIn}
 use Rattle.rules.proofs.Basics.CountingLaws.{sum-begins, sum-next, sum-done}
 use Rattle.tables.specs.Sums.{SumsOf}
@@ -16,17 +16,17 @@ use Rattle.tables.proofs.exposure.account_exposure.Statement.{statement
 use Rattle.tables.proofs.exposure.account_exposure.Tie as tie
 
 abbrev Inv-loop : tie.InvT-loop
-Inv-loop book table number n sum₀ hour₀ sum hour =
+Inv-loop book table top number n sum₀ hour₀ sum hour =
     (n .hours ≡ countsIn book .hours)
     × (1 ≤ hour)
     × (hour ≤ countsIn book .hours + 1)
     × (sum .0 ≤ (hour - 1) * (mostPrice * 2 ^ 33))
-    × ((rows : List Row) → SumsOf mostHours rows table
+    × ((rows : List Row) → SumsOf top rows table
     → sum .0 + total (hourExposure book rows number) (counting (countsIn book .hours + 1 - hour) hour)
     ≡ total (hourExposure book rows number) (counting (countsIn book .hours) 1))
 
 abbrev μ-loop : tie.MeasureT-loop
-μ-loop book table number n sum₀ hour₀ sum hour = countsIn book .hours + 1 - hour
+μ-loop book table top number n sum₀ hour₀ sum hour = countsIn book .hours + 1 - hour
 
 counts-requires : tie.Need-counts-requires Inv-loop μ-loop
 counts-requires c κs = search needs

@@ -7,8 +7,9 @@ use borrow.Author.Needs.{needs}
 use Rattle.rules.specs.declared.Counts.{Counts}
 use Rattle.rules.specs.declared.Row.{Row}
 use Rattle.rules.specs.Basics.{total, counting}
-use Rattle.rules.specs.Limits.{mostHours, mostPrice}
+use Rattle.rules.specs.Limits.{mostPrice}
 use Rattle.rules.specs.Opening.{countsIn, setupOf}
+use Rattle.image.specs.Layout.{mostPeriods}
 use Rattle.rules.proofs.Basics.CountingLaws.{sum-begins, sum-next, sum-done}
 use Rattle.tables.specs.Sums.{SumsOf, exposureShare}
 use Rattle.tables.proofs.ExposureLaws.{exposure-by-account}
@@ -16,17 +17,17 @@ use Rattle.tables.proofs.exposure.exposure_of.Statement.{statement}
 use Rattle.tables.proofs.exposure.exposure_of.Tie as tie
 
 abbrev Inv-loop : tie.InvT-loop
-Inv-loop book table operator n sum₀ number₀ sum number =
+Inv-loop book table top operator n sum₀ number₀ sum number =
     (n .accounts ≡ countsIn book .accounts)
     × (1 ≤ number)
     × (number ≤ countsIn book .accounts + 1)
-    × (sum .0 ≤ (number - 1) * (mostHours * (mostPrice * 2 ^ 33)))
-    × ((rows : List Row) → SumsOf mostHours rows table
+    × (sum .0 ≤ (number - 1) * (mostPeriods * (mostPrice * 2 ^ 33)))
+    × ((rows : List Row) → SumsOf top rows table
     → sum .0 + total (exposureShare (setupOf book) rows operator) (counting (countsIn book .accounts + 1 - number) number)
     ≡ total (exposureShare (setupOf book) rows operator) (counting (countsIn book .accounts) 1))
 
 abbrev μ-loop : tie.MeasureT-loop
-μ-loop book table operator n sum₀ number₀ sum number = countsIn book .accounts + 1 - number
+μ-loop book table top operator n sum₀ number₀ sum number = countsIn book .accounts + 1 - number
 
 counts-requires : tie.Need-counts-requires Inv-loop μ-loop
 counts-requires c κs = search needs

@@ -7,22 +7,21 @@ use borrow.Author.Needs.{needs}
 use Rattle.rules.specs.declared.Row.{Row}
 use Rattle.rules.specs.Basics.{every, counting}
 use Rattle.rules.specs.Registration.{accountHour, keepsMargins}
-use Rattle.rules.specs.Limits.{mostHours}
 use Rattle.rules.proofs.Basics.CountingLaws.{every-done, every-next, every-fails, every-same}
 use Rattle.tables.specs.Sums.{SumsOf}
 use Rattle.tables.proofs.margins.hours_kept.Statement.{statement}
 use Rattle.tables.proofs.margins.hours_kept.Tie as tie
 
 abbrev Inv-loop : tie.InvT-loop
-Inv-loop table margins number hours hour₀ hour =
+Inv-loop table top margins number hours hour₀ hour =
     (1 ≤ hour)
     × (hour ≤ hours + 1)
-    × ((rows : List Row) → SumsOf mostHours rows table
+    × ((rows : List Row) → SumsOf top rows table
     → every (λ h. keepsMargins margins (accountHour rows number h)) (counting hours 1)
     ≡ every (λ h. keepsMargins margins (accountHour rows number h)) (counting (hours + 1 - hour) hour))
 
 abbrev μ-loop : tie.MeasureT-loop
-μ-loop table margins number hours hour₀ hour = hours + 1 - hour
+μ-loop table top margins number hours hour₀ hour = hours + 1 - hour
 
 loop-holds : tie.Need-loop-holds Inv-loop μ-loop
 loop-holds c = (search needs, search needs, λ rows sums. every-same _ _ _ _ (omega arith))

@@ -9,7 +9,6 @@ use Rattle.rules.specs.declared.Row.{Row}
 use Rattle.rules.specs.Basics.{every, nth, counting}
 use Rattle.rules.specs.Books.{noAccount, marginsOf}
 use Rattle.rules.specs.Opening.{countsIn, setupOf, accountsIn}
-use Rattle.rules.specs.Limits.{mostHours}
 use Rattle.rules.proofs.Basics.CountingLaws.{every-done, every-next, every-fails, every-same}
 use Rattle.image.specs.Valid.{marginsKept}
 use Rattle.tables.specs.Sums.{SumsOf}
@@ -18,17 +17,17 @@ use Rattle.tables.proofs.margins.margins_kept.Statement.{statement}
 use Rattle.tables.proofs.margins.margins_kept.Tie as tie
 
 abbrev Inv-loop : tie.InvT-loop
-Inv-loop book table n number₀ number =
+Inv-loop book table top n number₀ number =
     (n .accounts ≡ countsIn book .accounts)
     × (n .hours ≡ countsIn book .hours)
     × (1 ≤ number)
     × (number ≤ countsIn book .accounts + 1)
-    × ((rows : List Row) → SumsOf mostHours rows table
+    × ((rows : List Row) → SumsOf top rows table
     → marginsKept (setupOf book) rows
     ≡ every (λ a. accountKeeps rows (marginsOf (nth (accountsIn book) a noAccount)) (countsIn book .hours) a) (counting (countsIn book .accounts + 1 - number) number))
 
 abbrev μ-loop : tie.MeasureT-loop
-μ-loop book table n number₀ number = countsIn book .accounts + 1 - number
+μ-loop book table top n number₀ number = countsIn book .accounts + 1 - number
 
 counts-requires : tie.Need-counts-requires Inv-loop μ-loop
 counts-requires c κs = search needs

@@ -5,9 +5,10 @@ use native.Mathlib.Omega.{arith}
 use lib.ListN.{length}
 use borrow.Author.Needs.{needs}
 use Rattle.rules.specs.Basics.{Each}
-use Rattle.rules.specs.Limits.{mostEnergy}
+use Rattle.rules.specs.Limits.{mostEnergy, mostRows}
 use Rattle.image.specs.Cells.{rowsFrom}
 use Rattle.image.specs.Tables.{Tabled}
+use Rattle.image.specs.Layout.{rowWidth}
 use Rattle.image.proofs.Reading.RowsFrom.{rows-done, rows-step}
 use Rattle.tables.proofs.FillLaws.{each-first, each-rest, Filling, filling-none, filling-room, filling-next, filling-done}
 use Rattle.tables.proofs.sums.fill.Statement.{statement}
@@ -15,11 +16,11 @@ use Rattle.tables.proofs.sums.fill.Tie as tie
 
 abbrev Inv-loop : tie.InvT-loop
 Inv-loop table₀ top s at n place₀ left₀ table place left =
-    (place + 18 * left ≤ length s)
-    × (left ≤ 256)
+    (place + rowWidth * left ≤ length s)
+    × (left ≤ mostRows)
     × (length table ≡ length table₀)
     × Each (Tabled top) (rowsFrom s place left)
-    × Filling top (rowsFrom s at n) (rowsFrom s place left) table ((256 - left) * mostEnergy)
+    × Filling top (rowsFrom s at n) (rowsFrom s place left) table ((mostRows - left) * mostEnergy)
 
 abbrev μ-loop : tie.MeasureT-loop
 μ-loop table₀ top s at n place₀ left₀ table place left = left

@@ -1,9 +1,10 @@
 -- Every account passes the test where every account that is left does.
-use Prim.Native.Nat.{_-_, _≤_}
+use Prim.Native.Nat.{_+_, _-_, _≤_}
 use mathlib.Core.Path.{_≡_, _∙_, sym, refl}
 use native.Mathlib.Omega.{arith}
 use borrow.Author.Needs.{needs}
 use Rattle.rules.specs.Basics.{every, counting, upTo}
+use Rattle.rules.specs.Limits.{mostAccounts}
 use Rattle.rules.proofs.Basics.CountingLaws.{every-done, every-next, every-fails}
 use Rattle.tables.specs.Sums.{netStored, netsStored}
 use Rattle.tables.proofs.sums.nets_kept.Statement.{statement}
@@ -12,11 +13,11 @@ use Rattle.tables.proofs.sums.nets_kept.Tie as tie
 abbrev Inv-loop : tie.InvT-loop
 Inv-loop s nets table top account₀ account =
     (1 ≤ account)
-    × (account ≤ 33)
-    × (netsStored top s nets table ≡ every (λ a. every (netStored top s nets table a) (upTo top)) (counting (33 - account) account))
+    × (account ≤ mostAccounts + 1)
+    × (netsStored top s nets table ≡ every (λ a. every (netStored top s nets table a) (upTo top)) (counting (mostAccounts + 1 - account) account))
 
 abbrev μ-loop : tie.MeasureT-loop
-μ-loop s nets table top account₀ account = 33 - account
+μ-loop s nets table top account₀ account = mostAccounts + 1 - account
 
 loop-holds : tie.Need-loop-holds Inv-loop μ-loop
 unfolding netsStored

@@ -9,6 +9,7 @@ use Rattle.settlement.proofs.Refusals.{operators-counted, operators-few}
 use Rattle.items.proofs.WrittenLaws.{written-as}
 use Rattle.walk.proofs.AnswerLaws.{answer-prints, answer-small}
 use borrow.Author.Needs.{needs}
+use Rattle.settlement.specs.Tables.{balanceWidth}
 use Rattle.walk.proofs.answers.answer_with.Statement.{statement}
 use Rattle.walk.proofs.answers.answer_with.Tie as tie
 
@@ -40,7 +41,7 @@ put-answer-requires c κs =
     let results = ap length (zeros .0) in
     let balances = ap length (zeros .1) in
     let lent = called .1 .1 in
-    ((omega (arith, length-replicate {A = ℕ} mostSchedules 0), few, omega (arith, length-replicate {A = ℕ} (8 * mostOperators) 0), omega arith), answer-small _ (book-valid _ (pre .0)) _ (called .0) (c .before .before .before .before .settles .ensures) _ (operators-counted _ (pre .0) _ counted) (lent .1 .0))
+    ((omega (arith, length-replicate {A = ℕ} mostSchedules 0), few, omega (arith, length-replicate {A = ℕ} (balanceWidth * mostOperators) 0), omega arith), answer-small _ (book-valid _ (pre .0)) _ (called .0) (c .before .before .before .before .settles .ensures) _ (operators-counted _ (pre .0) _ counted) (lent .1 .0))
 
 same-length : tie.Need-same-length
 same-length c = search needs
