@@ -23,7 +23,6 @@ use Rattle.rules.proofs.Basics.Searches.{each-at}
 use Rattle.setup.specs.Faults.{noOperator}
 use Rattle.image.specs.Layout.{presentAt}
 use Rattle.image.specs.Valid.{isBook, bookIn}
-use Rattle.image.proofs.Sound.Soundness.{SoundRow}
 use Rattle.image.proofs.Setups.SetupRanges.{SoundOperator, maintenance-of}
 use Rattle.image.proofs.Reading.ImageReads.{guarantee-read}
 use Rattle.book.specs.Worth.{Takeable}
@@ -113,16 +112,7 @@ still-covered s a owed h low high no-more =
     let fits = leb-true (exposure u (bookIn s .part .rows) o) (available u (bookIn s .part) o) (book-is-sound s h .part-sound .is-covered o (known .0) (known .1)) in
     sym (le-leb owed (available u (bookIn s .part) o) (omega arith))
 
--- a row of a book can be taken
-pub sound-takeable : (u : Setup) (r : Row) → SoundRow u r → Takeable u r
-sound-takeable u r s =
-    record {
-      quantity-high = s .quantity-high;
-      proposer-known = λ e. (s .proposer-low, s .proposer-high);
-      hours-known = λ e. (s .first-low, s .in-order, s .last-high);
-    }
-
--- and so can a trade that does not wait
+-- a trade that does not wait can be taken
 pub settled-takeable : (u : Setup) (r : Row) → r .quantity .0 ≤ mostEnergy → pending r ≡ false → Takeable u r
 settled-takeable u r l f =
     record {

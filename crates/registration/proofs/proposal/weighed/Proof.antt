@@ -2,7 +2,7 @@
 use mathlib.Core.Path.{sym, ap, _∙_}
 use Rattle.rules.specs.Verdicts.{checked}
 use Rattle.registration.proofs.MarginLaws.{found-hour, found-nowhere}
-use Rattle.registration.proofs.CoverLaws.{sound-takeable}
+use Rattle.book.proofs.WorthParts.{row-takeable}
 use Rattle.registration.proofs.ProposalLaws.{ready-row, margin-breaks, row-uncovered, row-covered}
 use borrow.Author.Needs.{needs}
 use Rattle.registration.proofs.proposal.weighed.Statement.{statement}
@@ -37,7 +37,7 @@ row-covered-requires c κs =
     let trade = c .before .before .before in
     let pre = trade .before .before .before .pre in
     let row = ready-row _ _ (pre .2) in
-    (pre .0, rw (trade .proposed-row .ensures) (sound-takeable _ _ row), rw (trade .proposed-row .ensures), row .proposer-low, row .proposer-high)
+    (pre .0, rw (trade .proposed-row .ensures) (row-takeable _ _ row), rw (trade .proposed-row .ensures), row .proposer-low, row .proposer-high)
 
 returns-2 : tie.Need-returns-2
 returns-2 c =
