@@ -57,52 +57,52 @@ schedules-by-tests s n {each} {zeros} e h t z = chained-all each (zeros ∷ []) 
 
 -- ---- the saved part
 
-pub saved-without : (s : List ℕ) → getD s flagAt 0 ≡ 0 → savedStands s ≡ zerosFrom s (savedAt mostHours) (partSize mostHours)
+pub saved-without : (top : ℕ) (s : List ℕ) → getD s flagAt 0 ≡ 0 → savedStands top s ≡ zerosFrom s (savedAt top) (partSize top)
 unfolding savedStands
-saved-without s e = rw (eq-eqb (getD s flagAt 0) 0 e)
+saved-without top s e = rw (eq-eqb (getD s flagAt 0) 0 e)
 
-pub saved-with : (s : List ℕ) → (getD s flagAt 0 ≡ 0 → ⊥)
-    → savedStands s ≡ (partStands s (savedAt mostHours) && follows (rowsOf s (savedAt mostHours)) (rowsOf s presentAt))
+pub saved-with : (top : ℕ) (s : List ℕ) → (getD s flagAt 0 ≡ 0 → ⊥)
+    → savedStands top s ≡ (partStands top s (savedAt top) && follows (rowsOf s (savedAt top)) (rowsOf s presentAt))
 unfolding savedStands
-saved-with s e = rw (ne-eqb (getD s flagAt 0) 0 e)
+saved-with top s e = rw (ne-eqb (getD s flagAt 0) 0 e)
 
 otherwise : (n : ℕ) (a b : Bool) → (if eqb (suc n) 0 then a else b) ≡ b
 otherwise n a b = rw (eqb·suc-zero n)
 
-module _ (s : List ℕ) (few : countsIn s .operators ≤ mostOperators) (rows : List Row) where
+module _ (top : ℕ) (s : List ℕ) (few : countsIn s .operators ≤ mostOperators) (rows : List Row) where
   abbrev operators : ℕ
   operators = countsIn s .operators
 
   abbrev kept : List ℕ
-  kept = take (partSize mostHours) (drop (savedAt mostHours) s)
+  kept = take (partSize top) (drop (savedAt top) s)
 
   abbrev none-saved : Bool
-  none-saved = zerosFrom s (savedAt mostHours) (partSize mostHours)
+  none-saved = zerosFrom s (savedAt top) (partSize top)
 
   abbrev some-saved : Bool
-  some-saved = partStands s (savedAt mostHours) && follows (rowsOf s (savedAt mostHours)) rows
+  some-saved = partStands top s (savedAt top) && follows (rowsOf s (savedAt top)) rows
 
-  rows-there : partStands s (savedAt mostHours) ≡ true → partAt mostHours operators s (savedAt mostHours) .rows ≡ rowsOf s (savedAt mostHours)
-  rows-there t = ap (λ (p : Part). p .rows) (part-places s (savedAt mostHours) operators few (few-rows s (savedAt mostHours) t))
+  rows-there : partStands top s (savedAt top) ≡ true → partAt top operators s (savedAt top) .rows ≡ rowsOf s (savedAt top)
+  rows-there t = ap (λ (p : Part). p .rows) (part-places top s (savedAt top) operators few (few-rows top s (savedAt top) t))
 
-  saved-there : (n : ℕ) → savedOk (setupOf s) rows (savedIn n mostHours operators kept) ≡ true → savedPlain n mostHours operators s ≡ true → (if eqb n 0 then none-saved else some-saved) ≡ true
+  saved-there : (n : ℕ) → savedOk (setupOf s) rows (savedIn n top operators kept) ≡ true → savedPlain n top operators s ≡ true → (if eqb n 0 then none-saved else some-saved) ≡ true
   unfolding savedIn savedOk savedPlain partStands
   saved-there zero h p = p
   saved-there (suc n) h p =
-      let q : Part = partAt mostHours operators s (savedAt mostHours) in
+      let q : Part = partAt top operators s (savedAt top) in
       let w = and-both (partOk (setupOf s) q) (follows (q .rows) rows) .0 h in
-      let t : partStands s (savedAt mostHours) ≡ true = and-both (partOk (setupOf s) q) (partPlain mostHours operators s (savedAt mostHours)) .1 (w .0, p) in
+      let t : partStands top s (savedAt top) ≡ true = and-both (partOk (setupOf s) q) (partPlain top operators s (savedAt top)) .1 (w .0, p) in
       otherwise n none-saved some-saved
-      ∙ and-both (partStands s (savedAt mostHours)) (follows (rowsOf s (savedAt mostHours)) rows) .1 (t, ap (λ (r : List Row). follows r rows) (sym (rows-there t)) ∙ w .1)
+      ∙ and-both (partStands top s (savedAt top)) (follows (rowsOf s (savedAt top)) rows) .1 (t, ap (λ (r : List Row). follows r rows) (sym (rows-there t)) ∙ w .1)
 
   saved-here : (n : ℕ) → (if eqb n 0 then none-saved else some-saved) ≡ true
-      → (savedOk (setupOf s) rows (savedIn n mostHours operators kept) ≡ true) × (savedPlain n mostHours operators s ≡ true)
+      → (savedOk (setupOf s) rows (savedIn n top operators kept) ≡ true) × (savedPlain n top operators s ≡ true)
   unfolding savedIn savedOk savedPlain partStands
   saved-here zero t = (refl, t)
   saved-here (suc n) t =
-      let q : Part = partAt mostHours operators s (savedAt mostHours) in
-      let v = and-both (partStands s (savedAt mostHours)) (follows (rowsOf s (savedAt mostHours)) rows) .0 (sym (otherwise n none-saved some-saved) ∙ t) in
-      let w = and-both (partOk (setupOf s) q) (partPlain mostHours operators s (savedAt mostHours)) .0 (v .0) in
+      let q : Part = partAt top operators s (savedAt top) in
+      let v = and-both (partStands top s (savedAt top)) (follows (rowsOf s (savedAt top)) rows) .0 (sym (otherwise n none-saved some-saved) ∙ t) in
+      let w = and-both (partOk (setupOf s) q) (partPlain top operators s (savedAt top)) .0 (v .0) in
       (and-both (partOk (setupOf s) q) (follows (q .rows) rows) .1 (w .0, ap (λ (r : List Row). follows r rows) (rows-there (v .0)) ∙ v .1), w .1)
 
 -- no part is saved where the flag is 0
@@ -116,8 +116,8 @@ no-part (suc n) top count x = sym (eqb·suc-zero n)
 -- each section stands
 pub record Stand (s : List ℕ) : Type 0 where
   pub setup-stands : setupStands s ≡ true
-  pub part-stands : partStands s presentAt ≡ true
-  pub saved-stands : savedStands s ≡ true
+  pub part-stands : partStands mostHours s presentAt ≡ true
+  pub saved-stands : savedStands mostHours s ≡ true
   pub schedules-stand : schedulesStand s ≡ true
   pub phase-stands : phaseStands s ≡ true
   pub spare-zero : zerosFrom s (usedSize mostHours) (bookSize - usedSize mostHours) ≡ true
@@ -129,8 +129,8 @@ module _ (s : List ℕ) where
   abbrev phase : ℕ
   phase = getD s phaseAt 0
 
-  present-rows : countsIn s .operators ≤ mostOperators → partStands s presentAt ≡ true → here .part .rows ≡ rowsOf s presentAt
-  present-rows o t = ap (λ (p : Part). p .rows) (part-places s presentAt (countsIn s .operators) o (few-rows s presentAt t))
+  present-rows : countsIn s .operators ≤ mostOperators → partStands mostHours s presentAt ≡ true → here .part .rows ≡ rowsOf s presentAt
+  present-rows o t = ap (λ (p : Part). p .rows) (part-places mostHours s presentAt (countsIn s .operators) o (few-rows mostHours s presentAt t))
 
   none-left : here .part .rows ≡ rowsOf s presentAt
       → (eqb phase 1 || not (any pending (here .part .rows))) ≡ (eqb phase 1 || not (any pending (rowsOf s presentAt)))
@@ -149,7 +149,7 @@ module _ (s : List ℕ) where
       let f = setup-in-front s (sound-setup (here .setup) setup) in
       let a : setupStands s ≡ true = holds-all (setupStandTests s) (setup and bare and behind-setup and no-more) in
       let k = setup-known s l a in
-      let b : partStands s presentAt ≡ true =
+      let b : partStands mostHours s presentAt ≡ true =
       and-both (partOk (setupOf s) (here .part)) (partPlain mostHours (countsIn s .operators) s presentAt) .1 (ap (λ (u : Setup). partOk u (here .part)) (sym f) ∙ part, plain) in
       let e = present-rows (k .operators-high) b in
       let few : numberAt s scheduleCountAt 2 ≤ mostSchedules = omega (arith, schedule-count s, leb-true (length (here .schedules)) mostSchedules count) in
@@ -159,7 +159,7 @@ module _ (s : List ℕ) where
         setup-stands = a;
         part-stands = b;
         saved-stands =
-            saved-there s (k .operators-high) (rowsOf s presentAt) (getD s flagAt 0)
+            saved-there mostHours s (k .operators-high) (rowsOf s presentAt) (getD s flagAt 0)
             (ap (λ (r : List Row). savedOk (setupOf s) r (here .saved)) (sym e) ∙ ap (λ (u : Setup). savedOk u (here .part .rows) (here .saved)) (sym f) ∙ saved)
             saved-plain;
         schedules-stand = holds-all (schedulesStandTests s) (le-leb _ _ few and each and behind-schedules and no-more);
@@ -175,7 +175,7 @@ module _ (s : List ℕ) where
       let k = setup-known s l (d .setup-stands) in
       let b = and-both (partOk (setupOf s) (here .part)) (partPlain mostHours (countsIn s .operators) s presentAt) .0 (d .part-stands) in
       let e = present-rows (k .operators-high) (d .part-stands) in
-      let c = saved-here s (k .operators-high) (rowsOf s presentAt) (getD s flagAt 0) (d .saved-stands) in
+      let c = saved-here mostHours s (k .operators-high) (rowsOf s presentAt) (getD s flagAt 0) (d .saved-stands) in
       let few : numberAt s scheduleCountAt 2 ≤ mostSchedules = leb-true _ _ count in
       let part = ap (λ (u : Setup). partOk u (here .part)) f ∙ b .0 in
       let saved =
@@ -214,7 +214,7 @@ module _ (s : List ℕ) (b : Bytes s) where
   one-falls f e = sym (fails-with (isBook s) (λ h. f (book-stands h)) e)
 
   -- where the set-up and the parts stand, the rest decides
-  pub rest-decides : {schedules phase spare : Bool} → length s ≡ bookSize → setupStands s ≡ true → partStands s presentAt ≡ true → savedStands s ≡ true
+  pub rest-decides : {schedules phase spare : Bool} → length s ≡ bookSize → setupStands s ≡ true → partStands mostHours s presentAt ≡ true → savedStands mostHours s ≡ true
       → schedules ≡ schedulesStand s → phase ≡ phaseStands s → spare ≡ zerosFrom s (usedSize mostHours) (bookSize - usedSize mostHours)
       → ((schedules && phase) && spare) ≡ isBook s
   rest-decides {schedules} {phase} {spare} l a p v e f z =

@@ -63,9 +63,16 @@ module _ (top ops : ℕ) (s : List ℕ) (b : Bytes s) (l : usedSize top ≤ leng
 
 -- ---- a book
 
-eight : {a b c d e f g h a′ b′ c′ d′ e′ f′ g′ h′ : List ℕ} → a ≡ a′ → b ≡ b′ → c ≡ c′ → d ≡ d′ → e ≡ e′ → f ≡ f′ → g ≡ g′ → h ≡ h′
-    → flat (a ∷ b ∷ c ∷ d ∷ e ∷ f ∷ g ∷ h ∷ []) ≡ flat (a′ ∷ b′ ∷ c′ ∷ d′ ∷ e′ ∷ f′ ∷ g′ ∷ h′ ∷ [])
-eight pa pb pc pd pe pf pg ph = rw (pa, pb, pc, pd, pe, pf, pg, ph)
+-- sections that are equal one by one: `first beside second beside no-others`
+infixr 5 _beside_
+data Alike : List (List ℕ) → List (List ℕ) → Type 0 where
+  no-others : Alike [] []
+  _beside_ : {x y : List ℕ} {xs ys : List (List ℕ)} → x ≡ y → Alike xs ys → Alike (x ∷ xs) (y ∷ ys)
+
+alike-flat : {xs ys : List (List ℕ)} → Alike xs ys → flat xs ≡ flat ys
+unfolding flat
+alike-flat no-others = refl
+alike-flat (e beside rest) = rw (e, alike-flat rest)
 
 module _ (top size : ℕ) (s : List ℕ) (b : Bytes s) (l : length s ≡ size) (g : usedSize top ≤ size) (v : valid (bookAt top s) ≡ true) where
   abbrev ws : List ℕ
@@ -116,8 +123,9 @@ module _ (top size : ℕ) (s : List ℕ) (b : Bytes s) (l : length s ≡ size) (
       ∷ take (partSize top) (drop (savedAt top) s) ∷ take (size - usedSize top) (drop (usedSize top) s) ∷ []) ≡ s
   unfolding cut
   in-places =
-      eight (sym (cut-at ws s 0)) (sym (cut-at ws s 1)) (sym (cut-at ws s 2)) (sym (cut-at ws s 3)) (sym (cut-at ws s 4)) (sym (cut-at ws s 5))
-      (sym (cut-at ws s 6 ∙ rw saved-place)) (sym (cut-at ws s 7 ∙ rw spare-place))
+      alike-flat (sym (cut-at ws s 0) beside sym (cut-at ws s 1) beside sym (cut-at ws s 2) beside sym (cut-at ws s 3)
+      beside sym (cut-at ws s 4) beside sym (cut-at ws s 5) beside sym (cut-at ws s 6 ∙ rw saved-place) beside sym (cut-at ws s 7 ∙ rw spare-place)
+      beside no-others)
       ∙ flat-cut ws s (l ∙ omega arith)
 
   book-plain : image top size (bookAt top s) ≡ s → bookPlain top size s ≡ true
@@ -152,7 +160,7 @@ module _ (top size : ℕ) (s : List ℕ) (b : Bytes s) (l : length s ≡ size) (
       let a5 = plain-part top (countsIn s .operators) s presentAt b (omega arith) few (known .part-sound .rows-high) part in
       let a6 = saved-test .1 saved in
       let a7 = sym (zeros-read (size - usedSize top) s (usedSize top) (omega arith) spare) in
-      eight a0 a1 a2 a3 a4 a5 a6 a7 ∙ in-places
+      alike-flat (a0 beside a1 beside a2 beside a3 beside a4 beside a5 beside a6 beside a7 beside no-others) ∙ in-places
 
 -- bytes are a book where they have its size, say a valid book, and pass the tests of their places
 pub is-book-local : (top size : ℕ) (s : List ℕ) → Bytes s → usedSize top ≤ size

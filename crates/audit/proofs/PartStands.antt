@@ -17,7 +17,7 @@ use Rattle.units.specs.Units.{cents}
 use Rattle.rules.specs.declared.Counts.{Counts}
 use Rattle.rules.specs.declared.Row.{Row}
 use Rattle.rules.specs.Basics.{every, allOf, upTo, Each}
-use Rattle.rules.specs.Limits.{mostHours, mostAccounts, mostGuarantee, mostOperators, mostRows}
+use Rattle.rules.specs.Limits.{mostAccounts, mostGuarantee, mostOperators, mostRows}
 use Rattle.rules.specs.Books.{Setup, Part, operatorCount}
 use Rattle.rules.specs.Opening.{countsIn, setupOf, guaranteeWidth}
 use Rattle.rules.proofs.Basics.Tests.{test-same, and-both, Holds, _and_, no-more, all-holds, holds-all, holds-at, chained-all, chain-holds, holds-chain}
@@ -44,39 +44,39 @@ every-alike p q n f =
     (λ t. upTo-every q n (λ k l h. sym (f k l h) ∙ every-upTo p n t k l h))
     (λ t. upTo-every p n (λ k l h. f k l h ∙ every-upTo q n t k l h))
 
-pub nets-by-sums : (s : List ℕ) (at : ℕ) (rows : List Row) (table : List ℕ) → SumsOf mostHours rows table → netsStored mostHours s (at + netsAt) table ≡ netsHeld mostHours rows s at
+pub nets-by-sums : (top : ℕ) (s : List ℕ) (at : ℕ) (rows : List Row) (table : List ℕ) → SumsOf top rows table → netsStored top s (at + netsAt) table ≡ netsHeld top rows s at
 unfolding netsStored netsHeld netStored
-nets-by-sums s at rows table sums =
-    every-alike _ _ mostAccounts (λ a al ah. every-alike _ _ mostHours (λ h hl hh.
-    let i : InTable mostHours a h = record { account-low = al; account-high = ah; hour-low = hl; hour-high = hh } in
-    let place : at + netsAt + netWidth * placeOf mostHours a h ≡ at + netAt mostHours a h = omega arith in
+nets-by-sums top s at rows table sums =
+    every-alike _ _ mostAccounts (λ a al ah. every-alike _ _ top (λ h hl hh.
+    let i : InTable top a h = record { account-low = al; account-high = ah; hour-low = hl; hour-high = hh } in
+    let place : at + netsAt + netWidth * placeOf top a h ≡ at + netAt top a h = omega arith in
     rw (place, sums .bought-at a h i, sums .sold-at a h i)))
 
 -- what follows of the rows, each test by the table
-pub sums-stand : (s : List ℕ) (at : ℕ) (rows : List Row) (table : List ℕ) {nets margins covers : Bool} → SumsOf mostHours rows table
-    → nets ≡ netsStored mostHours s (at + netsAt) table → margins ≡ marginsKept (setupOf s) rows → covers ≡ guaranteesKept (setupOf s) (partWith s at rows)
-    → ((nets && margins) && covers) ≡ sumsStand s at rows
+pub sums-stand : (top : ℕ) (s : List ℕ) (at : ℕ) (rows : List Row) (table : List ℕ) {nets margins covers : Bool} → SumsOf top rows table
+    → nets ≡ netsStored top s (at + netsAt) table → margins ≡ marginsKept (setupOf s) rows → covers ≡ guaranteesKept (setupOf s) (partWith s at rows)
+    → ((nets && margins) && covers) ≡ sumsStand top s at rows
 unfolding sumsStand
-sums-stand s at rows table {nets} {margins} {covers} sums n m g =
-    chained-all nets (margins ∷ covers ∷ []) ∙ rw (n, m, g, nets-by-sums s at rows table sums)
+sums-stand top s at rows table {nets} {margins} {covers} sums n m g =
+    chained-all nets (margins ∷ covers ∷ []) ∙ rw (n, m, g, nets-by-sums top s at rows table sums)
 
 -- ---- a part at its places
 
 same-part : {g g′ : List Cents} {r r′ : List Row} → g ≡ g′ → r ≡ r′ → _≡_ {A = Part} (record { guarantees = g; rows = r }) (record { guarantees = g′; rows = r′ })
 same-part g r = rw (g, r)
 
-module _ (s : List ℕ) (at operators : ℕ) where
+module _ (top : ℕ) (s : List ℕ) (at operators : ℕ) where
   abbrev ws : List ℕ
-  ws = partWidths mostHours
+  ws = partWidths top
 
   abbrev x : List ℕ
-  x = take (partSize mostHours) (drop at s)
+  x = take (partSize top) (drop at s)
 
   count : number (getD (cut ws x) 1 []) ≡ rowCount s at
   unfolding numberAt
-  count = ap number (cut-at ws x 1 ∙ inner 2 rowCountAt (partSize mostHours) at s (omega arith))
+  count = ap number (cut-at ws x 1 ∙ inner 2 rowCountAt (partSize top) at s (omega arith))
 
-  pub length-part-rows : length (partAt mostHours operators s at .rows) ≡ rowCount s at
+  pub length-part-rows : length (partAt top operators s at .rows) ≡ rowCount s at
   unfolding partIn partOf
   length-part-rows =
       length-map (chunks rowWidth (number (getD (cut ws x) 1 [])) (getD (cut ws x) 2 [])) rowIn
@@ -84,13 +84,13 @@ module _ (s : List ℕ) (at operators : ℕ) where
       ∙ count
 
   pub part-places : operators ≤ mostOperators → rowCount s at ≤ mostRows
-      → partAt mostHours operators s at ≡ record { guarantees = guaranteesFrom s at operators; rows = rowsOf s at }
+      → partAt top operators s at ≡ record { guarantees = guaranteesFrom s at operators; rows = rowsOf s at }
   unfolding partIn partOf guaranteesFrom rowsFrom
   part-places o n =
       let z : at + 0 ≡ at = omega arith in
       let c0 : getD (cut ws x) 0 [] ≡ take rowCountAt (drop at s) =
-      cut-at ws x 0 ∙ inner rowCountAt 0 (partSize mostHours) at s (omega arith) ∙ ap (λ (k : ℕ). take rowCountAt (drop k s)) z in
-      let c2 : getD (cut ws x) 2 [] ≡ take (rowWidth * mostRows) (drop (at + rowsAt) s) = cut-at ws x 2 ∙ inner (rowWidth * mostRows) rowsAt (partSize mostHours) at s (omega arith) in
+      cut-at ws x 0 ∙ inner rowCountAt 0 (partSize top) at s (omega arith) ∙ ap (λ (k : ℕ). take rowCountAt (drop k s)) z in
+      let c2 : getD (cut ws x) 2 [] ≡ take (rowWidth * mostRows) (drop (at + rowsAt) s) = cut-at ws x 2 ∙ inner (rowWidth * mostRows) rowsAt (partSize top) at s (omega arith) in
       same-part
       (ap (λ (y : List ℕ). map (λ g. cents (number g)) (chunks guaranteeWidth operators y)) c0
       ∙ ap (map (λ g. cents (number g))) (chunks-front guaranteeWidth operators rowCountAt (drop at s) (omega arith)))
@@ -148,45 +148,45 @@ module _ (u : Setup) (p : Part) (behind-guarantees behind-rows nets : Bool) wher
       places-first t = by-sections (chain-holds (allOf ofGuarantees) (allOf ofRows ∷ allOf ofSums ∷ []) t)
 
 -- the number of rows that a part that stands says is in range
-pub few-rows : (s : List ℕ) (at : ℕ) → partStands s at ≡ true → rowCount s at ≤ mostRows
+pub few-rows : (top : ℕ) (s : List ℕ) (at : ℕ) → partStands top s at ≡ true → rowCount s at ≤ mostRows
 unfolding partStands
-few-rows s at t =
-    let p : Part = partAt mostHours (countsIn s .operators) s at in
-    let w = and-both (partOk (setupOf s) p) (partPlain mostHours (countsIn s .operators) s at) .0 t in
-    omega (arith, sound-part (setupOf s) p (w .0) .rows-high, length-part-rows s at (countsIn s .operators))
+few-rows top s at t =
+    let p : Part = partAt top (countsIn s .operators) s at in
+    let w = and-both (partOk (setupOf s) p) (partPlain top (countsIn s .operators) s at) .0 t in
+    omega (arith, sound-part (setupOf s) p (w .0) .rows-high, length-part-rows top s at (countsIn s .operators))
 
-pub too-many-rows : (s : List ℕ) (at : ℕ) → mostRows < rowCount s at → false ≡ partStands s at
-too-many-rows s at h = sym (fails-with (partStands s at) (λ t. le-leb _ _ (few-rows s at t)) (lt-leb (rowCount s at) mostRows h))
+pub too-many-rows : (top : ℕ) (s : List ℕ) (at : ℕ) → mostRows < rowCount s at → false ≡ partStands top s at
+too-many-rows top s at h = sym (fails-with (partStands top s at) (λ t. le-leb _ _ (few-rows top s at t)) (lt-leb (rowCount s at) mostRows h))
 
-module _ (s : List ℕ) (at n operators : ℕ) (k : SetupKnown mostHours s) (en : n ≡ rowCount s at) (eo : operators ≡ countsIn s .operators) (few : n ≤ mostRows) where
+module _ (top : ℕ) (s : List ℕ) (at n operators : ℕ) (k : SetupKnown top s) (en : n ≡ rowCount s at) (eo : operators ≡ countsIn s .operators) (few : n ≤ mostRows) where
   abbrev rows : List Row
   rows = rowsFrom s (at + rowsAt) n
 
-  part-in-order : partStands s at ≡ (guaranteesStand s at operators && rowsStand s at n && sumsStand s at rows)
+  part-in-order : partStands top s at ≡ (guaranteesStand s at operators && rowsStand s at n && sumsStand top s at rows)
   unfolding partStands partPlain guaranteesStand rowsStand sumsStand
   part-in-order =
       let ops : operatorCount (setupOf s) ≡ countsIn s .operators = ap (λ (c : Counts). c .operators) (counts-of-setup s) in
       let lg = length-guarantees-from s at (countsIn s .operators) ∙ sym ops in
       let lr : length (rowsOf s at) ≤ mostRows =
-      omega (arith, ap (λ (p : Part). length (p .rows)) (part-places s at operators (omega (arith, k .operators-high)) (omega arith)), length-part-rows s at operators) in
+      omega (arith, ap (λ (p : Part). length (p .rows)) (part-places top s at operators (omega (arith, k .operators-high)) (omega arith)), length-part-rows top s at operators) in
       let place : at + rowsAt + rowWidth * rowCount s at ≡ at + (rowsAt + rowWidth * rowCount s at) = omega arith in
-      rw (eo, en, part-places s at (countsIn s .operators) (omega (arith, k .operators-high)) (omega arith), place)
+      rw (eo, en, part-places top s at (countsIn s .operators) (omega (arith, k .operators-high)) (omega arith), place)
       (in-order (setupOf s) (partWith s at (rowsOf s at)) _ _ _ lg lr)
 
-  pub guarantees-fail : guaranteesStand s at operators ≡ false → false ≡ partStands s at
+  pub guarantees-fail : guaranteesStand s at operators ≡ false → false ≡ partStands top s at
   guarantees-fail g = sym (part-in-order ∙ rw g)
 
-  pub rows-fail : guaranteesStand s at operators ≡ true → rowsStand s at n ≡ false → false ≡ partStands s at
+  pub rows-fail : guaranteesStand s at operators ≡ true → rowsStand s at n ≡ false → false ≡ partStands top s at
   rows-fail g r = sym (part-in-order ∙ rw (g, r))
 
-  pub sums-decide : guaranteesStand s at operators ≡ true → rowsStand s at n ≡ true → sumsStand s at rows ≡ partStands s at
+  pub sums-decide : guaranteesStand s at operators ≡ true → rowsStand s at n ≡ true → sumsStand top s at rows ≡ partStands top s at
   sums-decide g r = sym (part-in-order ∙ rw (g, r))
 
 -- ---- what the sums ask of rows and guarantees that stand
 
-pub rows-tabled : (s : List ℕ) (at n : ℕ) → SetupKnown mostHours s → rowsStand s at n ≡ true → Each (Tabled mostHours) (rowsFrom s (at + rowsAt) n)
+pub rows-tabled : (top : ℕ) (s : List ℕ) (at n : ℕ) → SetupKnown top s → rowsStand s at n ≡ true → Each (Tabled top) (rowsFrom s (at + rowsAt) n)
 unfolding rowsStand
-rows-tabled s at n k t =
+rows-tabled top s at n k t =
     let c = counts-of-setup s in
     let accounts = ap (λ (c : Counts). c .accounts) c in
     let hours = ap (λ (c : Counts). c .hours) c in

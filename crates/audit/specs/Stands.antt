@@ -1,4 +1,5 @@
 -- A book section by section, as code tests it in its bytes: the set-up first, then what is read by it. Each test looks at its own places.
+-- `top` is the most periods that a day can have, 25 hours today.
 use Prim.Native.Nat.{ℕ, _+_, _-_, _*_, _≤_}
 use mathlib.Core.Path.{_≡_}
 use mathlib.Core.List.{List, [], _∷_}
@@ -9,7 +10,7 @@ use Rattle.wire.specs.Numbers.{numberAt}
 use Rattle.wire.specs.Regions.{zerosFrom}
 use Rattle.rules.specs.declared.Row.{Row}
 use Rattle.rules.specs.Basics.{if_then_else_, any, every, allOf, within, Each}
-use Rattle.rules.specs.Limits.{mostPrice, mostGuarantee, thousand, mostHours, mostOperators, mostRows, mostSchedules, bookSize}
+use Rattle.rules.specs.Limits.{mostPrice, mostGuarantee, thousand, mostOperators, mostRows, mostSchedules, bookSize}
 use Rattle.rules.specs.Books.{Part}
 use Rattle.rules.specs.Opening.{countsIn, operatorsFrom, setupLength, setupOf, estimatesIn, guaranteeWidth}
 use Rattle.rules.specs.Registration.{pending}
@@ -75,27 +76,26 @@ unfoldable pub rowsStand : List ℕ → ℕ → ℕ → Bool
 rowsStand s at n = allOf (rowsStandTests s at n)
 
 -- the nets are those of the rows, which keep the margins and are covered
-abbrev pub sumsStandTests : List ℕ → ℕ → List Row → List Bool
-sumsStandTests s at rows =
-    netsHeld mostHours rows s at
+abbrev pub sumsStandTests : ℕ → List ℕ → ℕ → List Row → List Bool
+sumsStandTests top s at rows =
+    netsHeld top rows s at
     ∷ marginsKept (setupOf s) rows
     ∷ guaranteesKept (setupOf s) (partWith s at rows)
     ∷ []
 
-unfoldable pub sumsStand : List ℕ → ℕ → List Row → Bool
-sumsStand s at rows = allOf (sumsStandTests s at rows)
+unfoldable pub sumsStand : ℕ → List ℕ → ℕ → List Row → Bool
+sumsStand top s at rows = allOf (sumsStandTests top s at rows)
 
 -- the part is valid, and its bytes are its image
-unfoldable pub partStands : List ℕ → ℕ → Bool
-partStands s at =
-    partOk (setupOf s) (partAt mostHours (countsIn s .operators) s at) && partPlain mostHours (countsIn s .operators) s at
+unfoldable pub partStands : ℕ → List ℕ → ℕ → Bool
+partStands top s at = partOk (setupOf s) (partAt top (countsIn s .operators) s at) && partPlain top (countsIn s .operators) s at
 
 -- the saved part: zeros without a batch; with one a part, whose rows the present ones follow
-unfoldable pub savedStands : List ℕ → Bool
-savedStands s =
+unfoldable pub savedStands : ℕ → List ℕ → Bool
+savedStands top s =
     if eqb (getD s flagAt 0) 0
-    then zerosFrom s (savedAt mostHours) (partSize mostHours)
-    else (partStands s (savedAt mostHours) && follows (rowsOf s (savedAt mostHours)) (rowsOf s presentAt))
+    then zerosFrom s (savedAt top) (partSize top)
+    else (partStands top s (savedAt top) && follows (rowsOf s (savedAt top)) (rowsOf s presentAt))
 
 -- ---- schedules and phase
 

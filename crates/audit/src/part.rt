@@ -5,14 +5,14 @@ ghost use Prim.Native.Nat.{_+_, _*_, _≤_};
 ghost use lib.ListN.{length};
 ghost use Rattle.rules.specs.declared.Row.{Row};
 ghost use Rattle.rules.specs.Basics.{Each};
-ghost use Rattle.rules.specs.Limits.{mostGuarantee, mostHours, mostRows, mostOperators};
+ghost use Rattle.rules.specs.Limits.{mostGuarantee, mostRows, mostOperators};
 ghost use Rattle.rules.specs.Opening.{countsIn, setupOf};
 ghost use Rattle.rules.specs.Registration.{covered};
 ghost use Rattle.image.specs.Valid.{guaranteesKept};
 ghost use Rattle.image.specs.Cells.{rowsFrom, guaranteesFrom};
 ghost use Rattle.image.specs.Tables.{Tabled, tableSize};
 ghost use Rattle.image.specs.Layout.{partSize, rowCountAt, rowsAt, netsAt, mostPeriods};
-ghost use Rattle.tables.specs.Sums.{SumsOf};
+ghost use Rattle.tables.specs.Sums.{SumsOf, NoSums};
 ghost use Rattle.audit.specs.Stands.{SetupKnown, partWith, guaranteesStand, rowsStand, sumsStand, partStands};
 use crate::checks::guarantees_ok;
 use crate::checks::rows_ok;
@@ -23,13 +23,12 @@ use image::layout::NETS_IN;
 use image::layout::ROW_COUNT_IN;
 use image::layout::ROW_WIDTH;
 use image::layout::ROWS_IN;
-use rules::limits::PERIODS;
 use setup::counts::counts;
 use setup::entries::operator;
 use tables::exposure::exposure_of;
 use tables::margins::margins_kept;
+use tables::sums::fill;
 use tables::sums::nets_kept;
-use tables::sums::sums_of;
 use units::Cents;
 use wire::numbers::get_u16;
 use wire::numbers::get_u64;
@@ -46,7 +45,7 @@ fn guarantees_stand(book: &[u8], at: usize, operators: usize) -> bool
 
 // The rows are in range, no two pending ones are alike, and zeros stand behind them.
 fn rows_stand(book: &[u8], at: usize, n: usize) -> bool
-    requires { ⌜ SetupKnown mostHours (now book) × (at + netsAt ≤ length (now book)) × (n ≤ mostRows) ⌝ }
+    requires { ⌜ (at + netsAt ≤ length (now book)) × (n ≤ mostRows) ⌝ }
     ensures { λ r. ⌜ r ≡ rowsStand (now (book .entry)) at n ⌝ }
 {
     let c = counts(book);
@@ -85,21 +84,24 @@ fn guarantees_cover(book: &[u8], at: usize, table: &[u32], top: usize) -> bool
     true
 }
 
-// What follows of the sums of the rows: the nets are theirs, margins are kept, and every exposure is covered.
-fn sums_stand(book: &[u8], at: usize, n: usize) -> bool
-    requires { ⌜ SetupKnown mostHours (now book) × (at + partSize mostHours ≤ length (now book)) × (n ≤ mostRows) × Each (Tabled mostHours) (rowsFrom (now book) (at + rowsAt) n) × Each (λ g. g .0 ≤ mostGuarantee) (guaranteesFrom (now book) at (countsIn (now book) .operators)) ⌝ }
-    ensures { λ r. ⌜ r ≡ sumsStand (now (book .entry)) at (rowsFrom (now (book .entry)) (at + rowsAt) n) ⌝ }
+// What follows of the sums of the rows: the nets are theirs, margins are kept, and every exposure is covered. The sums are taken into the
+// table of no rows that is lent.
+fn sums_stand(book: &[u8], at: usize, top: usize, n: usize, table: &mut [u32]) -> bool
+    requires { ⌜ SetupKnown top (now book) × (at + partSize top ≤ length (now book)) × (n ≤ mostRows) × Each (Tabled top) (rowsFrom (now book) (at + rowsAt) n) × Each (λ g. g .0 ≤ mostGuarantee) (guaranteesFrom (now book) at (countsIn (now book) .operators)) ⌝ }
+    requires { ⌜ NoSums top (now table) × (top ≤ mostPeriods) ⌝ }
+    ensures { λ r. ⌜ r ≡ sumsStand top (now (book .entry)) at (rowsFrom (now (book .entry)) (at + rowsAt) n) ⌝ }
 {
-    let table = sums_of(book, at + ROWS_IN, n);
-    nets_kept(book, at + NETS_IN, &table, PERIODS)
-        & margins_kept(book, &table, PERIODS)
-        & guarantees_cover(book, at, &table, PERIODS)
+    fill(table, top, book, at + ROWS_IN, n);
+    nets_kept(book, at + NETS_IN, table, top)
+        & margins_kept(book, table, top)
+        & guarantees_cover(book, at, table, top)
 }
 
-// The part that begins at `at` is valid, and nothing else stands in its bytes.
-pub fn part_stands(book: &[u8], at: usize) -> bool
-    requires { ⌜ SetupKnown mostHours (now book) × (at + partSize mostHours ≤ length (now book)) ⌝ }
-    ensures { λ r. ⌜ r ≡ partStands (now (book .entry)) at ⌝ }
+// The part that begins at `at` is valid, and nothing else stands in its bytes. It is lent a table of no rows.
+pub fn part_stands(book: &[u8], at: usize, top: usize, table: &mut [u32]) -> bool
+    requires { ⌜ SetupKnown top (now book) × (at + partSize top ≤ length (now book)) ⌝ }
+    requires { ⌜ NoSums top (now table) × (top ≤ mostPeriods) ⌝ }
+    ensures { λ r. ⌜ r ≡ partStands top (now (book .entry)) at ⌝ }
 {
     let c = counts(book);
     let rows = get_u16(book, at + ROW_COUNT_IN) as usize;
@@ -112,5 +114,5 @@ pub fn part_stands(book: &[u8], at: usize) -> bool
     if !rows_stand(book, at, rows) {
         return false;
     }
-    sums_stand(book, at, rows)
+    sums_stand(book, at, top, rows, table)
 }

@@ -6,10 +6,10 @@ ghost use lib.ListN.{length};
 ghost use Rattle.rules.specs.Basics.{isSome};
 ghost use Rattle.rules.specs.Limits.{mostRows, bookSize, mostHours};
 ghost use Rattle.rules.specs.Opening.{setupRefusal, operatorEntry};
-ghost use Rattle.image.specs.Layout.{presentAt};
+ghost use Rattle.image.specs.Layout.{presentAt, partSize};
 ghost use Rattle.image.specs.Valid.{isBook};
 ghost use Rattle.audit.specs.Plain.{noneLodged};
-ghost use Rattle.audit.specs.Stands.{setupStands, SetupKnown, rowCount, savedStands, schedulesStand, phaseStands};
+ghost use Rattle.audit.specs.Stands.{setupStands, SetupKnown, rowCount, partStands, savedStands, schedulesStand, phaseStands};
 use crate::checks::none_pending;
 use crate::checks::schedules_ok;
 use crate::part::part_stands;
@@ -29,11 +29,13 @@ use image::layout::SETUP_ROOM;
 use image::layout::SPARE_AT;
 use rules::Checked;
 use rules::limits::MOST_SCHEDULES;
+use rules::limits::PERIODS;
 use setup::counts::OPERATOR_ENTRY;
 use setup::counts::counts;
 use setup::counts::length_of;
 use setup::counts::operators_from;
 use setup::fault::fault;
+use tables::sums::zeros;
 use wire::numbers::get_u16;
 use wire::regions::all_zero;
 
@@ -113,15 +115,24 @@ fn phase_stands(book: &[u8]) -> bool
         & (first | (flag == 0))
 }
 
+// Whether a part begins at `at`, tested by a table of its own.
+fn is_part(book: &[u8], at: usize) -> bool
+    requires { ⌜ SetupKnown mostHours (now book) × (at + partSize mostHours ≤ length (now book)) ⌝ }
+    ensures { λ r. ⌜ r ≡ partStands mostHours (now (book .entry)) at ⌝ }
+{
+    let mut table = zeros();
+    part_stands(book, at, PERIODS, &mut table)
+}
+
 // Without a batch the saved part is zero; with one it stands, and the present rows follow from its own.
 fn saved_stands(book: &[u8]) -> bool
     requires { ⌜ SetupKnown mostHours (now book) × (rowCount (now book) presentAt ≤ mostRows) ⌝ }
-    ensures { λ r. ⌜ r ≡ savedStands (now (book .entry)) ⌝ }
+    ensures { λ r. ⌜ r ≡ savedStands mostHours (now (book .entry)) ⌝ }
 {
     if book[FLAG_AT] == 0 {
         return all_zero(book, SAVED_AT, PART_SIZE);
     }
-    if !part_stands(book, SAVED_AT) {
+    if !is_part(book, SAVED_AT) {
         return false;
     }
     let saved = get_u16(book, SAVED_AT + ROW_COUNT_IN) as usize;
@@ -139,7 +150,7 @@ pub fn is_book(book: &[u8]) -> bool
     if !setup_stands(book) {
         return false;
     }
-    if !part_stands(book, PRESENT_AT) {
+    if !is_part(book, PRESENT_AT) {
         return false;
     }
     if !saved_stands(book) {

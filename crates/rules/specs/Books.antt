@@ -90,7 +90,7 @@ accountAt u a = nth (u .accounts) a noAccount
 abbrev pub pointAt : Setup → ℕ → Point
 pointAt u p = nth (u .points) p noPoint
 
--- the margins of an account in a period
+-- the margins of an account, and those in a period
 abbrev pub marginsOf : Account → Margins
 marginsOf x = record { lower = x .lower; upper = x .upper }
 

@@ -139,7 +139,7 @@ takes a h x r =
       purchases = kwh (x .purchases .0 + counted (λ r. pending r && covers h r && eqb (r .proposer) a && eqb (r .side) 2) r);
     }
 
--- and rows one after the other
+-- it takes trades one after the other
 abbrev pub takesAll : ℕ → ℕ → AccountHour → List Row → AccountHour
 takesAll a h x [] = x
 takesAll a h x (r ∷ rs) = takesAll a h (takes a h x r) rs

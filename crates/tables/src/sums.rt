@@ -23,7 +23,6 @@ use rules::Net;
 use rules::Row;
 use rules::hours::pick;
 use rules::limits::MOST_ACCOUNTS;
-use rules::limits::PERIODS;
 use units::Kwh;
 use wire::numbers::get_u32;
 
@@ -99,14 +98,14 @@ fn take_row(table: &mut [u32], top: usize, r: Row)
 }
 
 // A table of no rows.
-fn zeros() -> [u32; TABLE_SIZE]
+pub fn zeros() -> [u32; TABLE_SIZE]
     ensures { λ r. ⌜ NoSums mostHours r ⌝ }
 {
     [0u32; TABLE_SIZE]
 }
 
 // Takes the `n` rows that stand from `at` on into a table of no rows.
-fn fill(table: &mut [u32], top: usize, s: &[u8], at: usize, n: usize)
+pub fn fill(table: &mut [u32], top: usize, s: &[u8], at: usize, n: usize)
     requires { ⌜ NoSums top (now table) × (at + rowWidth * n ≤ length (now s)) × (n ≤ mostRows) × Each (Tabled top) (rowsFrom (now s) at n) × (top ≤ mostPeriods) ⌝ }
     ensures { λ _. ⌜ SumsOf top (rowsFrom (now (s .entry)) at n) (now (table .exit)) ⌝ }
 {
@@ -118,16 +117,6 @@ fn fill(table: &mut [u32], top: usize, s: &[u8], at: usize, n: usize)
         place = place + ROW_WIDTH;
         left = left - 1;
     }
-}
-
-// The sums of all account hours by the `n` rows that stand from `at` on.
-pub fn sums_of(s: &[u8], at: usize, n: usize) -> [u32; TABLE_SIZE]
-    requires { ⌜ (at + rowWidth * n ≤ length (now s)) × (n ≤ mostRows) × Each (Tabled mostHours) (rowsFrom (now s) at n) ⌝ }
-    ensures { λ r. ⌜ SumsOf mostHours (rowsFrom (now (s .entry)) at n) r ⌝ }
-{
-    let mut table = zeros();
-    fill(&mut table, PERIODS, s, at, n);
-    table
 }
 
 // The sum that a lane holds for an account hour.

@@ -4,19 +4,18 @@ use Prim.Native.Nat.{ℕ, _+_, _-_}
 use mathlib.Core.Path.{_≡_, refl, sym, ap, _∙_}
 use mathlib.Core.Logic.{_⊎_, inl, inr}
 use mathlib.Core.List.{List, [], _∷_, _++_}
-use mathlib.Core.Option.{Option, none, some}
+use mathlib.Core.Option.{none, some}
 use mathlib.Core.Bool.{true, false, or-false}
 use native.Mathlib.Nat.{zero-add, add-zero, add-comm, add-assoc}
 use native.Mathlib.Omega.{arith}
 use lib.ListN.{length, length-append}
 use borrow.Author.Tests.{not-true}
-use Rattle.rules.specs.declared.Row.{Row}
 use Rattle.rules.specs.declared.Request.{Request}
 use Rattle.rules.specs.Basics.{if_then_else_, total, every}
 use Rattle.rules.specs.Verdicts.{accepted}
-use Rattle.rules.specs.Books.{Part, Book, withRows}
+use Rattle.rules.specs.Books.{Part, Book, withPart, withSaved}
 use Rattle.rules.specs.Requests.{Kind, register, confirm, withdraw, guarantee, openBatch, undo, keep, closeGate, schedule, settle}
-use Rattle.rules.specs.Calls.{Call, requestIn, kindIn, restored, confirmedNumber, next, given, _∈_, stateChecks, step, apply}
+use Rattle.rules.specs.Calls.{Call, requestIn, kindIn, restored, confirmedNumber, next, given, _∈_, stateChecks, step, apply, restorePart}
 use Rattle.rules.specs.Lists.{after, acceptsAs, rowsRegistered, endsNoBatch, UndoneBatch, CutOut, runs}
 use Rattle.rules.proofs.Basics.Tests.{and-both, and-spared}
 use Rattle.rules.proofs.Checks.Clearing.{Clear}
@@ -36,40 +35,50 @@ passed-as b c k h = let w = and-both _ _ .0 h in (accepts-passed b c (w .0), the
 
 -- ---- while a batch is open
 
--- a book b in the batch that was opened at o, since when n rows were registered
+-- a book b in the batch that was opened at o, in phase 1, since when n rows were registered: o with another part, and its own part saved
 record Within (o : Book) (n : ℕ) (b : Book) : Type 0 where
-  setup : b .setup ≡ o .setup
-  phase : b .phase ≡ 1
-  schedules : b .schedules ≡ o .schedules
-  saved : b .saved ≡ some (o .part)
-  numbers : length (b .part .rows) ≡ n + length (o .part .rows)
+  part : Part
+  book : b ≡ withSaved (withPart o part) (some (o .part))
+  phase : o .phase ≡ 1
+  numbers : length (part .rows) ≡ n + length (o .part .rows)
 
 -- the rows that an accepted call of a kind registers
 abbrev registers : Kind → ℕ
 registers k = if k ∈ (register ∷ []) then 1 else 0
 
 module _ {o b : Book} {n : ℕ} (w : Within o n b) (q : Request) where
-  with-rows : (m : ℕ) (rows : List Row) → length rows ≡ m + length (b .part .rows) → Within o (m + n) (withRows b rows)
-  with-rows m rows e =
-      record { setup = w .setup; phase = w .phase; schedules = w .schedules; saved = w .saved; numbers = omega (arith, e, w .numbers) }
+  here : b .part ≡ w .part
+  here = ap (λ (x : Book). x .part) (w .book)
+
+  phase-within : b .phase ≡ 1
+  phase-within = ap (λ (x : Book). x .phase) (w .book) ∙ w .phase
+
+  -- another part, with so many rows more
+  with-part : (m : ℕ) (p : Part) → length (p .rows) ≡ m + length (b .part .rows) → Within o (m + n) (withPart b p)
+  with-part m p e =
+      record {
+        part = p;
+        book = ap (λ (x : Book). withPart x p) (w .book);
+        phase = w .phase;
+        numbers = omega (arith, e, ap (λ (x : Part). length (x .rows)) here, w .numbers);
+      }
 
   -- a batch is open
   saved-never : b .saved ≡ none → ⊥
-  saved-never e = let s = w .saved in let z : _≡_ {A = ℕ} 0 1 = cc in omega arith
+  saved-never e = let s = ap (λ (x : Book). x .saved) (w .book) in let z : _≡_ {A = ℕ} 0 1 = cc in omega arith
 
   within-next : (k : Kind) → k ∈ (undo ∷ keep ∷ []) ≡ false → Clear (stateChecks b k q) → Within o (registers k + n) (next k b q)
   unfolding apply
-  within-next register e h = with-rows 1 _ (length-append (b .part .rows) _ ∙ omega arith)
-  within-next confirm e h = with-rows 0 _ (length-mark (confirmedNumber b q) 2 (b .part .rows) ∙ sym (zero-add _))
-  within-next withdraw e h = with-rows 0 _ (length-mark (q .number) 3 (b .part .rows) ∙ sym (zero-add _))
-  within-next guarantee e h =
-      record { setup = w .setup; phase = w .phase; schedules = w .schedules; saved = w .saved; numbers = omega (arith, w .numbers) }
+  within-next register e h = with-part 1 _ (length-append (b .part .rows) _ ∙ omega arith)
+  within-next confirm e h = with-part 0 _ (length-mark (confirmedNumber b q) 2 (b .part .rows) ∙ sym (zero-add _))
+  within-next withdraw e h = with-part 0 _ (length-mark (q .number) 3 (b .part .rows) ∙ sym (zero-add _))
+  within-next guarantee e h = with-part 0 _ (sym (zero-add _))
   within-next openBatch e h = absurd (saved-never (passed-12 b q openBatch refl h))
   within-next undo e h = let z : _≡_ {A = ℕ} 0 1 = cc in absurd (omega arith)
   within-next keep e h = let z : _≡_ {A = ℕ} 0 1 = cc in absurd (omega arith)
   within-next closeGate e h = absurd (saved-never (passed-12 b q closeGate refl h))
-  within-next schedule e h = absurd (omega (arith, passed-11 b q schedule h, w .phase))
-  within-next settle e h = absurd (omega (arith, passed-11 b q settle h, w .phase))
+  within-next schedule e h = absurd (omega (arith, passed-11 b q schedule h, phase-within))
+  within-next settle e h = absurd (omega (arith, passed-11 b q settle h, phase-within))
 
 -- the rows that one call registers
 abbrev rowsOf : Book → Call → ℕ
@@ -91,7 +100,7 @@ within-after {n} b (c ∷ cs) e w =
 
 within-open : (b : Book) (q : Request) → b .phase ≡ 1 → Within b 0 (next openBatch b q)
 unfolding apply
-within-open b q e = record { setup = refl; phase = e; schedules = refl; saved = refl; numbers = omega arith }
+within-open b q e = record { part = b .part; book = refl; phase = e; numbers = omega arith }
 
 -- ---- an undone batch
 
@@ -119,16 +128,7 @@ module _ (b : Book) (opening : Call) (between : List Call) (undoing : Call) (bat
 
   undo-within : (m : ℕ) (x : Book) (q : Request) → Within b m x → next undo x q ≡ b
   unfolding apply
-  undo-within m x q w =
-      let p = w .phase ∙ sym phase-open in
-      let s = sym saved-none in
-      λ i. record {
-        setup = w .setup i;
-        phase = p i;
-        part = restored (w .saved i) (x .part);
-        schedules = w .schedules i;
-        saved = s i;
-      }
+  undo-within m x q w = ap (apply restorePart) (w .book) ∙ ap (withSaved b) (sym saved-none)
 
   -- undo gives back the book as it was before the open, whole, whatever was called in between
   pub undo-restores : after step b (opening ∷ between ++ undoing ∷ []) ≡ b
@@ -144,9 +144,9 @@ module _ (b : Book) (opening : Call) (between : List Call) (undoing : Call) (bat
   unfolding given
   undo-counts =
       let x = after step b (opening ∷ between) in
-      let saved : restored (x .saved) (x .part) ≡ b .part = ap (λ (o : Option Part). restored o (x .part)) (within-batch .saved) in
+      let saved : restored (x .saved) (x .part) ≡ b .part = ap (λ (y : Book). restored (y .saved) (y .part)) (within-batch .book) in
       let count : length (x .part .rows) - length (restored (x .saved) (x .part) .rows) ≡ rowsRegistered step (after step b (opening ∷ [])) between
-      = rw saved (omega (arith, within-batch .numbers)) in
+      = rw saved (omega (arith, ap (λ (y : Book). length (y .part .rows)) (within-batch .book), within-batch .numbers)) in
       undone-batch .0 .outcome
       ∙ ap (λ (k : Kind). accepted (given k x (requestIn undoing))) (undone-batch .1)
       ∙ ap accepted count

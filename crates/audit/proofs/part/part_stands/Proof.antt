@@ -21,7 +21,7 @@ cast-rows : tie.Need-cast-rows
 cast-rows c = search needs
 
 returns : tie.Need-returns
-returns c = too-many-rows _ _ (omega (arith, c .before .get-u16 .ensures))
+returns c = too-many-rows _ _ _ (omega (arith, c .before .get-u16 .ensures))
 
 cast-guarantees-stand : tie.Need-cast-guarantees-stand
 cast-guarantees-stand c = search needs
@@ -29,14 +29,14 @@ cast-guarantees-stand c = search needs
 guarantees-stand-requires : tie.Need-guarantees-stand-requires
 guarantees-stand-requires c κs =
     let counted = c .before .before .before in
-    (search needs, omega (arith, ap (λ (n : Counts). n .operators) (counted .counts .ensures), counted .before .before .pre .0 .operators-high))
+    (search needs, omega (arith, ap (λ (n : Counts). n .operators) (counted .counts .ensures), counted .before .before .before .pre .0 .0 .operators-high))
 
 returns-2 : tie.Need-returns-2
 returns-2 c =
     let tested = c .before in
     let read = tested .before .before .before in
     let counted = read .before in
-    guarantees-fail _ _ _ _ (counted .before .before .pre .0) (read .get-u16 .ensures) (ap (λ (n : Counts). n .operators) (counted .counts .ensures)) (omega arith)
+    guarantees-fail _ _ _ _ _ (counted .before .before .before .pre .0 .0) (read .get-u16 .ensures) (ap (λ (n : Counts). n .operators) (counted .counts .ensures)) (omega arith)
     (sym (tested .guarantees-stand .ensures) ∙ not-true _ (c .if2 .taken))
 
 rows-stand-requires : tie.Need-rows-stand-requires
@@ -49,33 +49,41 @@ returns-3 c =
     let tested = stand .before in
     let read = tested .before .before .before in
     let counted = read .before in
-    rows-fail _ _ _ _ (counted .before .before .pre .0) (read .get-u16 .ensures) (ap (λ (n : Counts). n .operators) (counted .counts .ensures)) (omega arith)
+    rows-fail _ _ _ _ _ (counted .before .before .before .pre .0 .0) (read .get-u16 .ensures) (ap (λ (n : Counts). n .operators) (counted .counts .ensures)) (omega arith)
     (sym (tested .guarantees-stand .ensures) ∙ not-false _ (stand .if2 .left)) (sym (rows .rows-stand .ensures) ∙ not-true _ (c .if3 .taken))
 
 sums-stand-requires : tie.Need-sums-stand-requires
 sums-stand-requires c κs =
-    let rows = c .before in
+    let sums = c .before in
+    let rows = sums .before in
     let stand = rows .before in
     let tested = stand .before in
     let counted = tested .before .before .before .before in
-    let known = counted .before .before .pre .0 in (
-      known,
-      search needs,
-      search needs,
-      rows-tabled _ _ _ known (sym (rows .rows-stand .ensures) ∙ not-false _ (c .if3 .left)),
-      guarantees-small _ _ _ _ (ap (λ (n : Counts). n .operators) (counted .counts .ensures)) (sym (tested .guarantees-stand .ensures) ∙ not-false _ (stand .if2 .left)),
+    let known = counted .before .before .before .pre .0 .0 in (
+      (
+        known,
+        search needs,
+        search needs,
+        rows-tabled _ _ _ _ known (sym (rows .rows-stand .ensures) ∙ not-false _ (sums .if3 .left)),
+        guarantees-small _ _ _ _ (ap (λ (n : Counts). n .operators) (counted .counts .ensures)) (sym (tested .guarantees-stand .ensures) ∙ not-false _ (stand .if2 .left)),
+      ),
+      counted .before .before .before .pre .1,
     )
+
+same-length : tie.Need-same-length
+same-length c = search needs
 
 returns-4 : tie.Need-returns-4
 returns-4 c =
-    let sums = c .before in
+    let done = c .before .before in
+    let sums = done .before .before in
     let rows = sums .before in
     let stand = rows .before in
     let tested = stand .before in
     let read = tested .before .before .before in
     let counted = read .before in
-    c .sums-stand .ensures
-    ∙ sums-decide _ _ _ _ (counted .before .before .pre .0) (read .get-u16 .ensures) (ap (λ (n : Counts). n .operators) (counted .counts .ensures)) (omega arith)
+    done .sums-stand .ensures
+    ∙ sums-decide _ _ _ _ _ (counted .before .before .before .pre .0 .0) (read .get-u16 .ensures) (ap (λ (n : Counts). n .operators) (counted .counts .ensures)) (omega arith)
     (sym (tested .guarantees-stand .ensures) ∙ not-false _ (stand .if2 .left)) (sym (rows .rows-stand .ensures) ∙ not-false _ (sums .if3 .left))
 
 pub part-stands-spec : {M : Type 1} → statement M
@@ -93,4 +101,5 @@ part-stands-spec =
     rows-stand-requires
     returns-3
     sums-stand-requires
+    same-length
     returns-4)

@@ -22,8 +22,8 @@ returns-2 c =
     let tested = c .before in
     one-falls _ (bytes-known _ (tested .before .before .shared-slice-known .given)) (λ d. d .setup-stands) (sym (tested .setup-stands .ensures) ∙ not-true _ (c .if2 .taken))
 
-part-stands-requires : tie.Need-part-stands-requires
-part-stands-requires c κs =
+is-part-requires : tie.Need-is-part-requires
+is-part-requires c κs =
     let tested = c .before in
     let known = setup-known _ (tested .before .if1 .left) (sym (tested .setup-stands .ensures) ∙ not-false _ (c .if2 .left)) in
     (known, omega arith)
@@ -31,7 +31,7 @@ part-stands-requires c κs =
 returns-3 : tie.Need-returns-3
 returns-3 c =
     let tested = c .before in
-    one-falls _ (bytes-known _ (tested .before .before .before .before .shared-slice-known .given)) (λ d. d .part-stands) (sym (tested .part-stands .ensures) ∙ not-true _ (c .if3 .taken))
+    one-falls _ (bytes-known _ (tested .before .before .before .before .shared-slice-known .given)) (λ d. d .part-stands) (sym (tested .is-part .ensures) ∙ not-true _ (c .if3 .taken))
 
 saved-stands-requires : tie.Need-saved-stands-requires
 saved-stands-requires c κs =
@@ -39,7 +39,7 @@ saved-stands-requires c κs =
     let stands = part .before in
     let tested = stands .before in (
       setup-known _ (tested .before .if1 .left) (sym (tested .setup-stands .ensures) ∙ not-false _ (stands .if2 .left)),
-      few-rows _ presentAt (sym (part .part-stands .ensures) ∙ not-false _ (c .if3 .left)),
+      few-rows _ _ presentAt (sym (part .is-part .ensures) ∙ not-false _ (c .if3 .left)),
     )
 
 returns-4 : tie.Need-returns-4
@@ -56,7 +56,7 @@ schedules-stand-requires c κs =
 phase-stands-requires : tie.Need-phase-stands-requires
 phase-stands-requires c κs =
     let stands = c .before .before .before in
-    (search needs, few-rows _ presentAt (sym (stands .before .part-stands .ensures) ∙ not-false _ (stands .if3 .left)))
+    (search needs, few-rows _ _ presentAt (sym (stands .before .is-part .ensures) ∙ not-false _ (stands .if3 .left)))
 
 sub-all-zero : tie.Need-sub-all-zero
 sub-all-zero c = search needs
@@ -74,7 +74,7 @@ returns-5 c =
     let sized = setup .before .before in
     rest-decides _ (bytes-known _ (sized .before .shared-slice-known .given)) (sized .if1 .left)
     (sym (setup .before .setup-stands .ensures) ∙ not-false _ (setup .if2 .left))
-    (sym (part .before .part-stands .ensures) ∙ not-false _ (part .if3 .left))
+    (sym (part .before .is-part .ensures) ∙ not-false _ (part .if3 .left))
     (sym (saved .before .saved-stands .ensures) ∙ not-false _ (saved .if4 .left))
     (schedules .schedules-stand .ensures) (phase .phase-stands .ensures) (c .all-zero .ensures)
 
@@ -85,7 +85,7 @@ is-book-spec =
     returns
     setup-stands-requires
     returns-2
-    part-stands-requires
+    is-part-requires
     returns-3
     saved-stands-requires
     returns-4

@@ -17,15 +17,15 @@ all-zero-requires : tie.Need-all-zero-requires
 all-zero-requires c κs = search needs
 
 returns : tie.Need-returns
-returns c = c .all-zero .ensures ∙ sym (saved-without _ (c .before .if1 .taken))
+returns c = c .all-zero .ensures ∙ sym (saved-without _ _ (c .before .if1 .taken))
 
-part-stands-requires : tie.Need-part-stands-requires
-part-stands-requires c κs = search needs
+is-part-requires : tie.Need-is-part-requires
+is-part-requires c κs = search needs
 
 returns-2 : tie.Need-returns-2
 returns-2 c =
     let tested = c .before in
-    sym (saved-with _ (tested .before .if1 .left) ∙ rw (sym (tested .part-stands .ensures) ∙ not-true _ (c .if2 .taken)))
+    sym (saved-with _ _ (tested .before .if1 .left) ∙ rw (sym (tested .is-part .ensures) ∙ not-true _ (c .if2 .taken)))
 
 add-get-u16 : tie.Need-add-get-u16
 add-get-u16 c = search needs
@@ -57,7 +57,7 @@ rows-follow-requires c κs =
     let stands = saved .before in
     let tested = stands .before in
     let s = tested .before .before .before .before .args .book .now in
-    let few = few-rows s (savedAt mostHours) (sym (tested .part-stands .ensures) ∙ not-false _ (stands .if2 .left)) in
+    let few = few-rows mostHours s (savedAt mostHours) (sym (tested .is-part .ensures) ∙ not-false _ (stands .if2 .left)) in
     (omega (arith, few, saved .get-u16 .ensures), omega (arith, c .get-u162 .ensures))
 
 returns-3 : tie.Need-returns-3
@@ -68,7 +68,7 @@ returns-3 c =
     let tested = stands .before in
     c .rows-follow .ensures
     ∙ rw (saved .get-u16 .ensures, read .get-u162 .ensures)
-    (sym (saved-with _ (tested .before .if1 .left) ∙ rw (sym (tested .part-stands .ensures) ∙ not-false _ (stands .if2 .left))))
+    (sym (saved-with _ _ (tested .before .if1 .left) ∙ rw (sym (tested .is-part .ensures) ∙ not-false _ (stands .if2 .left))))
 
 pub saved-stands-spec : {M : Type 1} → statement M
 saved-stands-spec =
@@ -77,7 +77,7 @@ saved-stands-spec =
     shared-slice-read-if1
     all-zero-requires
     returns
-    part-stands-requires
+    is-part-requires
     returns-2
     add-get-u16
     get-u16-requires
