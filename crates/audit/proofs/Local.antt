@@ -22,7 +22,7 @@ use Rattle.rules.specs.Limits.{mostOperators, mostSchedules}
 use Rattle.rules.specs.Books.{Setup}
 use Rattle.rules.specs.Opening.{countsIn}
 use Rattle.rules.proofs.Basics.Tests.{test-same, and-both, Holds, _and_, no-more, all-holds, holds-all}
-use Rattle.image.specs.Layout.{setupRoom, scheduleWidth, partSize, usedSize, bookWidths, phaseAt, flagAt, scheduleCountAt, schedulesAt, presentAt, savedAt}
+use Rattle.image.specs.Layout.{setupRoom, scheduleWidth, partSize, usedSize, bookWidths, phaseAt, flagAt, scheduleCountAt, schedulesAt, presentAt, savedAt, setupSection, phaseSection, flagSection, scheduleCountSection, schedulesSection, presentSection, savedSection, spareSection}
 use Rattle.image.specs.Image.{scheduleBytes, partBytes, flag, savedBytes, sectionsWith, sections, image, scheduleIn, partIn, savedIn, decode}
 use Rattle.image.specs.Valid.{valid, isBookOf}
 use Rattle.image.proofs.Sound.SoundBooks.{SoundBook, SavedSound, sound}
@@ -95,10 +95,10 @@ module _ (top size : ℕ) (s : List ℕ) (b : Bytes s) (l : length s ≡ size) (
       let e = le-number-wide (bytes-take 1 (bytes-drop i b)) 1 (length-take-le 1 (drop i s) (omega (arith, length-drop i s))) in
       sym e ∙ ap (le 1) (number-at-one s i)
 
-  saved-place : startOf ws 6 ≡ savedAt top
+  saved-place : startOf ws savedSection ≡ savedAt top
   saved-place = omega arith
 
-  spare-place : startOf ws 7 ≡ usedSize top
+  spare-place : startOf ws spareSection ≡ usedSize top
   spare-place = omega arith
 
   abbrev scheduleCount : ℕ
@@ -123,8 +123,8 @@ module _ (top size : ℕ) (s : List ℕ) (b : Bytes s) (l : length s ≡ size) (
       ∷ take (partSize top) (drop (savedAt top) s) ∷ take (size - usedSize top) (drop (usedSize top) s) ∷ []) ≡ s
   unfolding cut
   in-places =
-      alike-flat (sym (cut-at ws s 0) beside sym (cut-at ws s 1) beside sym (cut-at ws s 2) beside sym (cut-at ws s 3)
-      beside sym (cut-at ws s 4) beside sym (cut-at ws s 5) beside sym (cut-at ws s 6 ∙ rw saved-place) beside sym (cut-at ws s 7 ∙ rw spare-place)
+      alike-flat (sym (cut-at ws s setupSection) beside sym (cut-at ws s phaseSection) beside sym (cut-at ws s flagSection) beside sym (cut-at ws s scheduleCountSection)
+      beside sym (cut-at ws s schedulesSection) beside sym (cut-at ws s presentSection) beside sym (cut-at ws s savedSection ∙ rw saved-place) beside sym (cut-at ws s spareSection ∙ rw spare-place)
       beside no-others)
       ∙ flat-cut ws s (l ∙ omega arith)
 
@@ -136,13 +136,13 @@ module _ (top size : ℕ) (s : List ℕ) (b : Bytes s) (l : length s ≡ size) (
       sym (cut-flat ws (sections top size (bookAt top s)) (wide-book top size (bookAt top s) (fits (bookAt top s) known))) ∙ ap (cut ws) e in
       let at : (k : ℕ) → getD (sections top size (bookAt top s)) k [] ≡ take (getD ws k 0) (drop (startOf ws k) s) =
       λ k. ap (λ (y : List (List ℕ)). getD y k []) sec ∙ cut-at ws s k in
-      let t0 = setup-plain s b (omega arith) (known .setup-sound) (at 0) in
-      let t2 = flag-test .0 (at 2 ∙ byte-at flagAt (omega arith)) in
-      let z4 = slots-zero scheduleWidth mostSchedules scheduleBytes length-schedule scheduleIn scheduleCount (take (scheduleWidth * mostSchedules) (drop schedulesAt s)) (at 4) in
-      let t4 = rest-zeros-tested ws s 4 (scheduleWidth * scheduleCount) (omega arith) (omega arith) (ap (drop (scheduleWidth * scheduleCount)) (cut-at ws s 4) ∙ z4) in
-      let t5 = part-plain top (countsIn s .operators) s presentAt b (omega arith) few (known .part-sound .rows-high) (at 5) in
-      let t6 = saved-test .0 (at 6 ∙ rw saved-place) in
-      let t7 = zeros-tested (size - usedSize top) s (usedSize top) (omega arith) (sym (at 7 ∙ rw spare-place)) in
+      let t0 = setup-plain s b (omega arith) (known .setup-sound) (at setupSection) in
+      let t2 = flag-test .0 (at flagSection ∙ byte-at flagAt (omega arith)) in
+      let z4 = slots-zero scheduleWidth mostSchedules scheduleBytes length-schedule scheduleIn scheduleCount (take (scheduleWidth * mostSchedules) (drop schedulesAt s)) (at schedulesSection) in
+      let t4 = rest-zeros-tested ws s schedulesSection (scheduleWidth * scheduleCount) (omega arith) (omega arith) (ap (drop (scheduleWidth * scheduleCount)) (cut-at ws s schedulesSection) ∙ z4) in
+      let t5 = part-plain top (countsIn s .operators) s presentAt b (omega arith) few (known .part-sound .rows-high) (at presentSection) in
+      let t6 = saved-test .0 (at savedSection ∙ rw saved-place) in
+      let t7 = zeros-tested (size - usedSize top) s (usedSize top) (omega arith) (sym (at spareSection ∙ rw spare-place)) in
       holds-all (bookPlainTests top size s) (t0 .0 and t0 .1 and t2 and t4 and t5 and t6 and t7 and no-more)
 
   plain-book : Holds (bookPlainTests top size s) → image top size (bookAt top s) ≡ s
@@ -154,9 +154,9 @@ module _ (top size : ℕ) (s : List ℕ) (b : Bytes s) (l : length s ≡ size) (
       let a1 = sym (byte-at phaseAt (omega arith)) in
       let a2 = flag-test .1 flagged ∙ sym (byte-at flagAt (omega arith)) in
       let a3 = schedule-count in
-      let z4 = rest-zeros-read ws s 4 (scheduleWidth * scheduleCount) (omega arith) (omega arith) schedules in
+      let z4 = rest-zeros-read ws s schedulesSection (scheduleWidth * scheduleCount) (omega arith) (omega arith) schedules in
       let a4 = slots-again scheduleWidth scheduleBytes scheduleIn schedule-again mostSchedules scheduleCount (bytes-take (scheduleWidth * mostSchedules) (bytes-drop schedulesAt b))
-      (length-take-le (scheduleWidth * mostSchedules) (drop schedulesAt s) (omega (arith, length-drop schedulesAt s))) few-schedules (sym (ap (drop (scheduleWidth * scheduleCount)) (cut-at ws s 4)) ∙ z4) in
+      (length-take-le (scheduleWidth * mostSchedules) (drop schedulesAt s) (omega (arith, length-drop schedulesAt s))) few-schedules (sym (ap (drop (scheduleWidth * scheduleCount)) (cut-at ws s schedulesSection)) ∙ z4) in
       let a5 = plain-part top (countsIn s .operators) s presentAt b (omega arith) few (known .part-sound .rows-high) part in
       let a6 = saved-test .1 saved in
       let a7 = sym (zeros-read (size - usedSize top) s (usedSize top) (omega arith) spare) in

@@ -23,7 +23,7 @@ use Rattle.rules.specs.Opening.{countsIn, setupOf, guaranteeWidth}
 use Rattle.rules.proofs.Basics.Tests.{test-same, and-both, Holds, _and_, no-more, all-holds, holds-all, holds-at, chained-all, chain-holds, holds-chain}
 use Rattle.rules.proofs.Basics.Searches.{every-each, each-map}
 use Rattle.rules.proofs.Setups.SetupEntries.{counts-of-setup}
-use Rattle.image.specs.Layout.{rowWidth, partWidths, partSize, rowsAt, netsAt, netAt, rowCountAt, netWidth}
+use Rattle.image.specs.Layout.{rowWidth, partWidths, partSize, rowsAt, netsAt, netAt, rowCountAt, netWidth, guaranteesSection, rowCountSection, rowsSection}
 use Rattle.image.specs.Image.{rowIn, partOf, partIn}
 use Rattle.image.specs.Valid.{rowOk, noTwins, marginsKept, guaranteesKept, partTests, partOk}
 use Rattle.image.specs.Tables.{placeOf, InTable, Tabled}
@@ -72,15 +72,15 @@ module _ (top : ℕ) (s : List ℕ) (at operators : ℕ) where
   abbrev x : List ℕ
   x = take (partSize top) (drop at s)
 
-  count : number (getD (cut ws x) 1 []) ≡ rowCount s at
+  count : number (getD (cut ws x) rowCountSection []) ≡ rowCount s at
   unfolding numberAt
-  count = ap number (cut-at ws x 1 ∙ inner 2 rowCountAt (partSize top) at s (omega arith))
+  count = ap number (cut-at ws x rowCountSection ∙ inner 2 rowCountAt (partSize top) at s (omega arith))
 
   pub length-part-rows : length (partAt top operators s at .rows) ≡ rowCount s at
   unfolding partIn partOf
   length-part-rows =
-      length-map (chunks rowWidth (number (getD (cut ws x) 1 [])) (getD (cut ws x) 2 [])) rowIn
-      ∙ length-chunks rowWidth (number (getD (cut ws x) 1 [])) (getD (cut ws x) 2 [])
+      length-map (chunks rowWidth (number (getD (cut ws x) rowCountSection [])) (getD (cut ws x) rowsSection [])) rowIn
+      ∙ length-chunks rowWidth (number (getD (cut ws x) rowCountSection [])) (getD (cut ws x) rowsSection [])
       ∙ count
 
   pub part-places : operators ≤ mostOperators → rowCount s at ≤ mostRows
@@ -88,13 +88,13 @@ module _ (top : ℕ) (s : List ℕ) (at operators : ℕ) where
   unfolding partIn partOf guaranteesFrom rowsFrom
   part-places o n =
       let z : at + 0 ≡ at = omega arith in
-      let c0 : getD (cut ws x) 0 [] ≡ take rowCountAt (drop at s) =
-      cut-at ws x 0 ∙ inner rowCountAt 0 (partSize top) at s (omega arith) ∙ ap (λ (k : ℕ). take rowCountAt (drop k s)) z in
-      let c2 : getD (cut ws x) 2 [] ≡ take (rowWidth * mostRows) (drop (at + rowsAt) s) = cut-at ws x 2 ∙ inner (rowWidth * mostRows) rowsAt (partSize top) at s (omega arith) in
+      let c0 : getD (cut ws x) guaranteesSection [] ≡ take rowCountAt (drop at s) =
+      cut-at ws x guaranteesSection ∙ inner rowCountAt 0 (partSize top) at s (omega arith) ∙ ap (λ (k : ℕ). take rowCountAt (drop k s)) z in
+      let c2 : getD (cut ws x) rowsSection [] ≡ take (rowWidth * mostRows) (drop (at + rowsAt) s) = cut-at ws x rowsSection ∙ inner (rowWidth * mostRows) rowsAt (partSize top) at s (omega arith) in
       same-part
       (ap (λ (y : List ℕ). map (λ g. cents (number g)) (chunks guaranteeWidth operators y)) c0
       ∙ ap (map (λ g. cents (number g))) (chunks-front guaranteeWidth operators rowCountAt (drop at s) (omega arith)))
-      (ap (λ (k : ℕ). map rowIn (chunks rowWidth k (getD (cut ws x) 2 []))) count
+      (ap (λ (k : ℕ). map rowIn (chunks rowWidth k (getD (cut ws x) rowsSection []))) count
       ∙ ap (λ (y : List ℕ). map rowIn (chunks rowWidth (rowCount s at) y)) c2
       ∙ ap (map rowIn) (chunks-front rowWidth (rowCount s at) (rowWidth * mostRows) (drop (at + rowsAt) s) (omega arith)))
 

@@ -20,7 +20,7 @@ use Rattle.rules.specs.Limits.{mostOperators, mostAccounts, mostRows}
 use Rattle.rules.specs.Books.{Part}
 use Rattle.rules.proofs.Basics.Tests.{Holds, _and_, no-more, all-holds, holds-all}
 use Rattle.rules.specs.Opening.{guaranteeWidth}
-use Rattle.image.specs.Layout.{rowWidth, accountWidth, partWidths, partSize, rowCountAt, rowAt, netsAt}
+use Rattle.image.specs.Layout.{rowWidth, accountWidth, partWidths, partSize, rowCountAt, rowAt, netsAt, rowCountSection, netsSection}
 use Rattle.image.specs.Image.{rowBytes, partSections, partBytes, rowIn, partOf, partIn}
 use Rattle.image.specs.Cells.{partAt}
 use Rattle.image.proofs.Writing.Sizes.{PartFits, length-row, length-guarantee, wide-part}
@@ -80,7 +80,7 @@ module _ (top ops : ℕ) (s : List ℕ) (at : ℕ) (b : Bytes s) (l : at + partS
 
   count : number (getD c 1 []) ≡ numberAt s (at + rowCountAt) 2
   unfolding numberAt
-  count = ap number (cut-at ws x 1 ∙ inner 2 rowCountAt (partSize top) at s (omega arith))
+  count = ap number (cut-at ws x rowCountSection ∙ inner 2 rowCountAt (partSize top) at s (omega arith))
 
   length-rows : length (p .rows) ≡ numberAt s (at + rowCountAt) 2
   unfolding partIn partOf
@@ -96,7 +96,7 @@ module _ (top ops : ℕ) (s : List ℕ) (at : ℕ) (b : Bytes s) (l : at + partS
       record { guarantees-fit = omega arith; rows-fit = r }
 
   nets-place : getD c 3 [] ≡ take (mostAccounts * accountWidth top) (drop (at + netsAt) s)
-  nets-place = cut-at ws x 3 ∙ inner (mostAccounts * accountWidth top) netsAt (partSize top) at s (omega arith)
+  nets-place = cut-at ws x netsSection ∙ inner (mostAccounts * accountWidth top) netsAt (partSize top) at s (omega arith)
 
   rows-count : length (p .rows) ≡ number (getD c 1 [])
   rows-count = length-rows ∙ sym count

@@ -28,7 +28,7 @@ use Rattle.image.specs.Layout.{setupRoom}
 use Rattle.image.specs.Image.{storedSetup}
 use Rattle.image.specs.Valid.{setupOk}
 use Rattle.image.proofs.Sound.Soundness.{SoundSetup, sound-setup}
-use Rattle.image.proofs.Writing.Sizes.{length-stored}
+use Rattle.image.proofs.Writing.Sizes.{length-stored, sound-short}
 use Rattle.image.proofs.Setups.StoredSetup.{guarantees-back}
 use Rattle.image.proofs.Setups.SetupAgain.{NoGuarantees, setup-again, entries-first, counts-first-bytes, setup-short, accepted-sound, front-sound, front-accepted}
 use Rattle.image.proofs.Reading.Places.{counts-at}
@@ -144,7 +144,7 @@ module _ (s : List ℕ) (b : Bytes s) (l : setupRoom ≤ length s) where
   setup-sound-in h =
       let k = sound-setup (setupOf whole) (accepted-sound whole h) in
       let e = ap setupLength (counts-of-setup whole ∙ counts-first-bytes (setupLength (countsIn s)) s (omega arith)) in
-      let short : setupLength (countsIn s) ≤ setupRoom = omega (arith, e, k .hours-high, k .operators-high, k .accounts-high, k .points-high) in
+      let short : setupLength (countsIn s) ≤ setupRoom = omega (arith, e, sound-short (setupOf whole) k) in
       front-sound (take setupRoom s) (ap setupRefusal (sym (again short)) ∙ h)
 
   pub setup-accepted-in : noneLodged s (operatorsFrom (countsIn s)) (countsIn s .operators) ≡ true → setupOk (setupOf (take setupRoom s)) ≡ true

@@ -1,5 +1,5 @@
 -- The set-up's section as code tests it: opening accepts its bytes and no guarantee stands in them exactly where it stands.
-use Prim.Native.Nat.{ℕ, zero, suc, _+_, _-_, _≤_}
+use Prim.Native.Nat.{ℕ, zero, suc, _+_, _-_, _≤_, _<_}
 use mathlib.Core.Path.{_≡_, refl, sym, ap, _∙_}
 use mathlib.Core.List.{List, [], _∷_}
 use mathlib.Core.Option.{Option, none}
@@ -7,7 +7,7 @@ use mathlib.Core.Bool.{Bool, true, false, not, _&&_, and-assoc, and-true}
 use native.Mathlib.Numerals.{add-one}
 use native.Mathlib.Omega.{arith}
 use lib.ListN.{length, take, replicate, length-replicate}
-use borrow.Author.Tests.{not-true}
+use borrow.Author.Tests.{le-leb, lt-leb, not-true}
 use Rattle.wire.specs.Numbers.{Bytes}
 use Rattle.wire.specs.Regions.{zerosFrom}
 use Rattle.units.specs.declared.Cents.{Cents}
@@ -22,6 +22,7 @@ use Rattle.rules.proofs.Basics.Tests.{holds-at, chained-all}
 use Rattle.rules.proofs.Basics.Searches.{none-of}
 use Rattle.rules.proofs.Setups.SetupEntries.{counts-of-setup}
 use Rattle.image.specs.Layout.{setupRoom}
+use Rattle.image.proofs.Writing.Sizes.{sound-short}
 use Rattle.image.proofs.Sound.Soundness.{SoundSetup, sound-setup}
 use Rattle.image.proofs.Setups.SetupRanges.{SoundOperator, values-in-range}
 use Rattle.image.proofs.Setups.SetupAgain.{setup-short, setup-in-front}
@@ -62,13 +63,12 @@ sound-known s l k =
     let c = counts-of-setup s in
     let operators = ap (λ (n : Counts). n .operators) c in
     let accounts = ap (λ (n : Counts). n .accounts) c in
-    let points = ap (λ (n : Counts). n .points) c in
     let hours = ap (λ (n : Counts). n .hours) c in
     let v = values-in-range u (operatorsOf (replicate (operatorCount u) (cents 0)) (u .maintenance)) (k .in-range) in
     record {
       size = l;
       tabled = record {
-        whole = omega (arith, k .hours-high, k .operators-high, k .accounts-high, k .points-high);
+        whole = omega (arith, ap setupLength c, sound-short u k);
         accounts-high = omega (arith, k .accounts-high);
         hours-high = omega (arith, k .hours-high);
       };
@@ -96,9 +96,13 @@ module _ (s : List ℕ) (b : Bytes s) (l : length s ≡ bookSize) (size : ℕ) (
       let n = setup-accepted-in s b (omega arith) (holds-at 1 (setupStandTests s) t) (holds-at 0 (setupStandTests s) t) in
       ap (λ (o : Option Refusal). not (isSome o)) (ap (λ (m : ℕ). setupRefusal (take m s)) e ∙ n)) f)
 
-  pub accepted-short : not (isSome (setupRefusal (take size s))) ≡ true → size ≤ setupRoom
-  accepted-short t =
-      omega (arith, setup-short s (sound-setup (setupOf (take setupRoom s)) (setup-sound-in s b (omega arith) (accepted-here t))))
+  -- a set-up that stands has room
+  pub long-setup : setupRoom < size → false ≡ setupStands s
+  unfolding setupStands
+  long-setup h =
+      sym (fails-with (setupStands s) (λ t.
+      let k = setup-short s (sound-setup (setupOf (take setupRoom s)) (holds-at 0 (setupStandTests s) t)) in
+      le-leb size setupRoom (omega arith)) (lt-leb size setupRoom h))
 
   pub accepted-setup : {lodged zero : Bool} → not (isSome (setupRefusal (take size s))) ≡ true
       → lodged ≡ noneLodged s (operatorsFrom (countsIn s)) (countsIn s .operators) → zero ≡ zerosFrom s size (setupRoom - size)

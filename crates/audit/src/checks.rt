@@ -12,7 +12,6 @@ ghost use Rattle.rules.specs.Opening.{guaranteeWidth};
 ghost use Rattle.image.specs.Valid.{rowOk, scheduleOk};
 ghost use Rattle.image.specs.Cells.{rowsFrom, schedulesFrom, guaranteesFrom};
 ghost use Rattle.image.specs.Layout.{rowWidth, scheduleWidth};
-use image::layout::GUARANTEE_WIDTH;
 use image::layout::ROW_WIDTH;
 use image::layout::SCHEDULE_WIDTH;
 use image::rows::row_at;
@@ -22,6 +21,7 @@ use rules::Schedule;
 use rules::limits::MOST_ENERGY;
 use rules::limits::MOST_GUARANTEE;
 use rules::limits::MOST_PRICE;
+use setup::counts::GUARANTEE_WIDTH;
 use wire::numbers::get_u64;
 
 // Every field of the row is in range, and its two accounts differ.

@@ -17,12 +17,12 @@ ghost use Rattle.audit.specs.Stands.{SetupKnown, partWith, guaranteesSta
 use crate::checks::guarantees_ok;
 use crate::checks::rows_ok;
 use crate::twins::no_twins;
-use image::layout::GUARANTEE_WIDTH;
 use image::layout::MOST_ROWS;
 use image::layout::NETS_IN;
 use image::layout::ROW_COUNT_IN;
 use image::layout::ROW_WIDTH;
 use image::layout::ROWS_IN;
+use setup::counts::GUARANTEE_WIDTH;
 use setup::counts::counts;
 use setup::entries::operator;
 use tables::exposure::exposure_of;

@@ -72,6 +72,9 @@ fn setup_stands(book: &[u8]) -> bool
 {
     let n = counts(book);
     let size = length_of(n);
+    if SETUP_ROOM < size {
+        return false;
+    }
     if !is_accepted(&book[..size]) {
         return false;
     }

@@ -1,6 +1,6 @@
 -- The set-up and the rows of bytes that are a book stand at their places, and what they say is in range: all that the sums, the margins and
 -- the exposure ask of such bytes.
-use Prim.Native.Nat.{ℕ, zero, suc, _+_, _-_, _*_, _≤_}
+use Prim.Native.Nat.{ℕ, zero, suc, _+_, _*_, _≤_, _<_}
 use mathlib.Core.Path.{_≡_, refl, sym, ap, _∙_}
 use mathlib.Core.List.{List, []}
 use mathlib.Core.Bool.{true}
@@ -18,10 +18,10 @@ use Rattle.rules.specs.declared.Row.{Row}
 use Rattle.rules.specs.Basics.{nth, Each}
 use Rattle.rules.specs.Limits.{mostPrice, mostRows, mostHours, mostAccounts, bookSize}
 use Rattle.rules.specs.Books.{Setup, Book, noAccount, noRow, accountAt, operatorOf, countsOf, operatorCount, accountCount, periods, marginsOf}
-use Rattle.rules.specs.Opening.{countsIn, accountsIn, accountIn, accountsFrom, estimatesIn, setupOf, operatorsOf, accountEntry}
+use Rattle.rules.specs.Opening.{countsIn, accountsIn, accountFrom, estimatesIn, setupOf, setupLength, operatorsOf}
 use Rattle.rules.proofs.Basics.Searches.{each-map, each-nth, each-at}
-use Rattle.rules.proofs.Setups.SetupEntries.{nth-entry, account-at, counts-of-setup}
-use Rattle.image.specs.Layout.{setupRoom, rowWidth, partWidths, partSize, presentAt, rowCountAt, rowsAt}
+use Rattle.rules.proofs.Setups.SetupEntries.{account-at, account-wide, account-inside, account-numbered, counts-of-setup}
+use Rattle.image.specs.Layout.{setupRoom, rowWidth, partWidths, partSize, presentAt, rowCountAt, rowsAt, rowCountSection, rowsSection}
 use Rattle.image.specs.Image.{partOf, partIn}
 use Rattle.image.specs.Valid.{isBook, bookIn}
 use Rattle.image.specs.Cells.{partAt, rowsFrom}
@@ -41,9 +41,9 @@ unfolding partIn partOf rowsFrom numberAt
 part-rows top operators s at n e l =
     let ws : List ℕ = partWidths top in
     let x : List ℕ = take (partSize top) (drop at s) in
-    let count : number (getD (cut ws x) 1 []) ≡ n = ap number (cut-at ws x 1 ∙ inner 2 rowCountAt (partSize top) at s (omega arith)) ∙ sym e in
-    let place : getD (cut ws x) 2 [] ≡ take (rowWidth * mostRows) (drop (at + rowsAt) s) =
-    cut-at ws x 2 ∙ inner (rowWidth * mostRows) rowsAt (partSize top) at s (omega arith) in
+    let count : number (getD (cut ws x) rowCountSection []) ≡ n = ap number (cut-at ws x rowCountSection ∙ inner 2 rowCountAt (partSize top) at s (omega arith)) ∙ sym e in
+    let place : getD (cut ws x) rowsSection [] ≡ take (rowWidth * mostRows) (drop (at + rowsAt) s) =
+    cut-at ws x rowsSection ∙ inner (rowWidth * mostRows) rowsAt (partSize top) at s (omega arith) in
     rw (count, place, chunks-front rowWidth n (rowWidth * mostRows) (drop (at + rowsAt) s) (omega arith))
 
 -- the table of sums has room for a sound row
@@ -117,15 +117,20 @@ module _ (s : List ℕ) (h : isBook s ≡ true) where
   pub hours-few : periods (bookIn s .setup) ≤ mostHours
   hours-few = book-is-sound s h .setup-sound .hours-high
 
-  -- the operator of an account stands in the account's first byte
-  pub owner-stands : (a from : ℕ) → from ≡ accountsFrom (countsIn s) → 1 ≤ a → a ≤ accountCount (bookIn s .setup)
-      → numberAt s (from + accountEntry * (a - 1)) 1 ≡ operatorOf (bookIn s .setup) a
-  unfolding setupOf accountsIn
-  owner-stands a from e low high =
-      let place : ℕ = accountsFrom (countsIn s) + accountEntry * (a - 1) in
-      let inside = ap (λ (m : Counts). m .accounts) counts-in in
-      let entry = nth-entry accountEntry accountIn (countsIn s .accounts) a (accountsFrom (countsIn s)) s noAccount low (omega arith) ∙ account-at s place in
-      rw e (sym (ap (λ (u : Setup). operatorOf u a) setup-in ∙ ap (λ (x : Account). x .operator) entry))
+  -- the operator of an account stands in the first byte of the account's entry
+  module _ (n : Counts) (a : ℕ) (counted : n ≡ countsIn s) (low : 1 ≤ a) (high : a ≤ accountCount (bookIn s .setup)) where
+    within : a ≤ n .accounts
+    within = omega (arith, ap (λ (m : Counts). m .accounts) (counts-in ∙ sym counted))
+
+    pub owner-inside : accountFrom n a < length s
+    owner-inside =
+        omega (arith, account-inside n a low within, account-wide n, setup-tabled .whole, ap setupLength counted)
+
+    pub owner-stands : (at : ℕ) → at ≡ accountFrom n a → numberAt s at 1 ≡ operatorOf (bookIn s .setup) a
+    unfolding setupOf
+    owner-stands at place =
+        let entry = account-numbered s n counted a place (sym (account-at s at n)) low within in
+        ap (λ (x : Account). x .operator) entry ∙ sym (ap (λ (u : Setup). operatorOf u a) setup-in)
 
   -- the row of a number is sound, and the table has room for it
   pub numbered-sound : (n : ℕ) → 1 ≤ n → n ≤ length (bookIn s .part .rows) → SoundRow (bookIn s .setup) (nth (bookIn s .part .rows) n noRow)

@@ -28,7 +28,7 @@ use Rattle.rules.specs.Opening.{countsIn, operatorsFrom, setupLength, operatorI
 use Rattle.rules.specs.Registration.{moved}
 use Rattle.rules.proofs.Setups.SetupEntries.{operator-at, counts-of-setup}
 use Rattle.rules.proofs.Setups.SetupShape.{accepted-shape}
-use Rattle.image.specs.Layout.{setupRoom, rowWidth, scheduleWidth, accountWidth, partWidths, partSize, usedSize, bookWidths, phaseAt, presentAt}
+use Rattle.image.specs.Layout.{setupRoom, rowWidth, scheduleWidth, accountWidth, partWidths, partSize, usedSize, bookWidths, phaseAt, presentAt, setupSection, phaseSection, presentSection, guaranteesSection}
 use Rattle.image.specs.Image.{rowBytes, scheduleBytes, accountNets, netsBytes, partSections, partBytes, savedBytes, storedSetup, sectionsWith, sections, image}
 use Rattle.image.proofs.Sound.Soundness.{sound-setup}
 use Rattle.image.proofs.Sound.SoundBooks.{sound}
@@ -190,7 +190,7 @@ part-fresh top gs h =
     let lx = length-guarantees-bytes gs in
     let sz : partSize top ≡ startOf ws (length ws) = omega arith in
     let a0 : zeros (partSize top) ≡ flat (map zeros ws) = ap zeros sz ∙ sym (flat-zeros ws) in
-    let a1 = write-part ws (map zeros ws) (wide-zeros ws) 0 0 0 x (omega arith) (omega arith) (omega arith) in
+    let a1 = write-part ws (map zeros ws) (wide-zeros ws) guaranteesSection 0 0 x (omega arith) (omega arith) (omega arith) in
     let a2 : splice (zeros (guaranteeWidth * mostOperators)) 0 x ≡ slots guaranteeWidth mostOperators (λ (g : Cents). le guaranteeWidth (g .0)) gs =
     splice-zeros (guaranteeWidth * mostOperators) x (omega arith) ∙ rw lx (sym (slots-split guaranteeWidth mostOperators (λ (g : Cents). le guaranteeWidth (g .0)) length-guarantee gs)) in
     rw (a0, a1, a2, le-zero 2, slots-none rowWidth mostRows rowBytes length-row, nets-empty top)
@@ -213,11 +213,11 @@ image-opened top size s b h g =
     let ly : length y ≡ setupRoom = length-padded setupRoom t lt in
     let sz : size ≡ startOf ws (length ws) = omega arith in
     let a0 : zeros size ≡ flat s0 = ap zeros sz ∙ sym (flat-zeros ws) in
-    let a1 : splice (flat s0) 0 t ≡ flat (set s0 0 y) = write-part ws s0 w0 0 0 0 t (omega arith) (omega arith) (omega arith) ∙ rw (splice-zeros setupRoom t lt) in
-    let w1 = wide-set ws s0 0 y w0 ly in
-    let a2 = write-whole ws (set s0 0 y) w1 1 phaseAt (le 1 1) (omega arith) (length-le 1 1) (omega arith) in
-    let w2 = wide-set ws (set s0 0 y) 1 (le 1 1) w1 (length-le 1 1) in
-    let a3 = write-part ws (set (set s0 0 y) 1 (le 1 1)) w2 5 0 presentAt x (omega arith) (omega arith) (omega arith) in
+    let a1 : splice (flat s0) 0 t ≡ flat (set s0 setupSection y) = write-part ws s0 w0 setupSection 0 0 t (omega arith) (omega arith) (omega arith) ∙ rw (splice-zeros setupRoom t lt) in
+    let w1 = wide-set ws s0 setupSection y w0 ly in
+    let a2 = write-whole ws (set s0 setupSection y) w1 phaseSection phaseAt (le 1 1) (omega arith) (length-le 1 1) (omega arith) in
+    let w2 = wide-set ws (set s0 setupSection y) phaseSection (le 1 1) w1 (length-le 1 1) in
+    let a3 = write-part ws (set (set s0 setupSection y) phaseSection (le 1 1)) w2 presentSection 0 presentAt x (omega arith) (omega arith) (omega arith) in
     rw (a0, a1, a2, a3, part-fresh top (guaranteesOf s) lg, le-zero 1, le-zero 2, slots-none scheduleWidth mostSchedules scheduleBytes length-schedule)
 
 -- the same, as it is written: the set-up copied, its guarantees made zero, the phase, and the guarantees copied one by one

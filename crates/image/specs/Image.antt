@@ -13,7 +13,7 @@ use Rattle.rules.specs.Limits.{mostOperators, mostAccounts, mostRows, mostSched
 use Rattle.rules.specs.Books.{Setup, Part, Book, operatorCount}
 use Rattle.rules.specs.Opening.{setupBytes, setupOf, guaranteeWidth}
 use Rattle.rules.specs.Registration.{netOf, figure}
-use Rattle.image.specs.Layout.{setupRoom, rowWidths, rowWidth, scheduleWidths, scheduleWidth, partWidths, partSize, usedSize, bookWidths, netWidth}
+use Rattle.image.specs.Layout.{setupRoom, rowWidths, rowWidth, scheduleWidths, scheduleWidth, partWidths, partSize, usedSize, bookWidths, netWidth, setupSection, phaseSection, flagSection, scheduleCountSection, schedulesSection, presentSection, savedSection, guaranteesSection, rowCountSection, rowsSection}
 
 -- ---- the image
 
@@ -112,8 +112,8 @@ scheduleIn x =
 unfoldable pub partOf : ℕ → List (List ℕ) → Part
 partOf operators c =
     record {
-      guarantees = map (λ x. cents (number x)) (chunks guaranteeWidth operators (getD c 0 []));
-      rows = map rowIn (chunks rowWidth (number (getD c 1 [])) (getD c 2 []));
+      guarantees = map (λ x. cents (number x)) (chunks guaranteeWidth operators (getD c guaranteesSection []));
+      rows = map rowIn (chunks rowWidth (number (getD c rowCountSection [])) (getD c rowsSection []));
     }
 
 unfoldable pub partIn : ℕ → ℕ → List ℕ → Part
@@ -125,13 +125,13 @@ savedIn (suc flag) top operators s = some (partIn top operators s)
 
 unfoldable pub bookOf : ℕ → List (List ℕ) → Book
 bookOf top c =
-    let u = setupOf (getD c 0 []) in
+    let u = setupOf (getD c setupSection []) in
     record {
       setup = u;
-      phase = number (getD c 1 []);
-      part = partIn top (operatorCount u) (getD c 5 []);
-      schedules = map scheduleIn (chunks scheduleWidth (number (getD c 3 [])) (getD c 4 []));
-      saved = savedIn (number (getD c 2 [])) top (operatorCount u) (getD c 6 []);
+      phase = number (getD c phaseSection []);
+      part = partIn top (operatorCount u) (getD c presentSection []);
+      schedules = map scheduleIn (chunks scheduleWidth (number (getD c scheduleCountSection [])) (getD c schedulesSection []));
+      saved = savedIn (number (getD c flagSection [])) top (operatorCount u) (getD c savedSection []);
     }
 
 unfoldable pub decode : ℕ → ℕ → List ℕ → Book

@@ -37,6 +37,44 @@ netWidth = 4
 abbrev pub accountWidth : ℕ → ℕ
 accountWidth top = netWidth * top
 
+-- ---- the sections of a part and of a book, in the order in which they stand
+
+abbrev pub guaranteesSection : ℕ
+guaranteesSection = 0
+
+abbrev pub rowCountSection : ℕ
+rowCountSection = 1
+
+abbrev pub rowsSection : ℕ
+rowsSection = 2
+
+abbrev pub netsSection : ℕ
+netsSection = 3
+
+abbrev pub setupSection : ℕ
+setupSection = 0
+
+abbrev pub phaseSection : ℕ
+phaseSection = 1
+
+abbrev pub flagSection : ℕ
+flagSection = 2
+
+abbrev pub scheduleCountSection : ℕ
+scheduleCountSection = 3
+
+abbrev pub schedulesSection : ℕ
+schedulesSection = 4
+
+abbrev pub presentSection : ℕ
+presentSection = 5
+
+abbrev pub savedSection : ℕ
+savedSection = 6
+
+abbrev pub spareSection : ℕ
+spareSection = 7
+
 -- ---- places in a part
 
 abbrev pub guaranteesAt : ℕ

@@ -1,11 +1,23 @@
-// The layout of a book's bytes, as docs/LAYOUT.md has it: the offsets and widths, each once.
+// The layout of a book's bytes, as docs/LAYOUT.md has it: offsets, and the widths that a set-up does not have.
 use rules::limits::MOST_ACCOUNTS;
 use rules::limits::MOST_OPERATORS;
 use rules::limits::MOST_SCHEDULES;
 use rules::limits::PERIODS;
+use setup::counts::GUARANTEE_WIDTH;
+use setup::counts::PRICE_WIDTH;
 
 // Bytes of a book.
 pub const BOOK_SIZE: usize = 49_152;
+
+// Bytes of a code and of a quantity; a row is account, counterparty, code, side, first and last hour, quantity and status.
+pub const CODE_WIDTH: usize = 8;
+
+pub const QUANTITY_WIDTH: usize = 4;
+
+pub const ROW_WIDTH: usize = 2 + CODE_WIDTH + 3 + QUANTITY_WIDTH + 1;
+
+// A schedule is point, side, hour, quantity and price.
+pub const SCHEDULE_WIDTH: usize = 3 + QUANTITY_WIDTH + PRICE_WIDTH;
 
 // The set-up's room, then single bytes and counts.
 pub const SETUP_ROOM: usize = 8_192;
@@ -17,8 +29,6 @@ pub const FLAG_AT: usize = PHASE_AT + 1;
 pub const SCHEDULE_COUNT_AT: usize = FLAG_AT + 1;
 
 pub const SCHEDULES_AT: usize = SCHEDULE_COUNT_AT + 2;
-
-pub const SCHEDULE_WIDTH: usize = 11;
 
 // The two parts, of one shape, and what is spare.
 pub const PRESENT_AT: usize = SCHEDULES_AT + SCHEDULE_WIDTH * MOST_SCHEDULES;
@@ -35,10 +45,6 @@ pub const ROW_COUNT_IN: usize = GUARANTEE_WIDTH * (MOST_OPERATORS as usize);
 pub const ROWS_IN: usize = ROW_COUNT_IN + 2;
 
 pub const NETS_IN: usize = ROWS_IN + ROW_WIDTH * MOST_ROWS;
-
-pub const GUARANTEE_WIDTH: usize = 8;
-
-pub const ROW_WIDTH: usize = 18;
 
 // Rows that may have numbers in a day.
 pub const MOST_ROWS: usize = rules::limits::MOST_ROWS as usize;

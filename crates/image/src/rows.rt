@@ -5,6 +5,8 @@ ghost use lib.ListN.{length, take, drop};
 ghost use Rattle.wire.specs.Parts.{Small};
 ghost use Rattle.image.specs.Layout.{rowWidths, rowWidth};
 ghost use Rattle.image.specs.Image.{rowIn, rowValues, rowBytes};
+use crate::layout::CODE_WIDTH;
+use crate::layout::QUANTITY_WIDTH;
 use crate::layout::ROW_WIDTH;
 use rules::Row;
 use units::Kwh;
@@ -15,19 +17,19 @@ use wire::numbers::get_u64;
 // Where a field stands in a row, which begins with its proposer.
 pub const COUNTERPARTY_IN: usize = 1;
 
-pub const CODE_IN: usize = 2;
+pub const CODE_IN: usize = COUNTERPARTY_IN + 1;
 
-pub const SIDE_IN: usize = 10;
+pub const SIDE_IN: usize = CODE_IN + CODE_WIDTH;
 
-pub const FIRST_IN: usize = 11;
+pub const FIRST_IN: usize = SIDE_IN + 1;
 
-pub const LAST_IN: usize = 12;
+pub const LAST_IN: usize = FIRST_IN + 1;
 
-pub const QUANTITY_IN: usize = 13;
+pub const QUANTITY_IN: usize = LAST_IN + 1;
 
-pub const STATUS_IN: usize = 17;
+pub const STATUS_IN: usize = QUANTITY_IN + QUANTITY_WIDTH;
 
-// The row in the 18 bytes from `at` on.
+// The row in the bytes from `at` on.
 pub fn row_at(s: &[u8], at: usize) -> Row
     requires { ⌜ at + rowWidth ≤ length (now s) ⌝ }
     ensures { λ r. ⌜ r ≡ rowIn (take rowWidth (drop at (now (s .entry)))) ⌝ }
@@ -44,7 +46,7 @@ pub fn row_at(s: &[u8], at: usize) -> Row
     }
 }
 
-// The 18 bytes of a row.
+// The bytes of a row.
 pub fn row_bytes(r: Row) -> [u8; ROW_WIDTH]
     requires { ⌜ Small rowWidths (rowValues r) ⌝ }
     ensures { λ b. ⌜ b ≡ rowBytes r ⌝ }

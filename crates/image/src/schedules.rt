@@ -5,6 +5,7 @@ ghost use lib.ListN.{length, take, drop};
 ghost use Rattle.wire.specs.Parts.{Small};
 ghost use Rattle.image.specs.Layout.{scheduleWidths, scheduleWidth};
 ghost use Rattle.image.specs.Image.{scheduleIn, scheduleValues, scheduleBytes};
+use crate::layout::QUANTITY_WIDTH;
 use crate::layout::SCHEDULE_WIDTH;
 use rules::Schedule;
 use units::CentsPerMwh;
@@ -15,13 +16,13 @@ use wire::numbers::get_u32;
 // Where a field stands in a schedule, which begins with its point.
 pub const SIDE_IN: usize = 1;
 
-pub const HOUR_IN: usize = 2;
+pub const HOUR_IN: usize = SIDE_IN + 1;
 
-pub const QUANTITY_IN: usize = 3;
+pub const QUANTITY_IN: usize = HOUR_IN + 1;
 
-pub const PRICE_IN: usize = 7;
+pub const PRICE_IN: usize = QUANTITY_IN + QUANTITY_WIDTH;
 
-// The schedule in the 11 bytes from `at` on.
+// The schedule in the bytes from `at` on.
 pub fn schedule_at(s: &[u8], at: usize) -> Schedule
     requires { ⌜ at + scheduleWidth ≤ length (now s) ⌝ }
     ensures { λ x. ⌜ x ≡ scheduleIn (take scheduleWidth (drop at (now (s .entry)))) ⌝ }
@@ -35,7 +36,7 @@ pub fn schedule_at(s: &[u8], at: usize) -> Schedule
     }
 }
 
-// The 11 bytes of a schedule.
+// The bytes of a schedule.
 pub fn schedule_bytes(x: Schedule) -> [u8; SCHEDULE_WIDTH]
     requires { ⌜ Small scheduleWidths (scheduleValues x) ⌝ }
     ensures { λ b. ⌜ b ≡ scheduleBytes x ⌝ }

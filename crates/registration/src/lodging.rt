@@ -16,13 +16,13 @@ use book::state::REGISTRATION;
 use book::state::phase;
 use book::worth::Added;
 use book::worth::exposure_with;
-use image::layout::GUARANTEE_WIDTH;
 use image::layout::PRESENT_AT;
 use rules::Checked;
 use rules::Outcome;
 use rules::Refusal;
 use rules::Request;
 use rules::Verdict;
+use setup::counts::GUARANTEE_WIDTH;
 use units::Cents;
 use wire::numbers::put_u64;
 

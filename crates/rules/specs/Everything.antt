@@ -3,7 +3,7 @@ use Rattle.wire.specs.Numbers.{number, numberAt, le, signed}
 use Rattle.wire.specs.Parts.{flat, pieces, pack}
 use Rattle.rules.specs.Basics.{total, any, every, find, indexOf, entries, joined, sumOf, allOf, counting, bit}
 use Rattle.rules.specs.Verdicts.{firstToApply}
-use Rattle.rules.specs.Opening.{priceIn, operatorIn, accountIn, pointIn, estimatesIn, operatorsIn, accountsIn, pointsIn, setupOf, guaranteesOf, badCounts, misshapen, operatorsOf, setupBytes, valuesOf, estimateValues, operatorValues, accountValues, pointValues, values, faultyOffset, setupRefusal, openRefusal, openOutcome, opened}
+use Rattle.rules.specs.Opening.{accountEntry, priceIn, operatorIn, accountIn, pointIn, estimatesIn, operatorsIn, accountsIn, pointsIn, setupOf, guaranteesOf, badCounts, misshapen, operatorsOf, setupBytes, valuesOf, estimateValues, operatorValues, accountValues, pointValues, values, faultyOffset, setupRefusal, openRefusal, openOutcome, opened}
 use Rattle.rules.specs.Requests.{bits, mapOf, room, offset, fieldIn, requestOf, more, unreadable, readChecks, reading, fieldBytes, write, writeOutcome, written, inRange, faultyField, faultyBit, sameAccounts}
 use Rattle.rules.specs.Registration.{mark, closed, alike, confirms, withdraws, mirrors, moved, waiting, takes, keepsMargins, brokenHour, ofOperator, exposureOf, available, covered}
 use Rattle.rules.specs.Settlement.{pricesIn, placed, insert, prioritised, used, judge, judged, settled, resultAt, results, ofRegistered, gained, lost, balances, injectionsWorth, withdrawalsWorth, registeredTotal, balanceBytes}
@@ -17,7 +17,7 @@ unfoldable pub everything : Unit {0}
 unfolding number numberAt le signed flat pieces pack
     total any every find indexOf entries joined sumOf allOf counting bit
     firstToApply
-    priceIn operatorIn accountIn pointIn estimatesIn operatorsIn accountsIn pointsIn setupOf guaranteesOf badCounts misshapen operatorsOf
+    accountEntry priceIn operatorIn accountIn pointIn estimatesIn operatorsIn accountsIn pointsIn setupOf guaranteesOf badCounts misshapen operatorsOf
     setupBytes valuesOf estimateValues operatorValues accountValues pointValues values faultyOffset setupRefusal openRefusal openOutcome opened
     bits mapOf room offset fieldIn requestOf more unreadable readChecks reading fieldBytes write writeOutcome written inRange
     faultyField faultyBit sameAccounts

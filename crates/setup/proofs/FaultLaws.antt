@@ -15,7 +15,7 @@ use Rattle.rules.specs.Basics.{find, entries}
 use Rattle.rules.specs.Verdicts.{_⇒_, _⇒↑_, firstToApply, checked}
 use Rattle.rules.specs.Opening.{countsIn, Value, valuesOf, values, misshapen, faultyOffset, setupOf, setupRefusal, operatorsIn}
 use Rattle.rules.proofs.Setups.SetupShape.{shape-of, shape-length}
-use Rattle.rules.proofs.Setups.SetupEntries.{length-operators, length-accounts, values-done, values-step}
+use Rattle.rules.proofs.Setups.SetupEntries.{length-operators, length-accounts, length-points, values-done, values-step}
 use Rattle.setup.specs.Faults.{orElse, orFault, judgedFrom, judged, estimateFaults, operatorFaults, accountFaults, pointFaults, Shaped}
 
 -- ---- one value
@@ -90,7 +90,7 @@ module _ (s : List ℕ) where
   pub list-by-list : orElse (orElse (orElse (estimateFaults s) (operatorFaults s)) (accountFaults s)) (pointFaults s)
       ≡ judged (values (setupOf s) (operatorsIn s))
   unfolding values setupOf estimateFaults operatorFaults accountFaults pointFaults
-  list-by-list = sym (simp (judged-append, length-map, length-operators, length-accounts))
+  list-by-list = sym (simp (judged-append, length-map, length-operators, length-accounts, length-points))
 
   -- bytes in shape hold what their counts say
   pub shaped : misshapen s ≡ false → {n : Counts} → n ≡ countsIn s → Shaped n s

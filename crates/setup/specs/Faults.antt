@@ -45,7 +45,8 @@ unfoldable pub operatorFaults : List ℕ → Checked
 operatorFaults s = judged (valuesOf operatorEntry operatorValues (operatorsFrom (countsIn s)) (operatorsIn s))
 
 unfoldable pub accountFaults : List ℕ → Checked
-accountFaults s = judged (valuesOf accountEntry (accountValues (countsIn s .operators)) (accountsFrom (countsIn s)) (accountsIn s))
+accountFaults s =
+    judged (valuesOf (accountEntry (countsIn s)) (accountValues (countsIn s .operators)) (accountsFrom (countsIn s)) (accountsIn s))
 
 unfoldable pub pointFaults : List ℕ → Checked
 pointFaults s = judged (valuesOf pointEntry (pointValues (accountsIn s) (countsIn s .zones)) (pointsFrom (countsIn s)) (pointsIn s))

@@ -1,8 +1,8 @@
 // The counts of a set-up, and where its entries stand.
 ghost use mathlib.Core.Path.{_≡_};
-ghost use Prim.Native.Nat.{_≤_};
+ghost use Prim.Native.Nat.{_*_, _^_, _≤_};
 ghost use lib.ListN.{length};
-ghost use Rattle.rules.specs.Opening.{countsIn, operatorsFrom, accountsFrom, pointsFrom, setupLength, countsWidth};
+ghost use Rattle.rules.specs.Opening.{countsIn, operatorsFrom, accountsFrom, accountFrom, pointsFrom, setupLength, countsWidth, accountEntry};
 use rules::Counts;
 
 // How many bytes the counts and each entry have.
@@ -10,11 +10,18 @@ pub const COUNTS_WIDTH: usize = 5;
 
 pub const PRICE_WIDTH: usize = 4;
 
-pub const OPERATOR_ENTRY: usize = 10;
+pub const GUARANTEE_WIDTH: usize = 8;
 
-pub const ACCOUNT_ENTRY: usize = 10;
+pub const OPERATOR_ENTRY: usize = GUARANTEE_WIDTH + 2;
 
 pub const POINT_ENTRY: usize = 11;
+
+pub const MARGIN_WIDTH: usize = 4;
+
+// Where an account's margins stand in its entry, past its operator and its kind.
+pub const LOWER_IN: usize = 2;
+
+pub const UPPER_IN: usize = LOWER_IN + MARGIN_WIDTH;
 
 // The counts in the first bytes.
 pub fn counts(setup: &[u8]) -> Counts
@@ -28,6 +35,20 @@ pub fn counts(setup: &[u8]) -> Counts
         points: setup[3],
         zones: setup[4],
     }
+}
+
+// How many bytes an account has, in a set-up of these counts.
+pub fn account_entry(n: Counts) -> usize
+    ensures { λ r. ⌜ (r ≡ accountEntry n) × (r ≤ 2 ^ 12) ⌝ }
+{
+    UPPER_IN + MARGIN_WIDTH
+}
+
+// How many bytes so many accounts have, in a set-up of these counts.
+fn accounts_length(n: Counts, count: u8) -> usize
+    ensures { λ r. ⌜ (r ≡ accountEntry n * count) × (r ≤ 2 ^ 20) ⌝ }
+{
+    account_entry(n) * (count as usize)
 }
 
 // Where the operators begin.
@@ -44,23 +65,24 @@ pub fn accounts_from(n: Counts) -> usize
     COUNTS_WIDTH + PRICE_WIDTH * (n.hours as usize) + OPERATOR_ENTRY * (n.operators as usize)
 }
 
+// Where the entry of an account begins, by its number from 1.
+pub fn account_from(n: Counts, number: u8) -> usize
+    requires { ⌜ 1 ≤ number ⌝ }
+    ensures { λ r. ⌜ r ≡ accountFrom n number ⌝ }
+{
+    accounts_from(n) + accounts_length(n, number - 1)
+}
+
 // Where the points begin.
 pub fn points_from(n: Counts) -> usize
-    ensures { λ r. ⌜ r ≡ pointsFrom n ⌝ }
+    ensures { λ r. ⌜ (r ≡ pointsFrom n) × (r ≤ 2 ^ 21) ⌝ }
 {
-    COUNTS_WIDTH
-        + PRICE_WIDTH * (n.hours as usize)
-        + OPERATOR_ENTRY * (n.operators as usize)
-        + ACCOUNT_ENTRY * (n.accounts as usize)
+    accounts_from(n) + accounts_length(n, n.accounts)
 }
 
 // The length of a set-up of these counts: where its entries end.
 pub fn length_of(n: Counts) -> usize
     ensures { λ r. ⌜ r ≡ setupLength n ⌝ }
 {
-    COUNTS_WIDTH
-        + PRICE_WIDTH * (n.hours as usize)
-        + OPERATOR_ENTRY * (n.operators as usize)
-        + ACCOUNT_ENTRY * (n.accounts as usize)
-        + POINT_ENTRY * (n.points as usize)
+    points_from(n) + POINT_ENTRY * (n.points as usize)
 }

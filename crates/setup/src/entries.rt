@@ -7,16 +7,19 @@ ghost use Rattle.rules.specs.Basics.{nth};
 ghost use Rattle.rules.specs.Books.{noAccount, noPoint, marginsOf};
 ghost use Rattle.rules.specs.Opening.{countsIn, priceIn, operatorIn, accountIn, pointIn, estimatesIn, operatorsIn, accountsIn, pointsIn, priceWidth, operatorEntry, accountEntry, pointEntry};
 ghost use Rattle.setup.specs.Faults.{Whole, noOperator};
-use crate::counts::ACCOUNT_ENTRY;
 use crate::counts::COUNTS_WIDTH;
+use crate::counts::GUARANTEE_WIDTH;
+use crate::counts::LOWER_IN;
 use crate::counts::OPERATOR_ENTRY;
 use crate::counts::POINT_ENTRY;
 use crate::counts::PRICE_WIDTH;
-use crate::counts::accounts_from;
+use crate::counts::UPPER_IN;
+use crate::counts::account_from;
 use crate::counts::counts;
 use crate::counts::operators_from;
 use crate::counts::points_from;
 use rules::Account;
+use rules::Counts;
 use rules::Margins;
 use rules::Operator;
 use rules::Point;
@@ -43,20 +46,20 @@ pub fn operator_at(bytes: &[u8], at: usize) -> Operator
 {
     Operator {
         guarantee: Cents(get_u64(bytes, at)),
-        maintenance: get_u16(bytes, at + 8),
+        maintenance: get_u16(bytes, at + GUARANTEE_WIDTH),
     }
 }
 
-// The account in the bytes from `at` on.
-pub fn account_at(bytes: &[u8], at: usize) -> Account
-    requires { ⌜ at + accountEntry ≤ length (now bytes) ⌝ }
-    ensures { λ r. ⌜ r ≡ accountIn (take accountEntry (drop at (now (bytes .entry)))) ⌝ }
+// The account in the bytes from `at` on, of a set-up with these counts.
+pub fn account_at(bytes: &[u8], n: Counts, at: usize) -> Account
+    requires { ⌜ at + accountEntry n ≤ length (now bytes) ⌝ }
+    ensures { λ r. ⌜ r ≡ accountIn (take (accountEntry n) (drop at (now (bytes .entry)))) ⌝ }
 {
     Account {
         operator: get_u8(bytes, at),
         kind: get_u8(bytes, at + 1),
-        lower: Kwh(get_u32(bytes, at + 2)),
-        upper: Kwh(get_u32(bytes, at + 6)),
+        lower: Kwh(get_u32(bytes, at + LOWER_IN)),
+        upper: Kwh(get_u32(bytes, at + UPPER_IN)),
     }
 }
 
@@ -96,8 +99,8 @@ pub fn account(setup: &[u8], number: u8) -> Account
     requires { ⌜ Whole (now setup) × (1 ≤ number) × (number ≤ countsIn (now setup) .accounts) ⌝ }
     ensures { λ r. ⌜ r ≡ nth (accountsIn (now (setup .entry))) number noAccount ⌝ }
 {
-    let from = accounts_from(counts(setup));
-    account_at(setup, from + ACCOUNT_ENTRY * (number as usize - 1))
+    let n = counts(setup);
+    account_at(setup, n, account_from(n, number))
 }
 
 // The margins of the account of a number, from 1.

@@ -3,11 +3,11 @@ ghost use mathlib.Core.Path.{_≡_};
 ghost use Rattle.rules.specs.Verdicts.{checked};
 ghost use Rattle.rules.specs.Opening.{operatorsIn, values, setupOf, setupRefusal};
 ghost use Rattle.setup.specs.Faults.{judged, estimateFaults, operatorFaults, accountFaults, pointFaults, Shaped};
-use crate::counts::ACCOUNT_ENTRY;
 use crate::counts::COUNTS_WIDTH;
 use crate::counts::OPERATOR_ENTRY;
 use crate::counts::POINT_ENTRY;
 use crate::counts::PRICE_WIDTH;
+use crate::counts::account_entry;
 use crate::counts::accounts_from;
 use crate::counts::counts;
 use crate::counts::operators_from;
@@ -67,14 +67,15 @@ fn account_faults(setup: &[u8], n: Counts) -> Checked
     requires { ⌜ Shaped n (now setup) ⌝ }
     ensures { λ r. ⌜ r ≡ accountFaults (now (setup .entry)) ⌝ }
 {
+    let entry = account_entry(n);
     let mut at = accounts_from(n);
     let mut left = n.accounts;
     while 0 < left {
-        let x = account_at(setup, at);
-        if let Checked::Fails(r) = account_fault(x, n.operators, at) {
+        let x = account_at(setup, n, at);
+        if let Checked::Fails(r) = account_fault(x, n, at) {
             return Checked::Fails(r);
         }
-        at = at + ACCOUNT_ENTRY;
+        at = at + entry;
         left = left - 1;
     }
     Checked::Clear
@@ -85,12 +86,11 @@ fn point_faults(setup: &[u8], n: Counts) -> Checked
     requires { ⌜ Shaped n (now setup) ⌝ }
     ensures { λ r. ⌜ r ≡ pointFaults (now (setup .entry)) ⌝ }
 {
-    let accounts = accounts_from(n);
     let mut at = points_from(n);
     let mut left = n.points;
     while 0 < left {
         let x = point_at(setup, at);
-        if let Checked::Fails(r) = point_fault(setup, accounts, n.accounts, n.zones, x, at) {
+        if let Checked::Fails(r) = point_fault(setup, n, x, at) {
             return Checked::Fails(r);
         }
         at = at + POINT_ENTRY;

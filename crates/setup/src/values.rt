@@ -1,15 +1,18 @@
 // The values of one entry: the lowest offset of those that are out of range.
 ghost use mathlib.Core.Path.{_≡_};
-ghost use Prim.Native.Nat.{_+_, _*_, _≤_, _<_, _^_};
-ghost use lib.ListN.{length, drop};
-ghost use Rattle.rules.specs.Basics.{entries, nth};
+ghost use Prim.Native.Nat.{_+_, _≤_, _<_, _^_};
+ghost use Rattle.rules.specs.Basics.{nth};
 ghost use Rattle.rules.specs.Books.{noAccount};
-ghost use Rattle.rules.specs.Opening.{accountIn, estimateValues, operatorValues, accountValues, pointValues, accountEntry, priceWidth, operatorEntry, pointEntry};
-ghost use Rattle.setup.specs.Faults.{orElse, orFault, judgedFrom, judged, mostAmount, amountValues};
-use crate::counts::ACCOUNT_ENTRY;
+ghost use Rattle.rules.specs.Opening.{accountsIn, estimateValues, operatorValues, accountValues, pointValues, accountEntry, priceWidth, operatorEntry, pointEntry};
+ghost use Rattle.setup.specs.Faults.{orElse, orFault, judgedFrom, judged, mostAmount, amountValues, Shaped};
+use crate::counts::GUARANTEE_WIDTH;
+use crate::counts::LOWER_IN;
+use crate::counts::UPPER_IN;
+use crate::counts::account_from;
 use crate::entries::account_at;
 use rules::Account;
 use rules::Checked;
+use rules::Counts;
 use rules::Operator;
 use rules::Point;
 use rules::Refusal;
@@ -55,36 +58,36 @@ pub fn operator_fault(x: Operator, at: usize) -> Checked
     ensures { λ r. ⌜ r ≡ judged (operatorValues at x) ⌝ }
 {
     let guarantee = or_fault(Checked::Clear, x.guarantee.0 <= MOST_GUARANTEE, at);
-    or_fault(guarantee, x.maintenance <= THOUSAND, at + 8)
+    or_fault(guarantee, x.maintenance <= THOUSAND, at + GUARANTEE_WIDTH)
 }
 
-// The first fault of the account that stands at `at`, in a set-up of that many operators.
-pub fn account_fault(x: Account, operators: u8, at: usize) -> Checked
-    requires { ⌜ at + accountEntry ≤ 2 ^ 16 ⌝ }
-    ensures { λ r. ⌜ r ≡ judged (accountValues operators at x) ⌝ }
+// The first fault of the account that stands at `at`, in a set-up of these counts.
+pub fn account_fault(x: Account, n: Counts, at: usize) -> Checked
+    requires { ⌜ at + accountEntry n ≤ 2 ^ 16 ⌝ }
+    ensures { λ r. ⌜ r ≡ judged (accountValues (n .operators) at x) ⌝ }
 {
     let operator = or_fault(
         Checked::Clear,
-        (1 <= x.operator) & (x.operator <= operators),
+        (1 <= x.operator) & (x.operator <= n.operators),
         at,
     );
     let kind = or_fault(operator, (1 <= x.kind) & (x.kind <= 2), at + 1);
-    let lower = or_fault(kind, x.lower.0 <= MOST_ENERGY, at + 2);
-    or_fault(lower, x.upper.0 <= MOST_ENERGY, at + 6)
+    let lower = or_fault(kind, x.lower.0 <= MOST_ENERGY, at + LOWER_IN);
+    or_fault(lower, x.upper.0 <= MOST_ENERGY, at + UPPER_IN)
 }
 
-// The kind of an account, of `n` that stand from `from` on; 0 for a number that none has.
-fn kind_of(setup: &[u8], from: usize, n: u8, number: u8) -> u8
-    requires { ⌜ from + accountEntry * n ≤ length (now setup) ⌝ }
-    ensures { λ r. ⌜ r ≡ nth (entries accountEntry accountIn n (drop from (now (setup .entry)))) number noAccount .kind ⌝ }
+// The kind of the account of a number; 0 for a number that none has.
+fn kind_of(setup: &[u8], n: Counts, number: u8) -> u8
+    requires { ⌜ Shaped n (now setup) ⌝ }
+    ensures { λ r. ⌜ r ≡ nth (accountsIn (now (setup .entry))) number noAccount .kind ⌝ }
 {
     if number < 1 {
         return 0;
     }
-    if n < number {
+    if n.accounts < number {
         return 0;
     }
-    let x = account_at(setup, from + ACCOUNT_ENTRY * (number as usize - 1));
+    let x = account_at(setup, n, account_from(n, number));
     x.kind
 }
 
@@ -108,15 +111,19 @@ fn amounts_fault(found: Checked, x: Point, at: usize) -> Checked
     )
 }
 
-// The first fault of the point that stands at `at`, in a set-up whose `n` accounts stand from `from` on.
-pub fn point_fault(setup: &[u8], from: usize, n: u8, zones: u8, x: Point, at: usize) -> Checked
-    requires { ⌜ (from + accountEntry * n ≤ length (now setup)) × (at + pointEntry ≤ 2 ^ 16) ⌝ }
-    ensures { λ r. ⌜ r ≡ judged (pointValues (entries accountEntry accountIn n (drop from (now (setup .entry)))) zones at x) ⌝ }
+// The first fault of the point that stands at `at`, in a set-up of these counts.
+pub fn point_fault(setup: &[u8], n: Counts, x: Point, at: usize) -> Checked
+    requires { ⌜ Shaped n (now setup) × (at + pointEntry ≤ 2 ^ 16) ⌝ }
+    ensures { λ r. ⌜ r ≡ judged (pointValues (accountsIn (now (setup .entry))) (n .zones) at x) ⌝ }
 {
-    let own = kind_of(setup, from, n, x.account);
-    let account = or_fault(Checked::Clear, (1 <= x.account) & (x.account <= n), at);
+    let own = kind_of(setup, n, x.account);
+    let account = or_fault(
+        Checked::Clear,
+        (1 <= x.account) & (x.account <= n.accounts),
+        at,
+    );
     let suits = (x.kind == 3) | (x.kind == own);
     let kind = or_fault(account, (1 <= x.kind) & (x.kind <= 3) & suits, at + 1);
-    let zone = or_fault(kind, (1 <= x.zone) & (x.zone <= zones), at + 2);
+    let zone = or_fault(kind, (1 <= x.zone) & (x.zone <= n.zones), at + 2);
     amounts_fault(zone, x, at)
 }

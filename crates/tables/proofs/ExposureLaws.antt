@@ -5,7 +5,6 @@ use mathlib.Core.List.{List}
 use mathlib.Core.Bool.{true, false}
 use native.Mathlib.Nat.{mul-comm, mul-add}
 use native.Mathlib.Omega.{arith}
-use lib.ListN.{drop}
 use lib.Dec.{eqb}
 use borrow.Author.Tests.{eq-eqb, ne-eqb}
 use Rattle.units.specs.Units.{centsPerMwh}
@@ -16,10 +15,10 @@ use Rattle.rules.specs.declared.AccountHour.{AccountHour}
 use Rattle.rules.specs.Basics.{total, nth, counting, Each}
 use Rattle.rules.specs.Books.{noAccount}
 use Rattle.rules.specs.Limits.{mostPrice}
-use Rattle.rules.specs.Opening.{countsIn, setupOf, estimatesIn, accountsIn, accountIn, accountsFrom, accountEntry}
+use Rattle.rules.specs.Opening.{countsIn, setupOf, estimatesIn, accountsIn}
 use Rattle.rules.specs.Registration.{accountHour, exposed, ofOperator, exposureOf, exposure}
 use Rattle.rules.proofs.Basics.Searches.{each-nth}
-use Rattle.rules.proofs.Setups.SetupEntries.{length-entries, length-estimates}
+use Rattle.rules.proofs.Setups.SetupEntries.{length-accounts, length-estimates}
 use Rattle.tables.specs.Sums.{accountExposure, exposureShare}
 
 -- ---- an hour
@@ -64,5 +63,5 @@ share-of-others s rows o a account e d =
 
 pub exposure-by-account : (s : List ℕ) (rows : List Row) (o : ℕ)
     → exposure (setupOf s) rows o ≡ total (exposureShare (setupOf s) rows o) (counting (countsIn s .accounts) 1)
-unfolding exposureOf ofOperator setupOf exposureShare accountExposure accountsIn
-exposure-by-account s rows o = rw (length-entries accountEntry accountIn (countsIn s .accounts) (drop (accountsFrom (countsIn s)) s))
+unfolding exposureOf ofOperator setupOf exposureShare accountExposure
+exposure-by-account s rows o = rw (length-accounts s)

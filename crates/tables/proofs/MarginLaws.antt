@@ -3,14 +3,13 @@ use Prim.Native.Nat.{ℕ}
 use mathlib.Core.Path.{_≡_, sym}
 use mathlib.Core.List.{List}
 use mathlib.Core.Bool.{Bool}
-use lib.ListN.{drop}
 use Rattle.rules.specs.declared.Margins.{Margins}
 use Rattle.rules.specs.declared.Row.{Row}
 use Rattle.rules.specs.Basics.{every, nth, counting, upTo}
 use Rattle.rules.specs.Books.{noAccount, marginsOf}
-use Rattle.rules.specs.Opening.{countsIn, setupOf, accountsIn, accountIn, accountsFrom, accountEntry}
+use Rattle.rules.specs.Opening.{countsIn, setupOf, accountsIn}
 use Rattle.rules.specs.Registration.{accountHour, keepsMargins}
-use Rattle.rules.proofs.Setups.SetupEntries.{length-entries}
+use Rattle.rules.proofs.Setups.SetupEntries.{length-accounts}
 use Rattle.image.specs.Valid.{marginsKept}
 
 -- the account keeps its margins in each of so many hours
@@ -19,8 +18,8 @@ accountKeeps rows margins hours a = every (λ h. keepsMargins margins (accountHo
 
 pub margins-by-account : (s : List ℕ) (rows : List Row)
     → marginsKept (setupOf s) rows ≡ every (λ a. accountKeeps rows (marginsOf (nth (accountsIn s) a noAccount)) (countsIn s .hours) a) (counting (countsIn s .accounts) 1)
-unfolding marginsKept setupOf accountKeeps accountsIn
-margins-by-account s rows = rw (length-entries accountEntry accountIn (countsIn s .accounts) (drop (accountsFrom (countsIn s)) s))
+unfolding marginsKept setupOf accountKeeps
+margins-by-account s rows = rw (length-accounts s)
 
 -- the test of an account that was read
 pub account-kept : (rows : List Row) (margins read : Margins) (hours count a : ℕ) {t : Bool} → read ≡ margins → count ≡ hours

@@ -14,7 +14,8 @@ use Rattle.rules.specs.Limits.{mostAccounts}
 use Rattle.rules.specs.Registration.{moved, waiting, buyer, seller}
 use Rattle.rules.proofs.Basics.Differences.{lt-or-ge}
 use Rattle.image.specs.Tables.{slotOf, cellOf, InTable, Tabled, Raised}
-use Rattle.image.proofs.Tables.SumLaws.{stride, hits, raised-cell, raised-most}
+use Rattle.rules.proofs.Basics.Products.{stride}
+use Rattle.image.proofs.Tables.SumLaws.{hits, raised-cell, raised-most}
 use Rattle.image.proofs.Tables.TabledLaws.{buyer-in, seller-in, first-hour}
 use Rattle.tables.specs.Sums.{Taken, laneSum}
 

@@ -1,16 +1,20 @@
 -- Every change that brings what it needs keeps a book sound.
-use Prim.Native.Nat.{_<_}
+use Prim.Native.Nat.{ℕ, _≤_, _<_}
 use mathlib.Core.Path.{_≡_, refl}
 use mathlib.Core.List.{List, [], _∷_}
+use mathlib.Core.Logic.{⊎-elim}
 use mathlib.Core.Option.{Option, none, some}
-use mathlib.Core.Bool.{true}
+use mathlib.Core.Bool.{true, false}
 use native.Mathlib.Omega.{arith}
 use lib.ListN.{length, length-append}
 use Rattle.rules.specs.declared.Row.{Row}
 use Rattle.rules.specs.declared.Schedule.{Schedule}
+use Rattle.rules.specs.Basics.{any, Each}
 use Rattle.rules.specs.Limits.{mostSchedules}
-use Rattle.rules.specs.Books.{Setup, Part, Book, withPart, withSaved}
+use Rattle.rules.specs.Books.{Setup, Part, Book, withPhase, withPart, withSchedules, withSaved}
+use Rattle.rules.specs.Registration.{pending}
 use Rattle.rules.specs.Calls.{Change, addRows, setStatus, setGuarantee, savePart, restorePart, dropSaved, shutGate, addSchedule, endDay, restored, apply}
+use Rattle.rules.proofs.Basics.Differences.{lt-or-ge}
 use Rattle.rules.proofs.Basics.Searches.{each-snoc}
 use Rattle.image.specs.Valid.{follows}
 use Rattle.image.proofs.Sound.Soundness.{SoundSchedule}
@@ -53,6 +57,27 @@ in-registration b p saved s first part batch =
       no-batch = λ later. absurd (later first);
     }
 
+-- after phase 1, with no batch open, a sound part in which no row is pending and sound schedules make a sound book
+after-registration : (b : Book) (phase : ℕ) (p : Part) (xs : List Schedule) → SoundBook b → 2 ≤ phase → phase ≤ 3 → b .saved ≡ none
+    → SoundPart (b .setup) p → any pending (p .rows) ≡ false → length xs ≤ mostSchedules → Each (SoundSchedule (b .setup)) xs
+    → SoundBook (withSchedules (withPart (withPhase b phase) p) xs)
+after-registration b phase p xs s later known batch part ended few schedules =
+    record {
+      setup-sound = s .setup-sound;
+      phase-low = omega arith;
+      phase-high = known;
+      part-sound = part;
+      saved-sound = rw batch tt;
+      schedules-high = few;
+      schedules-sound = schedules;
+      none-pending = λ _. ended;
+      no-schedules = λ first. absurd (omega arith);
+      no-batch = λ _. batch;
+    }
+
+past-first : (b : Book) → SoundBook b → (b .phase ≡ 1 → ⊥) → 2 ≤ b .phase
+past-first b s later = ⊎-elim (λ (l : b .phase < 2). absurd (later (omega (arith, s .phase-low)))) (λ l. l) (lt-or-ge (b .phase) 2)
+
 -- a saved part is followed yet
 saved-followed : (u : Setup) (rows later : List Row) (saved : Option Part)
     → ((xs : List Row) → follows xs rows ≡ true → follows xs later ≡ true) → SavedSound u rows saved → SavedSound u later saved
@@ -83,44 +108,12 @@ apply-keeps restorePart b s w =
     in-registration b _ none s w (saved-part (b .setup) (b .part .rows) (b .saved) (b .part) (s .saved-sound) (s .part-sound)) tt
 apply-keeps dropSaved b s w = in-registration b (b .part) none s w (s .part-sound) tt
 apply-keeps shutGate b s w =
-    record {
-      setup-sound = s .setup-sound;
-      phase-low = omega arith;
-      phase-high = omega arith;
-      part-sound = part-closed (b .setup) (b .part) (s .part-sound);
-      saved-sound = rw w tt;
-      schedules-high = s .schedules-high;
-      schedules-sound = s .schedules-sound;
-      none-pending = λ later. closed-none-pending (b .part .rows);
-      no-schedules = λ first. absurd (omega arith);
-      no-batch = λ later. w;
-    }
+    after-registration b 2 _ (b .schedules) s (omega arith) (omega arith) w (part-closed (b .setup) (b .part) (s .part-sound)) (closed-none-pending (b .part .rows)) (s .schedules-high) (s .schedules-sound)
 apply-keeps (addSchedule x) b s w =
-    record {
-      setup-sound = s .setup-sound;
-      phase-low = s .phase-low;
-      phase-high = s .phase-high;
-      part-sound = s .part-sound;
-      saved-sound = s .saved-sound;
-      schedules-high = omega (arith, w .few, length-append (b .schedules) (x ∷ []));
-      schedules-sound = each-snoc (s .schedules-sound) (w .is-sound);
-      none-pending = s .none-pending;
-      no-schedules = λ first. absurd (w .later first);
-      no-batch = s .no-batch;
-    }
+    let ended = w .later in
+    after-registration b (b .phase) (b .part) _ s (past-first b s ended) (s .phase-high) (s .no-batch ended) (s .part-sound) (s .none-pending ended) (omega (arith, w .few, length-append (b .schedules) (x ∷ []))) (each-snoc (s .schedules-sound) (w .is-sound))
 apply-keeps endDay b s w =
-    record {
-      setup-sound = s .setup-sound;
-      phase-low = omega arith;
-      phase-high = omega arith;
-      part-sound = s .part-sound;
-      saved-sound = s .saved-sound;
-      schedules-high = s .schedules-high;
-      schedules-sound = s .schedules-sound;
-      none-pending = λ later. s .none-pending w;
-      no-schedules = λ first. absurd (omega arith);
-      no-batch = λ later. s .no-batch w;
-    }
+    after-registration b 3 (b .part) (b .schedules) s (omega arith) (omega arith) (s .no-batch w) (s .part-sound) (s .none-pending w) (s .schedules-high) (s .schedules-sound)
 
 -- no change touches the set-up
 pub apply-setup : (x : Change) (b : Book) → apply x b .setup ≡ b .setup

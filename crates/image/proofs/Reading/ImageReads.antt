@@ -21,7 +21,7 @@ use Rattle.rules.specs.Books.{Part, Book, noRow}
 use Rattle.rules.specs.Registration.{bought, sold, netOf, figure}
 use Rattle.rules.specs.Opening.{guaranteeWidth}
 use Rattle.rules.proofs.Basics.Searches.{counting-length}
-use Rattle.image.specs.Layout.{setupRoom, rowWidths, rowWidth, scheduleWidths, scheduleWidth, accountWidth, partWidths, partSize, bookWidths, phaseAt, flagAt, scheduleCountAt, schedulesAt, presentAt, savedAt, guaranteesAt, rowCountAt, rowAt, netAt, netWidth}
+use Rattle.image.specs.Layout.{setupRoom, rowWidths, rowWidth, scheduleWidths, scheduleWidth, accountWidth, partWidths, partSize, bookWidths, phaseAt, flagAt, scheduleCountAt, schedulesAt, presentAt, savedAt, guaranteesAt, rowCountAt, rowAt, netAt, netWidth, setupSection}
 use Rattle.image.specs.Image.{rowValues, rowBytes, scheduleValues, scheduleBytes, accountNets, netsBytes, partSections, partBytes, flag, savedBytes, storedSetup, sectionsWith, sections, image}
 use Rattle.image.proofs.Writing.Sizes.{PartFits, Fits, length-row, length-schedule, length-guarantee, length-account, wide-part, wide-book}
 use Rattle.image.proofs.Writing.Nets.{upTo-at, nets-end}
@@ -100,7 +100,7 @@ module _ (top : ℕ) (p : Part) (f : PartFits p) where
 module _ (top size : ℕ) (b : Book) (f : Fits b) where
   pub setup-read : take setupRoom (image top size b) ≡ padded setupRoom (storedSetup (b .setup))
   unfolding image sections sectionsWith
-  setup-read = read-whole (bookWidths top size) (sections top size b) (wide-book top size b f) 0 0 setupRoom (omega arith) refl refl
+  setup-read = read-whole (bookWidths top size) (sections top size b) (wide-book top size b f) setupSection 0 setupRoom (omega arith) refl refl
 
   pub phase-read : b .phase < 256 → numberAt (image top size b) phaseAt 1 ≡ b .phase
   unfolding image sections sectionsWith

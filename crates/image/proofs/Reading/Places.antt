@@ -13,7 +13,7 @@ use Rattle.rules.specs.Limits.{mostSchedules}
 use Rattle.rules.specs.Books.{Book, operatorCount}
 use Rattle.rules.specs.Opening.{countsIn, setupOf}
 use Rattle.rules.proofs.Setups.SetupEntries.{counts-of-setup}
-use Rattle.image.specs.Layout.{setupRoom, scheduleWidth, partSize, bookWidths, phaseAt, flagAt, scheduleCountAt, schedulesAt, presentAt, savedAt}
+use Rattle.image.specs.Layout.{setupRoom, scheduleWidth, partSize, bookWidths, phaseAt, flagAt, scheduleCountAt, schedulesAt, presentAt, savedAt, setupSection, phaseSection, flagSection, scheduleCountSection, schedulesSection, presentSection, savedSection}
 use Rattle.image.specs.Image.{scheduleIn, savedIn, bookOf, decode}
 use Rattle.image.specs.Cells.{partAt}
 use Rattle.image.proofs.Setups.SetupAgain.{counts-first-bytes}
@@ -37,8 +37,8 @@ pub decode-places : (top size : ℕ) (s : List ℕ) → decode top size s ≡ bo
 unfolding decode bookOf numberAt
 decode-places top size s =
     let ws : List ℕ = bookWidths top size in
-    let at : startOf ws 6 ≡ savedAt top = omega arith in
-    let phase : number (getD (cut ws s) 1 []) ≡ getD s phaseAt 0 = ap number (cut-at ws s 1) ∙ number-at-one s phaseAt in
-    let flag : number (getD (cut ws s) 2 []) ≡ getD s flagAt 0 = ap number (cut-at ws s 2) ∙ number-at-one s flagAt in
-    let saved : getD (cut ws s) 6 [] ≡ take (partSize top) (drop (savedAt top) s) = cut-at ws s 6 ∙ ap (λ (k : ℕ). take (partSize top) (drop k s)) at in
-    rw (phase, flag, cut-at ws s 0, cut-at ws s 3, cut-at ws s 4, cut-at ws s 5, saved, counts-at s)
+    let at : startOf ws savedSection ≡ savedAt top = omega arith in
+    let phase : number (getD (cut ws s) phaseSection []) ≡ getD s phaseAt 0 = ap number (cut-at ws s phaseSection) ∙ number-at-one s phaseAt in
+    let flag : number (getD (cut ws s) flagSection []) ≡ getD s flagAt 0 = ap number (cut-at ws s flagSection) ∙ number-at-one s flagAt in
+    let saved : getD (cut ws s) savedSection [] ≡ take (partSize top) (drop (savedAt top) s) = cut-at ws s savedSection ∙ ap (λ (k : ℕ). take (partSize top) (drop k s)) at in
+    rw (phase, flag, cut-at ws s setupSection, cut-at ws s scheduleCountSection, cut-at ws s schedulesSection, cut-at ws s presentSection, saved, counts-at s)

@@ -26,6 +26,7 @@ use Rattle.image.specs.Layout.{setupRoom}
 use Rattle.image.specs.Image.{storedSetup}
 use Rattle.image.specs.Valid.{setupTests, setupOk}
 use Rattle.image.proofs.Sound.Soundness.{SoundSetup, sound-setup}
+use Rattle.image.proofs.Writing.Sizes.{sound-short}
 use Rattle.image.proofs.Setups.SetupRanges.{InRange, values-in-range, in-range-values, operators-again, sound-without}
 use Rattle.image.proofs.Setups.StoredSetup.{price-again, operator-again, account-again, point-again}
 
@@ -66,10 +67,10 @@ module _ (s : List ℕ) where
       let at3 : ℕ = pointsFrom (countsIn s) in
       let e = joined-entries 4 (λ p. le 4 (p .0)) priceIn (countsIn s .hours) (drop estimatesFrom s) (bytes-drop 5 b) (omega (arith, length-drop 5 s)) price-again in
       let o = joined-entries operatorEntry operatorBytes operatorIn (countsIn s .operators) (drop at1 s) (bytes-drop at1 b) (omega (arith, length-drop at1 s)) operator-again in
-      let a = joined-entries accountEntry accountBytes accountIn (countsIn s .accounts) (drop at2 s) (bytes-drop at2 b) (omega (arith, length-drop at2 s)) account-again in
+      let a = joined-entries (accountEntry (countsIn s)) accountBytes accountIn (countsIn s .accounts) (drop at2 s) (bytes-drop at2 b) (omega (arith, length-drop at2 s)) (account-again (countsIn s)) in
       let p = joined-entries pointEntry pointBytes pointIn (countsIn s .points) (drop at3 s) (bytes-drop at3 b) (omega (arith, length-drop at3 s)) point-again in
       side-by-side (counts-first (omega arith)) e (ap (joined operatorBytes) operators-read ∙ o) a p
-      ∙ rw (take-add at3 (pointEntry * countsIn s .points) s, take-add at2 (accountEntry * countsIn s .accounts) s, take-add at1 (operatorEntry * countsIn s .operators) s, take-add 5 (4 * countsIn s .hours) s)
+      ∙ rw (take-add at3 (pointEntry * countsIn s .points) s, take-add at2 (accountEntry (countsIn s) * countsIn s .accounts) s, take-add at1 (operatorEntry * countsIn s .operators) s, take-add 5 (4 * countsIn s .hours) s)
 
   -- the day's guarantees are none, as in a stored set-up
   abbrev pub NoGuarantees : Type 0
@@ -164,8 +165,8 @@ module _ (r : List ℕ) where
   accounts-front : accountsIn front ≡ accountsIn r
   unfolding accountsIn front
   accounts-front =
-      ap (λ (c : Counts). entries accountEntry accountIn (c .accounts) (drop (accountsFrom c) front)) counts-front
-      ∙ entries-first accountEntry accountIn (countsIn r .accounts) (accountsFrom (countsIn r)) (setupLength (countsIn r)) r (omega arith)
+      ap (λ (c : Counts). entries (accountEntry c) accountIn (c .accounts) (drop (accountsFrom c) front)) counts-front
+      ∙ entries-first (accountEntry (countsIn r)) accountIn (countsIn r .accounts) (accountsFrom (countsIn r)) (setupLength (countsIn r)) r (omega arith)
 
   points-front : pointsIn front ≡ pointsIn r
   unfolding pointsIn front
@@ -200,7 +201,7 @@ module _ (s : List ℕ) (k : SoundSetup (setupOf (take setupRoom s))) where
 
   pub setup-short : setupLength (countsIn s) ≤ setupRoom
   setup-short =
-      omega (arith, ap setupLength (counts-of-setup (take setupRoom s) ∙ counted), k .hours-high, k .operators-high, k .accounts-high, k .points-high)
+      omega (arith, ap setupLength (counts-of-setup (take setupRoom s) ∙ counted), sound-short (setupOf (take setupRoom s)) k)
 
   -- what is read from all bytes is what is read from the set-up's room
   pub setup-in-front : setupOf (take setupRoom s) ≡ setupOf s

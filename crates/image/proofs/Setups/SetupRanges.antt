@@ -152,12 +152,12 @@ unfolding faultyOffset values
 values-in-range u os h =
     let good : Each Good (values u os) = each-map (λ v e. not-false (v .1) e) (find-none (λ v. not (v .1)) (values u os) (none-found _ h)) in
     let d = each-split _ (valuesOf pointEntry (pointValues (u .accounts) (u .zones)) (pointsFrom (countsOf u)) (u .points)) good in
-    let c = each-split _ (valuesOf accountEntry (accountValues (operatorCount u)) (accountsFrom (countsOf u)) (u .accounts)) (d .0) in
+    let c = each-split _ (valuesOf (accountEntry (countsOf u)) (accountValues (operatorCount u)) (accountsFrom (countsOf u)) (u .accounts)) (d .0) in
     let b = each-split (valuesOf priceWidth estimateValues estimatesFrom (u .estimates)) (valuesOf operatorEntry operatorValues (operatorsFrom (countsOf u)) os) (c .0) in
     record {
       estimates-sound = values-each priceWidth estimateValues sound-price _ _ (b .0);
       operators-sound = values-each operatorEntry operatorValues sound-operator _ _ (b .1);
-      accounts-sound = values-each accountEntry (accountValues (operatorCount u)) (sound-account (operatorCount u)) _ _ (c .1);
+      accounts-sound = values-each (accountEntry (countsOf u)) (accountValues (operatorCount u)) (sound-account (operatorCount u)) _ _ (c .1);
       points-sound = values-each pointEntry (pointValues (u .accounts) (u .zones)) (sound-point (u .accounts) (u .zones)) _ _ (d .1);
     }
 
@@ -167,7 +167,7 @@ in-range-values u os s =
     let good : Each Good (values u os) =
     each-join (each-join (each-join (each-values priceWidth estimateValues price-sound _ (s .estimates-sound))
     (each-values operatorEntry operatorValues operator-sound _ (s .operators-sound)))
-    (each-values accountEntry (accountValues (operatorCount u)) (account-sound (operatorCount u)) _ (s .accounts-sound)))
+    (each-values (accountEntry (countsOf u)) (accountValues (operatorCount u)) (account-sound (operatorCount u)) _ (s .accounts-sound)))
     (each-values pointEntry (pointValues (u .accounts) (u .zones)) (point-sound (u .accounts) (u .zones)) _ (s .points-sound)) in
     rw (none-find (λ v. not (v .1)) (each-map (λ v e. rw e) good))
 

@@ -27,7 +27,7 @@ use Rattle.rules.proofs.Setups.SetupEntries.{entries-joined}
 use Rattle.image.specs.Layout.{setupRoom}
 use Rattle.image.specs.Image.{storedSetup}
 use Rattle.image.proofs.Sound.Soundness.{SoundSetup}
-use Rattle.image.proofs.Writing.Sizes.{length-joined, length-operator-bytes, length-account-bytes, length-point-bytes, length-operators}
+use Rattle.image.proofs.Writing.Sizes.{_then_, length-joined, length-operator-bytes, length-account-bytes, length-point-bytes, length-operators}
 use Rattle.image.proofs.Setups.SetupRanges.{SoundOperator, SoundAccount, SoundPoint, InRange, values-in-range, maintenance-of, guarantees-of}
 
 -- ---- an entry
@@ -45,7 +45,7 @@ unfolding operatorIn
 operator-back x h =
     let ws : List ℕ = 8 ∷ 2 ∷ [] in
     let vs : List ℕ = x .guarantee .0 ∷ x .maintenance ∷ [] in
-    let fit : Small ws vs = (omega (arith, h .0), (omega (arith, h .1), tt)) in
+    let fit : Small ws vs = omega (arith, h .0) then omega (arith, h .1) then tt in
     rw (number-in-pack ws vs 0 fit, number-in-pack ws vs 1 fit)
 
 pub operator-again : (c : List ℕ) → Bytes c → length c ≡ operatorEntry → operatorBytes (operatorIn c) ≡ c
@@ -57,12 +57,12 @@ unfolding accountIn
 account-back n m x s =
     let ws : List ℕ = 1 ∷ 1 ∷ 4 ∷ 4 ∷ [] in
     let vs : List ℕ = x .operator ∷ x .kind ∷ x .lower .0 ∷ x .upper .0 ∷ [] in
-    let fit : Small ws vs = (omega arith, (omega arith, (omega arith, (omega arith, tt)))) in
+    let fit : Small ws vs = omega arith then omega arith then omega arith then omega arith then tt in
     rw (number-in-pack ws vs 0 fit, number-in-pack ws vs 1 fit, number-in-pack ws vs 2 fit, number-in-pack ws vs 3 fit)
 
-pub account-again : (c : List ℕ) → Bytes c → length c ≡ accountEntry → accountBytes (accountIn c) ≡ c
-unfolding accountIn
-account-again c b l = pack-numbers (1 ∷ 1 ∷ 4 ∷ 4 ∷ []) b l
+pub account-again : (n : Counts) (c : List ℕ) → Bytes c → length c ≡ accountEntry n → accountBytes (accountIn c) ≡ c
+unfolding accountIn accountEntry
+account-again n c b l = pack-numbers (1 ∷ 1 ∷ 4 ∷ 4 ∷ []) b l
 
 capped : (t : Bool) (x n : ℕ) → x ≤ (if t then 0 else n) → x ≤ n
 capped true x n h = omega arith
@@ -76,7 +76,7 @@ point-back accounts zones m z x s =
     let vs : List ℕ = x .account ∷ x .kind ∷ x .zone ∷ x .injection .0 ∷ x .withdrawal .0 ∷ [] in
     let i = capped (eqb (x .kind) 2) (x .injection .0) mostEnergy (s .injection-high) in
     let w = capped (eqb (x .kind) 1) (x .withdrawal .0) mostEnergy (s .withdrawal-high) in
-    let fit : Small ws vs = (omega arith, (omega arith, (omega arith, (omega arith, (omega arith, tt))))) in
+    let fit : Small ws vs = omega arith then omega arith then omega arith then omega arith then omega arith then tt in
     rw (number-in-pack ws vs 0 fit, number-in-pack ws vs 1 fit, number-in-pack ws vs 2 fit, number-in-pack ws vs 3 fit, number-in-pack ws vs 4 fit)
 
 pub point-again : (c : List ℕ) → Bytes c → length c ≡ pointEntry → pointBytes (pointIn c) ≡ c
@@ -108,7 +108,7 @@ setupParts u gs rest =
     ∷ []
 
 setupWidths : Counts → ℕ → List ℕ
-setupWidths n rest = countsWidth ∷ priceWidth * n .hours ∷ operatorEntry * n .operators ∷ accountEntry * n .accounts ∷ pointEntry * n .points ∷ rest ∷ []
+setupWidths n rest = countsWidth ∷ priceWidth * n .hours ∷ operatorEntry * n .operators ∷ accountEntry n * n .accounts ∷ pointEntry * n .points ∷ rest ∷ []
 
 setup-parts : (u : Setup) (gs : List Cents) (rest : List ℕ) → setupBytes u gs ++ rest ≡ flat (setupParts u gs rest)
 unfolding setupBytes flat setupParts
@@ -117,19 +117,14 @@ setup-parts u gs rest = simp (append-assoc, append-nil)
 module _ (u : Setup) (gs : List Cents) (rest : List ℕ) (estimates : length (u .estimates) ≡ u .hours) (all : length gs ≡ operatorCount u) where
   wide-setup : Wide (setupWidths (countsOf u) (length rest)) (setupParts u gs rest)
   unfolding setupWidths setupParts
-  wide-setup = (
-    refl,
-    (
-      length-joined 4 (λ p. le 4 (p .0)) (u .estimates) (λ p. length-le 4 (p .0)) ∙ omega arith,
-      (
-        length-joined operatorEntry operatorBytes (operatorsOf gs (u .maintenance)) length-operator-bytes ∙ omega (arith, length-operators gs (u .maintenance) all),
-        (
-          length-joined accountEntry accountBytes (u .accounts) length-account-bytes,
-          (length-joined pointEntry pointBytes (u .points) length-point-bytes, (refl, tt)),
-        ),
-      ),
-    ),
-  )
+  wide-setup =
+      refl
+      then (length-joined 4 (λ p. le 4 (p .0)) (u .estimates) (λ p. length-le 4 (p .0)) ∙ omega arith)
+      then (length-joined operatorEntry operatorBytes (operatorsOf gs (u .maintenance)) length-operator-bytes ∙ omega (arith, length-operators gs (u .maintenance) all))
+      then length-joined (accountEntry (countsOf u)) accountBytes (u .accounts) (length-account-bytes (countsOf u))
+      then length-joined pointEntry pointBytes (u .points) length-point-bytes
+      then refl
+      then tt
 
 -- what stands in the bytes of a set-up is read back, whatever follows
 module _ (u : Setup) (gs : List Cents) (rest : List ℕ) (sound : SoundSetup u) (all : length gs ≡ operatorCount u)
@@ -162,9 +157,9 @@ module _ (u : Setup) (gs : List Cents) (rest : List ℕ) (sound : SoundSetup u) 
   accounts-back : accountsIn bytes ≡ u .accounts
   unfolding accountsIn setupParts setupWidths flat
   accounts-back =
-      ap (λ (n : Counts). entries accountEntry accountIn (n .accounts) (drop (accountsFrom n) bytes)) counts-back
+      ap (λ (n : Counts). entries (accountEntry n) accountIn (n .accounts) (drop (accountsFrom n) bytes)) counts-back
       ∙ rw (from 3 (accountsFrom (countsOf u)) (omega arith))
-      (entries-joined accountEntry accountBytes accountIn (u .accounts) _ (each-map (account-back (operatorCount u) (sound .operators-high)) (range .accounts-sound)) length-account-bytes)
+      (entries-joined (accountEntry (countsOf u)) accountBytes accountIn (u .accounts) _ (each-map (account-back (operatorCount u) (sound .operators-high)) (range .accounts-sound)) (length-account-bytes (countsOf u)))
 
   points-back : pointsIn bytes ≡ u .points
   unfolding pointsIn setupParts setupWidths flat

@@ -4,7 +4,6 @@ use mathlib.Core.Path.{_≡_, refl, sym, ap, _∙_}
 use mathlib.Core.List.{List}
 use mathlib.Core.Bool.{Bool, true, false, _&&_}
 use mathlib.Core.Logic.{_⊎_, ⊎-elim}
-use native.Mathlib.Nat.{mul-le-mul-left}
 use native.Mathlib.Omega.{arith}
 use lib.ListN.{length, getD, set, replicate}
 use lib.Seq.{getD-set-other, getD-set-same}
@@ -14,6 +13,7 @@ use Rattle.rules.specs.Basics.{if_then_else_, within}
 use Rattle.rules.specs.Limits.{mostAccounts}
 use Rattle.rules.proofs.Basics.Tests.{and-both, within-true}
 use Rattle.rules.proofs.Basics.Differences.{lt-or-ge}
+use Rattle.rules.proofs.Basics.Products.{stride}
 use Rattle.image.specs.Tables.{slots, slotOf, placeOf, cellOf, InTable, Room, Raised}
 
 -- ---- a range, cell by cell
@@ -54,11 +54,7 @@ raised-most before after at n q r k =
 pub room-past : (before after : List ℕ) (at n q from : ℕ) → Raised before after at n q → at + n ≤ from → Room before 0 q → Room after from q
 room-past before after at n q from r h room k l = omega (arith, r .above k (omega arith), room k (omega arith))
 
--- ---- slots of `top` cells each: all that is known of a product of two variables
-
--- a later slot begins past the end of an earlier one
-pub stride : (top s t : ℕ) → s < t → top * s + top ≤ top * t
-stride top s t h = omega (arith, mul-le-mul-left {m = suc s} {n = t} top h)
+-- ---- slots of `top` cells each
 
 -- a cell that is not past another is in a slot that is not past the other's
 pub slot-order : (top s t i j : ℕ) → j < top → top * s + i ≤ top * t + j → s ≤ t

@@ -27,7 +27,7 @@ use Rattle.rules.specs.Calls.{addRows, setStatus, setGuarantee, savePart, resto
 use Rattle.rules.specs.Opening.{guaranteeWidth}
 use Rattle.rules.proofs.Rows.RowChanges.{length-closed}
 use Rattle.rules.proofs.Rows.AccountHours.{pending-inside}
-use Rattle.image.specs.Layout.{rowWidth, scheduleWidth, partSize, usedSize, bookWidths, phaseAt, flagAt, scheduleCountAt, schedulesAt, presentAt, savedAt, guaranteesAt, rowCountAt, rowAt, netAt, statusIn, netWidth}
+use Rattle.image.specs.Layout.{rowWidth, scheduleWidth, partSize, usedSize, bookWidths, phaseAt, flagAt, scheduleCountAt, schedulesAt, presentAt, savedAt, guaranteesAt, rowCountAt, rowAt, netAt, statusIn, netWidth, phaseSection, flagSection, scheduleCountSection, schedulesSection, presentSection, savedSection}
 use Rattle.image.specs.Image.{rowBytes, scheduleBytes, partBytes, savedBytes, sectionsWith, sections, image}
 use Rattle.image.specs.Changes.{raised, ended}
 use Rattle.image.proofs.Writing.Sizes.{RowFits, Fits, length-row, length-schedule, length-part, length-saved, wide-with, wide-book, length-image}
@@ -38,7 +38,7 @@ use Rattle.image.proofs.Writing.Writes.{length-ended, part-row, part-wi
 write-phase : (top size : ℕ) (b : Book) → Fits b → (phase : ℕ) → splice (image top size b) phaseAt (le 1 phase) ≡ image top size (withPhase b phase)
 unfolding image sections sectionsWith
 write-phase top size b f phase =
-    write-whole (bookWidths top size) (sections top size b) (wide-book top size b f) 1 phaseAt (le 1 phase) (omega arith) (length-le 1 phase) (omega arith)
+    write-whole (bookWidths top size) (sections top size b) (wide-book top size b f) phaseSection phaseAt (le 1 phase) (omega arith) (length-le 1 phase) (omega arith)
 
 -- the image with these bytes for the present part
 unfoldable framed : ℕ → ℕ → Book → List ℕ → List ℕ
@@ -59,14 +59,14 @@ module _ (top size : ℕ) (b : Book) (f : Fits b) where
       → splice (framed top size b x) at y ≡ framed top size b (splice x j y)
   unfolding framed sectionsWith
   framed-splice x j at y h l e =
-      write-part (bookWidths top size) (sectionsWith top size b x) (wide-with top size b x f h) 5 j at y (omega arith) l (omega arith)
+      write-part (bookWidths top size) (sectionsWith top size b x) (wide-with top size b x f h) presentSection j at y (omega arith) l (omega arith)
 
   framed-sweep : (x : List ℕ) (g : List ℕ → List ℕ) (w : ℕ) → ((c : List ℕ) → length c ≡ w → length (g c) ≡ w)
       → (j n at : ℕ) → length x ≡ partSize top → j + w * n ≤ partSize top → at ≡ presentAt + j
       → sweep g w (framed top size b x) at n ≡ framed top size b (sweep g w x j n)
   unfolding framed sectionsWith
   framed-sweep x g w k j n at h l e =
-      sweep-part g w k (bookWidths top size) (sectionsWith top size b x) (wide-with top size b x f h) 5 j n at (omega arith) l (omega arith)
+      sweep-part g w k (bookWidths top size) (sectionsWith top size b x) (wide-with top size b x f h) presentSection j n at (omega arith) l (omega arith)
 
   -- ---- a pending row added: the row and the count
 
@@ -173,9 +173,9 @@ module _ (top size : ℕ) (b : Book) (f : Fits b) where
       let ly : length y ≡ partSize top = length-part top (b .part) (f .part-fits) in
       let l : length (flat ss) ≡ size = length-image top size b f g in
       let copy = pasted-splice (flat ss) (savedAt top) (drop presentAt (flat ss)) (partSize top) (omega (arith, length-drop presentAt (flat ss))) in
-      let read = read-whole ws ss w 5 presentAt (partSize top) (omega arith) refl (omega arith) in
-      let one = write-whole ws ss w 6 (savedAt top) y (omega arith) ly (omega arith) in
-      let two = write-whole ws (set ss 6 y) (wide-set ws ss 6 y w ly) 2 flagAt (le 1 1) (omega arith) (length-le 1 1) (omega arith) in
+      let read = read-whole ws ss w presentSection presentAt (partSize top) (omega arith) refl (omega arith) in
+      let one = write-whole ws ss w savedSection (savedAt top) y (omega arith) ly (omega arith) in
+      let two = write-whole ws (set ss savedSection y) (wide-set ws ss savedSection y w ly) flagSection flagAt (le 1 1) (omega arith) (length-le 1 1) (omega arith) in
       ap (λ (s : List ℕ). splice s flagAt (le 1 1)) (copy ∙ ap (splice (flat ss) (savedAt top)) read ∙ one) ∙ two
 
   -- ---- a part restored: the saved one copied over the present one and cleared, then the flag
@@ -194,12 +194,12 @@ module _ (top size : ℕ) (b : Book) (f : Fits b) where
       let lz : length z ≡ partSize top = length-zeros (partSize top) in
       let l : length (flat ss) ≡ size = length-image top size b f g in
       let copy = pasted-splice (flat ss) presentAt (drop (savedAt top) (flat ss)) (partSize top) (omega (arith, length-drop (savedAt top) (flat ss))) in
-      let read = read-whole ws ss w 6 (savedAt top) (partSize top) (omega arith) refl (omega arith) in
-      let one = write-whole ws ss w 5 presentAt y (omega arith) ly (omega arith) in
-      let w1 = wide-set ws ss 5 y w ly in
-      let two = write-whole ws (set ss 5 y) w1 6 (savedAt top) z (omega arith) lz (omega arith) in
-      let w2 = wide-set ws (set ss 5 y) 6 z w1 lz in
-      let three = write-whole ws (set (set ss 5 y) 6 z) w2 2 flagAt (le 1 0) (omega arith) (length-le 1 0) (omega arith) in
+      let read = read-whole ws ss w savedSection (savedAt top) (partSize top) (omega arith) refl (omega arith) in
+      let one = write-whole ws ss w presentSection presentAt y (omega arith) ly (omega arith) in
+      let w1 = wide-set ws ss presentSection y w ly in
+      let two = write-whole ws (set ss presentSection y) w1 savedSection (savedAt top) z (omega arith) lz (omega arith) in
+      let w2 = wide-set ws (set ss presentSection y) savedSection z w1 lz in
+      let three = write-whole ws (set (set ss presentSection y) savedSection z) w2 flagSection flagAt (le 1 0) (omega arith) (length-le 1 0) (omega arith) in
       let back : y ≡ partBytes top (restored (b .saved) (b .part)) = rw e in
       ap (λ (s : List ℕ). splice (splice s (savedAt top) z) flagAt (le 1 0)) (copy ∙ ap (splice (flat ss) presentAt) read ∙ one)
       ∙ ap (λ (s : List ℕ). splice s flagAt (le 1 0)) two
@@ -216,8 +216,8 @@ module _ (top size : ℕ) (b : Book) (f : Fits b) where
       let w = wide-book top size b f in
       let z : List ℕ = zeros (partSize top) in
       let lz : length z ≡ partSize top = length-zeros (partSize top) in
-      let one = write-whole ws ss w 6 (savedAt top) z (omega arith) lz (omega arith) in
-      let two = write-whole ws (set ss 6 z) (wide-set ws ss 6 z w lz) 2 flagAt (le 1 0) (omega arith) (length-le 1 0) (omega arith) in
+      let one = write-whole ws ss w savedSection (savedAt top) z (omega arith) lz (omega arith) in
+      let two = write-whole ws (set ss savedSection z) (wide-set ws ss savedSection z w lz) flagSection flagAt (le 1 0) (omega arith) (length-le 1 0) (omega arith) in
       ap (λ (s : List ℕ). splice s flagAt (le 1 0)) one ∙ two
 
   -- ---- the gate closed: a loop over the rows, then the phase
@@ -258,8 +258,8 @@ module _ (top size : ℕ) (b : Book) (f : Fits b) where
       let y : List ℕ = slots scheduleWidth mostSchedules scheduleBytes xs in
       let ly : length y ≡ scheduleWidth * mostSchedules = length-slots scheduleWidth mostSchedules scheduleBytes length-schedule xs (omega arith) in
       let more = slots-snoc scheduleWidth mostSchedules scheduleBytes length-schedule (b .schedules) (scheduleWidth * n) x (omega arith) (omega arith) in
-      let one = write-part ws ss w 4 (scheduleWidth * n) at (scheduleBytes x) (omega arith) (omega (arith, length-schedule x)) (omega arith) in
-      let two = write-whole ws (set ss 4 y) (wide-set ws ss 4 y w ly) 3 scheduleCountAt (le 2 (n + 1)) (omega arith) (length-le 2 _) (omega arith) in
+      let one = write-part ws ss w schedulesSection (scheduleWidth * n) at (scheduleBytes x) (omega arith) (omega (arith, length-schedule x)) (omega arith) in
+      let two = write-whole ws (set ss schedulesSection y) (wide-set ws ss schedulesSection y w ly) scheduleCountSection scheduleCountAt (le 2 (n + 1)) (omega arith) (length-le 2 _) (omega arith) in
       ap (λ (s : List ℕ). splice s scheduleCountAt (le 2 (n + 1))) (one ∙ rw more) ∙ two ∙ rw m
 
   -- ---- the day settled: the phase

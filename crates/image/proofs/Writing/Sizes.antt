@@ -14,6 +14,7 @@ use Rattle.wire.proofs.PackLaws.{length-pack}
 use Rattle.wire.proofs.SlotLaws.{uniform-map, length-uniform, length-slots}
 use Rattle.units.specs.declared.Cents.{Cents}
 use Rattle.units.specs.Units.{cents}
+use Rattle.rules.specs.declared.Counts.{Counts}
 use Rattle.rules.specs.declared.Operator.{Operator}
 use Rattle.rules.specs.declared.Account.{Account}
 use Rattle.rules.specs.declared.Point.{Point}
@@ -21,14 +22,21 @@ use Rattle.rules.specs.declared.Row.{Row}
 use Rattle.rules.specs.declared.Schedule.{Schedule}
 use Rattle.rules.specs.Basics.{joined, upTo, Each}
 use Rattle.rules.specs.Limits.{mostOperators, mostAccounts, mostRows, mostSchedules}
-use Rattle.rules.specs.Books.{Setup, Part, Book, countsOf, operatorCount, accountCount, pointCount}
+use Rattle.rules.specs.Books.{Setup, Part, Book, countsOf, operatorCount, accountCount, pointCount, periods}
 use Rattle.rules.specs.Opening.{operatorBytes, accountBytes, pointBytes, operatorsOf, setupBytes, setupLength, operatorEntry, accountEntry, pointEntry, guaranteeWidth}
 use Rattle.rules.specs.Registration.{netOf, figure}
 use Rattle.rules.proofs.Basics.Searches.{counting-length, each-map}
+use Rattle.rules.proofs.Setups.SetupShape.{length-most}
 use Rattle.image.specs.Layout.{setupRoom, rowWidths, rowWidth, scheduleWidths, scheduleWidth, accountWidth, partWidths, partSize, usedSize, bookWidths, netWidth}
 use Rattle.image.specs.Image.{rowValues, rowBytes, scheduleValues, scheduleBytes, accountNets, netsBytes, partSections, partBytes, savedBytes, storedSetup, sectionsWith, sections, image}
 use Rattle.image.proofs.Sound.Soundness.{SoundSetup, SoundRow, SoundSchedule}
 use Rattle.image.proofs.Sound.SoundBooks.{SoundPart, SavedSound, SoundBook}
+
+-- ---- facts on parts that stand one after another: `first then second then tt`
+
+infixr 5 _then_
+pub _then_ : {A B : Type 0} → A → B → A × B
+a then b = (a, b)
 
 -- ---- what fits its room
 
@@ -89,13 +97,12 @@ length-nets top rows =
 
 pub wide-part : (top : ℕ) (p : Part) → PartFits p → Wide (partWidths top) (partSections top p)
 unfolding partSections
-wide-part top p f = (
-  length-slots guaranteeWidth mostOperators (λ g. le guaranteeWidth (g .0)) length-guarantee (p .guarantees) (f .guarantees-fit),
-  (
-    length-le 2 _,
-    (length-slots rowWidth mostRows rowBytes length-row (p .rows) (f .rows-fit), (length-nets top (p .rows), tt)),
-  ),
-)
+wide-part top p f =
+    length-slots guaranteeWidth mostOperators (λ g. le guaranteeWidth (g .0)) length-guarantee (p .guarantees) (f .guarantees-fit)
+    then length-le 2 _
+    then length-slots rowWidth mostRows rowBytes length-row (p .rows) (f .rows-fit)
+    then length-nets top (p .rows)
+    then tt
 
 pub length-part : (top : ℕ) (p : Part) → PartFits p → length (partBytes top p) ≡ partSize top
 unfolding partBytes
@@ -112,22 +119,16 @@ length-saved top (some p) f = length-part top p f
 pub wide-with : (top size : ℕ) (b : Book) (part : List ℕ) → Fits b → length part ≡ partSize top
     → Wide (bookWidths top size) (sectionsWith top size b part)
 unfolding sectionsWith
-wide-with top size b part f h = (
-  length-padded setupRoom (storedSetup (b .setup)) (f .setup-fits),
-  (
-    length-le 1 _,
-    (
-      length-le 1 _,
-      (
-        length-le 2 _,
-        (
-          length-slots scheduleWidth mostSchedules scheduleBytes length-schedule (b .schedules) (f .schedules-fit),
-          (h, (length-saved top (b .saved) (f .saved-fits), (length-zeros _, tt))),
-        ),
-      ),
-    ),
-  ),
-)
+wide-with top size b part f h =
+    length-padded setupRoom (storedSetup (b .setup)) (f .setup-fits)
+    then length-le 1 _
+    then length-le 1 _
+    then length-le 2 _
+    then length-slots scheduleWidth mostSchedules scheduleBytes length-schedule (b .schedules) (f .schedules-fit)
+    then h
+    then length-saved top (b .saved) (f .saved-fits)
+    then length-zeros _
+    then tt
 
 pub wide-book : (top size : ℕ) (b : Book) → Fits b → Wide (bookWidths top size) (sections top size b)
 unfolding sections
@@ -149,8 +150,9 @@ length-joined w bytes (x ∷ xs) h =
 pub length-operator-bytes : (x : Operator) → length (operatorBytes x) ≡ operatorEntry
 length-operator-bytes x = length-pack (8 ∷ 2 ∷ []) _ refl
 
-pub length-account-bytes : (x : Account) → length (accountBytes x) ≡ accountEntry
-length-account-bytes x = length-pack (1 ∷ 1 ∷ 4 ∷ 4 ∷ []) _ refl
+pub length-account-bytes : (n : Counts) (x : Account) → length (accountBytes x) ≡ accountEntry n
+unfolding accountEntry
+length-account-bytes n x = length-pack (1 ∷ 1 ∷ 4 ∷ 4 ∷ []) _ refl
 
 pub length-point-bytes : (x : Point) → length (pointBytes x) ≡ pointEntry
 length-point-bytes x = length-pack (1 ∷ 1 ∷ 1 ∷ 4 ∷ 4 ∷ []) _ refl
@@ -171,7 +173,7 @@ length-setup u gs g e =
     let o = length-operators gs (u .maintenance) g in
     let le4 = length-joined 4 (λ p. le 4 (p .0)) (u .estimates) (λ p. length-le 4 (p .0)) in
     let lo = length-joined operatorEntry operatorBytes (operatorsOf gs (u .maintenance)) length-operator-bytes in
-    let la = length-joined accountEntry accountBytes (u .accounts) length-account-bytes in
+    let la = length-joined (accountEntry (countsOf u)) accountBytes (u .accounts) (length-account-bytes (countsOf u)) in
     let lp = length-joined pointEntry pointBytes (u .points) length-point-bytes in
     rw (length-append, length-append, length-append) (omega arith)
 
@@ -179,9 +181,13 @@ pub length-stored : (u : Setup) → length (u .estimates) ≡ u .hours → lengt
 unfolding storedSetup
 length-stored u e = length-setup u _ (length-replicate (operatorCount u) (cents 0)) e
 
+-- a sound set-up has room
+pub sound-short : (u : Setup) → SoundSetup u → setupLength (countsOf u) ≤ setupRoom
+sound-short u k = length-most (countsOf u) (k .hours-high) (k .operators-high) (k .accounts-high) (k .points-high)
+
 -- ---- what is sound fits
 
-pub row-fits-of : (top : ℕ) (u : Setup) (r : Row) → accountCount u ≤ mostAccounts → u .hours ≤ top → SoundRow u r → RowFits top r
+pub row-fits-of : (top : ℕ) (u : Setup) (r : Row) → accountCount u ≤ mostAccounts → periods u ≤ top → SoundRow u r → RowFits top r
 row-fits-of top u r a h s =
     record {
       proposer-low = s .proposer-low;
@@ -197,34 +203,28 @@ row-fits-of top u r a h s =
 -- each value of a row and of a schedule fits its width
 pub row-small : (u : Setup) (r : Row) → SoundSetup u → SoundRow u r → Small rowWidths (rowValues r)
 row-small u r s k =
-    let hours : u .hours < 256 = omega (arith, s .hours-high) in
-    let accounts : accountCount u < 256 = omega (arith, s .accounts-high) in (
-      omega (arith, k .proposer-high),
-      (
-        omega (arith, k .counterparty-high),
-        (
-          k .code-fits,
-          (
-            omega (arith, k .side-high),
-            (
-              omega (arith, k .in-order, k .last-high),
-              (omega (arith, k .last-high), (omega (arith, k .quantity-high), (omega (arith, k .status-high), tt))),
-            ),
-          ),
-        ),
-      ),
-    )
+    let hours : periods u < 256 = omega (arith, s .hours-high) in
+    let accounts : accountCount u < 256 = omega (arith, s .accounts-high) in
+    omega (arith, k .proposer-high)
+    then omega (arith, k .counterparty-high)
+    then k .code-fits
+    then omega (arith, k .side-high)
+    then omega (arith, k .in-order, k .last-high)
+    then omega (arith, k .last-high)
+    then omega (arith, k .quantity-high)
+    then omega (arith, k .status-high)
+    then tt
 
 pub schedule-small : (u : Setup) (x : Schedule) → SoundSetup u → SoundSchedule u x → Small scheduleWidths (scheduleValues x)
 schedule-small u x s k =
-    let hours : u .hours < 256 = omega (arith, s .hours-high) in
-    let points : pointCount u < 256 = omega (arith, s .points-high) in (
-      omega (arith, k .point-high),
-      (
-        omega (arith, k .side-high),
-        (omega (arith, k .hour-high), (omega (arith, k .quantity-high), (omega (arith, k .price-high), tt))),
-      ),
-    )
+    let hours : periods u < 256 = omega (arith, s .hours-high) in
+    let points : pointCount u < 256 = omega (arith, s .points-high) in
+    omega (arith, k .point-high)
+    then omega (arith, k .side-high)
+    then omega (arith, k .hour-high)
+    then omega (arith, k .quantity-high)
+    then omega (arith, k .price-high)
+    then tt
 
 pub statuses-small : {u : Setup} {rows : List Row} → Each (SoundRow u) rows → Each (λ r. r .status < 256) rows
 statuses-small e = each-map (λ r k. omega (arith, k .status-high)) e
@@ -236,7 +236,7 @@ pub fits : (b : Book) → SoundBook b → Fits b
 fits b s =
     let u = s .setup-sound in
     record {
-      setup-fits = omega (arith, length-stored (b .setup) (u .estimates-all), u .hours-high, u .operators-high, u .accounts-high, u .points-high);
+      setup-fits = omega (arith, length-stored (b .setup) (u .estimates-all), sound-short (b .setup) u);
       schedules-fit = s .schedules-high;
       part-fits = part-fits-of (b .setup) (b .part) (u .operators-high) (s .part-sound);
       saved-fits = saved (b .part .rows) (b .saved) (s .saved-sound);

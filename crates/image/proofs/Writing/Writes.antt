@@ -25,11 +25,11 @@ use Rattle.rules.specs.Books.{Part, noRow}
 use Rattle.rules.specs.Registration.{pending, seller, buyer, withStatus, mark, closed}
 use Rattle.rules.proofs.Rows.RowChanges.{length-mark}
 use Rattle.rules.proofs.Rows.AccountHours.{pending-inside, moved-added, moved-withdraw, moved-close}
-use Rattle.image.specs.Layout.{rowWidths, rowWidth, accountWidth, partWidths, rowCountAt, rowAt, netAt, statusIn, netWidth}
+use Rattle.image.specs.Layout.{rowWidths, rowWidth, accountWidth, partWidths, rowCountAt, rowAt, netAt, statusIn, netWidth, guaranteesSection, rowCountSection, rowsSection, netsSection}
 use Rattle.rules.specs.Opening.{guaranteeWidth}
 use Rattle.image.specs.Image.{rowValues, rowBytes, netsBytes, partSections, partBytes}
 use Rattle.image.specs.Changes.{raised, ended}
-use Rattle.image.proofs.Writing.Sizes.{RowFits, PartFits, length-row, length-guarantee, length-nets, wide-part}
+use Rattle.image.proofs.Writing.Sizes.{_then_, RowFits, PartFits, length-row, length-guarantee, length-nets, wide-part}
 use Rattle.image.proofs.Writing.Nets.{length-raised, nets-kept, nets-confirm, nets-end, party-fits}
 
 -- ---- a row
@@ -73,10 +73,12 @@ module _ (top : ℕ) (p : Part) (f : PartFits p) where
   wide-over : (rows : List Row) (nets : List ℕ) → length rows ≤ mostRows → length nets ≡ mostAccounts * accountWidth top
       → Wide (partWidths top) (partOver p rows nets)
   unfolding partOver
-  wide-over rows nets h l = (
-    length-slots guaranteeWidth mostOperators (λ g. le guaranteeWidth (g .0)) length-guarantee (p .guarantees) (f .guarantees-fit),
-    (length-le 2 _, (length-slots rowWidth mostRows rowBytes length-row rows h, (l, tt))),
-  )
+  wide-over rows nets h l =
+      length-slots guaranteeWidth mostOperators (λ g. le guaranteeWidth (g .0)) length-guarantee (p .guarantees) (f .guarantees-fit)
+      then length-le 2 _
+      then length-slots rowWidth mostRows rowBytes length-row rows h
+      then l
+      then tt
 
   over-part : (rows : List Row) → flat (partOver p rows (netsBytes top rows)) ≡ partBytes top (record { guarantees = p .guarantees; rows = rows })
   unfolding partBytes partSections partOver
@@ -99,8 +101,8 @@ module _ (top : ℕ) (p : Part) (f : PartFits p) where
       nets-kept top (p .rows) rows′ (λ x k. moved-added buyer x k (p .rows) (cons waits nil)) (λ x k. moved-added seller x k (p .rows) (cons waits nil)) in
       let y : List ℕ = slots rowWidth mostRows rowBytes rows′ in
       let ly : length y ≡ rowWidth * mostRows = length-slots rowWidth mostRows rowBytes length-row rows′ (omega arith) in
-      let one = write-part ws ss w 2 (rowWidth * n) at (rowBytes r) (omega arith) (omega (arith, length-row r)) (omega arith) in
-      let two = write-whole ws (set ss 2 y) (wide-set ws ss 2 y w ly) 1 rowCountAt (le 2 (n + 1)) (omega arith) (length-le 2 _) (omega arith) in
+      let one = write-part ws ss w rowsSection (rowWidth * n) at (rowBytes r) (omega arith) (omega (arith, length-row r)) (omega arith) in
+      let two = write-whole ws (set ss rowsSection y) (wide-set ws ss rowsSection y w ly) rowCountSection rowCountAt (le 2 (n + 1)) (omega arith) (length-le 2 _) (omega arith) in
       ap (λ (s : List ℕ). splice s rowCountAt (le 2 (n + 1))) (one ∙ rw more) ∙ two ∙ rw (m, nets)
 
   -- a row gets a status; the nets stand
@@ -112,7 +114,7 @@ module _ (top : ℕ) (p : Part) (f : PartFits p) where
       let l = length-le 1 status in
       let r : Row = getD (p .rows) i noRow in
       let more = slots-set rowWidth mostRows rowBytes length-row (p .rows) i statusIn (rowWidth * i + statusIn) (le 1 status) noRow (withStatus status r) rf h (omega arith) refl (row-status r status) in
-      write-part (partWidths top) (partSections top p) (wide-part top p f) 2 (rowWidth * i + statusIn) at (le 1 status) (omega arith) (omega arith) (omega arith)
+      write-part (partWidths top) (partSections top p) (wide-part top p f) rowsSection (rowWidth * i + statusIn) at (le 1 status) (omega arith) (omega arith) (omega arith)
       ∙ rw (more, length-set (p .rows) i (withStatus status r))
 
   -- a pending row withdrawn
@@ -152,9 +154,9 @@ module _ (top : ℕ) (p : Part) (f : PartFits p) where
       let lr : length rows′ ≤ mostRows = omega (arith, length-mark number 2 (p .rows), f .rows-fit) in
       let marked : splice (partBytes top p) at (le 1 2) ≡ flat (partOver p rows′ ns) = part-mark i 2 at (omega arith) a ∙ rw (← e) in
       let one : sweep down netWidth (flat (partOver p rows′ ns)) low n ≡ flat (partOver p rows′ ns′) =
-      sweep-part down netWidth (length-raised netWidth _) ws (partOver p rows′ ns) (wide-over rows′ ns lr ls) 3 jl n low (omega arith) hl (omega arith) in
+      sweep-part down netWidth (length-raised netWidth _) ws (partOver p rows′ ns) (wide-over rows′ ns lr ls) netsSection jl n low (omega arith) hl (omega arith) in
       let two : sweep up netWidth (flat (partOver p rows′ ns′)) high n ≡ flat (partOver p rows′ (sweep up netWidth ns′ jh n)) =
-      sweep-part up netWidth (length-raised netWidth _) ws (partOver p rows′ ns′) (wide-over rows′ ns′ lr ls′) 3 jh n high (omega arith) hh (omega arith) in
+      sweep-part up netWidth (length-raised netWidth _) ws (partOver p rows′ ns′) (wide-over rows′ ns′ lr ls′) netsSection jh n high (omega arith) hh (omega arith) in
       ap (λ (s : List ℕ). sweep up netWidth (sweep down netWidth s low n) high n) marked
       ∙ ap (λ (s : List ℕ). sweep up netWidth s high n) one
       ∙ two
@@ -172,7 +174,7 @@ module _ (top : ℕ) (p : Part) (f : PartFits p) where
       let old : Cents = getD (p .guarantees) i (cents 0) in
       let more = slots-set guaranteeWidth mostOperators (λ x. le guaranteeWidth (x .0)) length-guarantee (p .guarantees) i 0 (guaranteeWidth * i) (le guaranteeWidth (g .0)) (cents 0) g gf (omega arith) (omega arith) (omega arith)
       (splice-all (le guaranteeWidth (old .0)) (le guaranteeWidth (g .0)) (l ∙ sym (length-le guaranteeWidth (old .0)))) in
-      write-part (partWidths top) (partSections top p) (wide-part top p f) 0 (guaranteeWidth * i) at (le guaranteeWidth (g .0)) (omega arith) (omega arith) (omega arith)
+      write-part (partWidths top) (partSections top p) (wide-part top p f) guaranteesSection (guaranteeWidth * i) at (le guaranteeWidth (g .0)) (omega arith) (omega arith) (omega arith)
       ∙ rw (e, more)
 
   -- a loop over the rows: the pending ones withdrawn
@@ -186,7 +188,7 @@ module _ (top : ℕ) (p : Part) (f : PartFits p) where
       let nets : netsBytes top (map close (p .rows)) ≡ netsBytes top (p .rows) =
       nets-kept top (p .rows) (map close (p .rows)) (λ x k. moved-close buyer x k (p .rows)) (λ x k. moved-close seller x k (p .rows)) in
       let loop = sweep-slots ended rowWidth length-ended mostRows rowBytes length-row close (p .rows) rf (same-each _ _ (λ r s. row-ended r s) small) in
-      sweep-part ended rowWidth length-ended (partWidths top) (partSections top p) (wide-part top p f) 2 0 n at (omega arith) (omega arith) (omega arith)
+      sweep-part ended rowWidth length-ended (partWidths top) (partSections top p) (wide-part top p f) rowsSection 0 n at (omega arith) (omega arith) (omega arith)
       ∙ rw (e, loop, nets, length-map (p .rows) close)
     where
       same-each : {P : Row → Type 0} (g g′ : Row → List ℕ) {xs : List Row} → ((x : Row) → P x → g x ≡ g′ x) → Each P xs → map g xs ≡ map g′ xs

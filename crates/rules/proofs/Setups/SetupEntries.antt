@@ -13,8 +13,11 @@ use Rattle.wire.proofs.PartLaws.{number-inner}
 use Rattle.wire.proofs.SlotLaws.{length-chunks, chunk-at, flat-chunks, chunks-again, map-get}
 use Rattle.units.specs.Units.{kwh, cents, centsPerMwh}
 use Rattle.rules.specs.Basics.{nth, entries, joined, Each, cons}
-use Rattle.rules.specs.Books.{countsOf}
-use Rattle.rules.specs.Opening.{countsIn, setupOf, estimatesIn, operatorsIn, accountsIn, pointsIn, priceIn, operatorIn, accountIn, pointIn, Value, valuesOf, priceWidth, operatorEntry, accountEntry, pointEntry}
+use Rattle.rules.specs.declared.Counts.{Counts}
+use Rattle.rules.specs.declared.Account.{Account}
+use Rattle.rules.specs.Books.{countsOf, noAccount}
+use Rattle.rules.specs.Opening.{countsIn, setupOf, estimatesIn, operatorsIn, accountsIn, pointsIn, priceIn, operatorIn, accountIn, pointIn, accountsFrom, pointsFrom, accountFrom, Value, valuesOf, priceWidth, operatorEntry, marginWidth, accountEntry, pointEntry}
+use Rattle.rules.proofs.Basics.Products.{stride}
 
 -- ---- entries by number
 
@@ -89,10 +92,10 @@ module _ (s : List ℕ) (at : ℕ) where
   unfolding operatorIn
   operator-at = rw (first operatorEntry 8 (omega arith), number-inner 2 8 operatorEntry at s (omega arith))
 
-  pub account-at : accountIn (take accountEntry (drop at s)) ≡
+  pub account-at : (n : Counts) → accountIn (take (accountEntry n) (drop at s)) ≡
       record { operator = numberAt s at 1; kind = numberAt s (at + 1) 1; lower = kwh (numberAt s (at + 2) 4); upper = kwh (numberAt s (at + 6) 4) }
-  unfolding accountIn
-  account-at = rw (first accountEntry 1 (omega arith), number-inner 1 1 accountEntry at s (omega arith), number-inner 4 2 accountEntry at s (omega arith), number-inner 4 6 accountEntry at s (omega arith))
+  unfolding accountIn accountEntry
+  account-at n = rw (first (accountEntry n) 1 (omega arith), number-inner 1 1 (accountEntry n) at s (omega arith), number-inner 4 2 (accountEntry n) at s (omega arith), number-inner 4 6 (accountEntry n) at s (omega arith))
 
   pub point-at : pointIn (take pointEntry (drop at s)) ≡
       record {
@@ -127,6 +130,35 @@ module _ (s : List ℕ) where
   pub counts-of-setup : countsOf (setupOf s) ≡ countsIn s
   unfolding setupOf
   counts-of-setup = simp (length-map, length-operators, length-accounts, length-points)
+
+-- ---- accounts
+
+-- an account's entry has room for its operator, its kind and two margins
+pub account-wide : (n : Counts) → 2 + 2 * marginWidth ≤ accountEntry n
+unfolding accountEntry
+account-wide n = omega arith
+
+-- an account's entry ends before the points begin
+pub account-inside : (n : Counts) (a : ℕ) → 1 ≤ a → a ≤ n .accounts → accountFrom n a + accountEntry n ≤ pointsFrom n
+account-inside n a low high = omega (arith, stride (accountEntry n) (a - 1) (n .accounts) (omega arith))
+
+-- an account that was read at its own place is the one of its number; another number has none
+module _ (s : List ℕ) (n : Counts) (counted : n ≡ countsIn s) (a : ℕ) where
+  pub account-numbered : {at : ℕ} {x : Account} → at ≡ accountFrom n a → x ≡ accountIn (take (accountEntry n) (drop at s))
+      → 1 ≤ a → a ≤ n .accounts → x ≡ nth (accountsIn s) a noAccount
+  unfolding accountsIn
+  account-numbered place read low high =
+      entry-by-number (accountEntry n) accountIn (n .accounts) a (accountsFrom n) (accountsFrom n) s noAccount refl low high (rw (← place) read)
+      ∙ ap (λ (c : Counts). nth (entries (accountEntry c) accountIn (c .accounts) (drop (accountsFrom c) s)) a noAccount) counted
+
+  pub no-account-zero : a < 1 → nth (accountsIn s) a noAccount ≡ noAccount
+  unfolding accountsIn
+  no-account-zero = no-entry-zero (accountEntry (countsIn s)) accountIn _ a _ noAccount
+
+  pub no-account-past : n .accounts < a → nth (accountsIn s) a noAccount ≡ noAccount
+  unfolding accountsIn
+  no-account-past h =
+      no-entry-past (accountEntry (countsIn s)) accountIn _ a _ noAccount (omega (arith, ap (λ (c : Counts). c .accounts) counted))
 
 -- ---- values, entry by entry
 

@@ -1,5 +1,5 @@
 -- What is known of set-up bytes that are in shape, and of those that are not refused.
-use Prim.Native.Nat.{ℕ, _≤_, _+_, _*_}
+use Prim.Native.Nat.{ℕ, _≤_, _^_}
 use mathlib.Core.Path.{_≡_}
 use mathlib.Core.List.{List}
 use mathlib.Core.Option.{none}
@@ -10,8 +10,9 @@ use borrow.Author.Tests.{ltb-false, leb-true, eqb-true, not-false}
 use Rattle.rules.specs.declared.Counts.{Counts}
 use Rattle.rules.specs.Basics.{within}
 use Rattle.rules.specs.Limits.{fewestHours, mostHours, mostOperators, mostAccounts, mostPoints, mostZones}
-use Rattle.rules.specs.Opening.{countsIn, setupLength, badCounts, misshapen, setupOf, operatorsIn, faultyOffset, setupRefusal, countsWidth, priceWidth, operatorEntry, accountEntry, pointEntry}
+use Rattle.rules.specs.Opening.{countsIn, setupLength, badCounts, misshapen, setupOf, operatorsIn, faultyOffset, setupRefusal, countsWidth, accountEntry}
 use Rattle.rules.proofs.Basics.Tests.{or-neither, within-true}
+use Rattle.rules.proofs.Basics.Products.{no-longer}
 use Rattle.rules.proofs.Checks.Clearing.{clear, spared, spared↑}
 
 -- ---- counts in range
@@ -63,13 +64,31 @@ shape-of s h =
       exact = eqb-true _ _ (not-false _ (p .1));
     }
 
--- the longest set-up
-abbrev pub longestSetup : ℕ
-longestSetup =
-    countsWidth + priceWidth * mostHours + operatorEntry * mostOperators + accountEntry * mostAccounts + pointEntry * mostPoints
+-- ---- the longest set-up: it has the most of each
 
-pub shape-length : (s : List ℕ) → Shape s → length s ≤ longestSetup
-shape-length s h = omega (arith, h .exact, h .counts)
+abbrev mostCounts : Counts
+mostCounts =
+    record { hours = mostHours; operators = mostOperators; accounts = mostAccounts; points = mostPoints; zones = mostZones }
+
+-- more hours make no account shorter
+widest-account : (n : Counts) → n .hours ≤ mostHours → accountEntry n ≤ accountEntry mostCounts
+unfolding accountEntry
+widest-account n h = omega arith
+
+longest-setup : setupLength mostCounts ≤ 2 ^ 13
+unfolding accountEntry
+longest-setup = omega arith
+
+-- counts that are not too high make a set-up that is not too long
+pub length-most : (n : Counts) → n .hours ≤ mostHours → n .operators ≤ mostOperators → n .accounts ≤ mostAccounts → n .points ≤ mostPoints
+    → setupLength n ≤ 2 ^ 13
+length-most n h o a p =
+    omega (arith, longest-setup, no-longer (accountEntry n) (accountEntry mostCounts) (n .accounts) mostAccounts (widest-account n h) a)
+
+pub shape-length : (s : List ℕ) → Shape s → length s ≤ 2 ^ 13
+shape-length s h =
+    let n = h .counts in
+    omega (arith, h .exact, length-most (countsIn s) (n .hours .most) (n .operators .most) (n .accounts .most) (n .points))
 
 -- ---- a set-up that is not refused
 

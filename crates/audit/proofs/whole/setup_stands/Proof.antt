@@ -1,11 +1,12 @@
--- Opening accepts the bytes that the counts say where the set-up stands; then the other two tests decide.
+-- A set-up longer than its room does not stand. Opening accepts the bytes that the counts say where the set-up stands; then the other two
+-- tests decide.
 use mathlib.Core.Path.{sym, ap, _∙_}
 use native.Mathlib.Omega.{arith}
 use lib.Seq.{length-take-le}
 use borrow.Author.Tests.{not-true, not-false}
 use Rattle.wire.proofs.NumberLaws.{bytes-known}
 use Rattle.rules.specs.Opening.{setupLength}
-use Rattle.audit.proofs.StandLaws.{refused-setup, accepted-short, accepted-setup}
+use Rattle.audit.proofs.StandLaws.{long-setup, refused-setup, accepted-setup}
 use borrow.Author.Needs.{needs}
 use Rattle.audit.proofs.whole.setup_stands.Statement.{statement}
 use Rattle.audit.proofs.whole.setup_stands.Tie as tie
@@ -16,23 +17,27 @@ counts-requires c κs = search needs
 length-of-requires : tie.Need-length-of-requires
 length-of-requires c κs = search needs
 
-slice-aggregate-is-accepted : tie.Need-slice-aggregate-is-accepted
-slice-aggregate-is-accepted c =
+returns : tie.Need-returns
+returns c =
     let sized = c .before in
     let start = sized .before .before in
-    let byte = start .shared-slice-known .given in
-    sym (length-take-le _ _ (omega (arith, sized .length-of .ensures, ap setupLength (sized .before .counts .ensures), start .before .pre, byte 0, byte 1, byte 2, byte 3)))
+    long-setup _ (bytes-known _ (start .shared-slice-known .given)) (start .before .pre) _ (sized .length-of .ensures ∙ ap setupLength (sized .before .counts .ensures))
+    (c .if1 .taken)
+
+slice-aggregate-is-accepted : tie.Need-slice-aggregate-is-accepted
+slice-aggregate-is-accepted c =
+    let start = c .before .before .before .before in sym (length-take-le _ _ (omega (arith, start .before .pre)))
 
 is-accepted-requires : tie.Need-is-accepted-requires
 is-accepted-requires c κs = search needs
 
-returns : tie.Need-returns
-returns c =
+returns-2 : tie.Need-returns-2
+returns-2 c =
     let tested = c .before in
-    let sized = tested .before .before in
+    let sized = tested .before .before .before in
     let start = sized .before .before in
     refused-setup _ (bytes-known _ (start .shared-slice-known .given)) (start .before .pre) _ (sized .length-of .ensures ∙ ap setupLength (sized .before .counts .ensures))
-    (sym (tested .is-accepted .ensures) ∙ not-true _ (c .if1 .taken))
+    (sym (tested .is-accepted .ensures) ∙ not-true _ (c .if2 .taken))
 
 operators-from-requires : tie.Need-operators-from-requires
 operators-from-requires c κs = search needs
@@ -43,29 +48,20 @@ cast-none-lodged c = search needs
 none-lodged-requires : tie.Need-none-lodged-requires
 none-lodged-requires c κs = search needs
 
-sub-all-zero : tie.Need-sub-all-zero
-sub-all-zero c =
-    let accepted = c .before .before .before in
-    let tested = accepted .before in
-    let sized = tested .before .before in
-    let start = sized .before .before in
-    accepted-short _ (bytes-known _ (start .shared-slice-known .given)) (start .before .pre) _ (sized .length-of .ensures ∙ ap setupLength (sized .before .counts .ensures))
-    (sym (tested .is-accepted .ensures) ∙ not-false _ (accepted .if1 .left))
-
 all-zero-requires : tie.Need-all-zero-requires
 all-zero-requires c κs = search needs
 
-returns-2 : tie.Need-returns-2
-returns-2 c =
+returns-3 : tie.Need-returns-3
+returns-3 c =
     let lodged = c .before in
     let accepted = lodged .before .before .before in
     let tested = accepted .before in
-    let sized = tested .before .before in
+    let sized = tested .before .before .before in
     let counted = sized .before in
     let start = counted .before in
     let same = counted .counts .ensures in
     accepted-setup _ (bytes-known _ (start .shared-slice-known .given)) (start .before .pre) _ (sized .length-of .ensures ∙ ap setupLength same)
-    (sym (tested .is-accepted .ensures) ∙ not-false _ (accepted .if1 .left))
+    (sym (tested .is-accepted .ensures) ∙ not-false _ (accepted .if2 .left))
     (lodged .none-lodged .ensures ∙ rw (lodged .before .before .operators-from .ensures, same)) (c .all-zero .ensures)
 
 pub setup-stands-spec : {M : Type 1} → statement M
@@ -74,12 +70,12 @@ setup-stands-spec =
     (tie.spec
     counts-requires
     length-of-requires
+    returns
     slice-aggregate-is-accepted
     is-accepted-requires
-    returns
+    returns-2
     operators-from-requires
     cast-none-lodged
     none-lodged-requires
-    sub-all-zero
     all-zero-requires
-    returns-2)
+    returns-3)

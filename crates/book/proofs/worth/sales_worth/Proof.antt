@@ -1,13 +1,13 @@
 -- The sum and what the rows of later numbers weigh make what all rows weigh.
 use Prim.Native.Nat.{_+_, _-_, _*_, _≤_}
-use mathlib.Core.Path.{_≡_, ap, _∙_}
+use mathlib.Core.Path.{_≡_}
 use native.Mathlib.Nat.{zero-add}
 use native.Mathlib.Omega.{arith}
 use lib.ListN.{length, drop}
 use borrow.Author.Needs.{needs}
 use Rattle.rules.specs.Basics.{total}
 use Rattle.rules.specs.Limits.{mostEnergy, mostPrice, mostHours, mostRows}
-use Rattle.rules.specs.Opening.{countsIn, accountsFrom}
+use Rattle.rules.specs.Opening.{countsIn}
 use Rattle.image.specs.Valid.{bookIn}
 use Rattle.book.specs.Worth.{saleWorth}
 use Rattle.book.proofs.StateLaws.{book-length}
@@ -16,31 +16,28 @@ use Rattle.book.proofs.worth.sales_worth.Statement.{statement}
 use Rattle.book.proofs.worth.sales_worth.Tie as tie
 
 abbrev Inv-loop : tie.InvT-loop
-Inv-loop book sums operator from n sum₀ number₀ sum number =
+Inv-loop book sums operator n rows sum₀ number₀ sum number =
     let b = bookIn book in
-    (from ≡ accountsFrom (countsIn book))
-    × (n ≡ length (b .part .rows))
-    × (n ≤ mostRows)
+    (n ≡ countsIn book)
+    × (rows ≡ length (b .part .rows))
+    × (rows ≤ mostRows)
     × (1 ≤ number)
-    × (number ≤ n + 1)
+    × (number ≤ rows + 1)
     × (sum .0 ≤ (number - 1) * (mostEnergy * (mostHours * mostPrice)))
     × (sum .0 + total (saleWorth (b .setup) operator) (drop (number - 1) (b .part .rows)) ≡ total (saleWorth (b .setup) operator) (b .part .rows))
 
 abbrev μ-loop : tie.MeasureT-loop
-μ-loop book sums operator from n sum₀ number₀ sum number = n + 1 - number
+μ-loop book sums operator n rows sum₀ number₀ sum number = rows + 1 - number
 
 counts-requires : tie.Need-counts-requires Inv-loop μ-loop
 counts-requires c κs = omega (arith, book-length _ (c .before .before .pre .0))
-
-accounts-from-requires : tie.Need-accounts-from-requires Inv-loop μ-loop
-accounts-from-requires c κs = search needs
 
 row-count-requires : tie.Need-row-count-requires Inv-loop μ-loop
 row-count-requires c κs = search needs
 
 loop-holds : tie.Need-loop-holds Inv-loop μ-loop
 loop-holds c = (
-  c .before .accounts-from .ensures ∙ ap accountsFrom (c .before .before .counts .ensures),
+  c .before .counts .ensures,
   c .row-count .ensures .0,
   c .row-count .ensures .1,
   omega arith,
@@ -52,7 +49,7 @@ loop-holds c = (
 row-sale-requires : tie.Need-row-sale-requires Inv-loop μ-loop
 row-sale-requires c κs =
     let l = c .before .loop in
-    let pre = c .before .before .before .before .before .before .before .pre in
+    let pre = c .before .before .before .before .before .before .pre in
     (pre .0, pre .1, l .inv .0, l .inv .3, omega (arith, l .inv .1))
 
 plus-requires : tie.Need-plus-requires Inv-loop μ-loop
@@ -88,7 +85,6 @@ sales-worth-spec =
     Inv-loop
     μ-loop
     counts-requires
-    accounts-from-requires
     row-count-requires
     loop-holds
     row-sale-requires

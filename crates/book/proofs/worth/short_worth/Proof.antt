@@ -7,7 +7,7 @@ use Rattle.rules.specs.declared.Counts.{Counts}
 use Rattle.rules.specs.Basics.{total, counting}
 use Rattle.rules.specs.Limits.{mostEnergy, mostPrice, mostHours, mostAccounts}
 use Rattle.rules.specs.Books.{accountCount}
-use Rattle.rules.specs.Opening.{countsIn, accountsFrom}
+use Rattle.rules.specs.Opening.{countsIn}
 use Rattle.rules.proofs.Basics.CountingLaws.{sum-begins, sum-next, sum-done}
 use Rattle.image.specs.Valid.{bookIn}
 use Rattle.book.specs.Worth.{addedRows, shortShare, netWith}
@@ -18,11 +18,11 @@ use Rattle.book.proofs.worth.short_worth.Statement.{statement}
 use Rattle.book.proofs.worth.short_worth.Tie as tie
 
 abbrev Inv-loop : tie.InvT-loop
-Inv-loop book operator added n from sum₀ account₀ sum account =
+Inv-loop book operator added n sum₀ account₀ sum account =
     let b = bookIn book in
     (n .accounts ≡ accountCount (b .setup))
     × (n .accounts ≤ mostAccounts)
-    × (from ≡ accountsFrom (countsIn book))
+    × (n ≡ countsIn book)
     × (1 ≤ account)
     × (account ≤ n .accounts + 1)
     × (sum .0 ≤ (account - 1) * (mostHours * (2 * mostEnergy * mostPrice)))
@@ -30,22 +30,19 @@ Inv-loop book operator added n from sum₀ account₀ sum account =
     ≡ total (shortShare (b .setup) (netWith (b .part .rows) (addedRows added)) operator) (counting (accountCount (b .setup)) 1))
 
 abbrev μ-loop : tie.MeasureT-loop
-μ-loop book operator added n from sum₀ account₀ sum account = n .accounts + 1 - account
+μ-loop book operator added n sum₀ account₀ sum account = n .accounts + 1 - account
 
 counts-requires : tie.Need-counts-requires Inv-loop μ-loop
 counts-requires c κs = omega (arith, book-length _ (c .before .pre .0))
 
-accounts-from-requires : tie.Need-accounts-from-requires Inv-loop μ-loop
-accounts-from-requires c κs = search needs
-
 loop-holds : tie.Need-loop-holds Inv-loop μ-loop
 loop-holds c =
-    let start = c .before .before .before in
-    let read = c .before .counts .ensures in
+    let start = c .before .before in
+    let read = c .counts .ensures in
     let accounts = ap (λ (n : Counts). n .accounts) read ∙ accounts-in _ (start .pre .0) in (
       accounts,
       omega (arith, accounts, book-is-sound _ (start .pre .0) .setup-sound .accounts-high),
-      c .accounts-from .ensures ∙ ap accountsFrom read,
+      read,
       omega arith,
       omega arith,
       omega arith,
@@ -55,7 +52,7 @@ loop-holds c =
 short-share-requires : tie.Need-short-share-requires Inv-loop μ-loop
 short-share-requires c κs =
     let l = c .before .before .loop in
-    let pre = c .before .before .before .before .before .before .pre in
+    let pre = c .before .before .before .before .before .pre in
     (pre .0, l .inv .2, (l .inv .3, omega (arith, l .inv .0)), pre .1)
 
 plus-requires : tie.Need-plus-requires Inv-loop μ-loop
@@ -92,7 +89,6 @@ short-worth-spec =
     Inv-loop
     μ-loop
     counts-requires
-    accounts-from-requires
     loop-holds
     short-share-requires
     plus-requires

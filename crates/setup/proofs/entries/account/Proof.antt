@@ -1,8 +1,9 @@
 -- The entry that was read at its place is the one of that number.
-use mathlib.Core.Path.{_∙_, ap}
+use mathlib.Core.Path.{ap}
 use native.Mathlib.Omega.{arith}
-use Rattle.rules.specs.Opening.{accountsIn, accountsFrom, accountEntry}
-use Rattle.rules.proofs.Setups.SetupEntries.{entry-by-number}
+use Rattle.rules.specs.declared.Counts.{Counts}
+use Rattle.rules.specs.Opening.{setupLength}
+use Rattle.rules.proofs.Setups.SetupEntries.{account-inside, account-numbered}
 use borrow.Author.Needs.{needs}
 use Rattle.setup.proofs.entries.account.Statement.{statement}
 use Rattle.setup.proofs.entries.account.Tie as tie
@@ -10,33 +11,23 @@ use Rattle.setup.proofs.entries.account.Tie as tie
 counts-requires : tie.Need-counts-requires
 counts-requires c κs = search needs
 
-accounts-from-requires : tie.Need-accounts-from-requires
-accounts-from-requires c κs = search needs
-
-sub-account-at : tie.Need-sub-account-at
-sub-account-at c = search needs
-
-mul-account-at : tie.Need-mul-account-at
-mul-account-at c = search needs
-
-add-account-at : tie.Need-add-account-at
-add-account-at c = search needs
+account-from-requires : tie.Need-account-from-requires
+account-from-requires c κs = search needs
 
 account-at-requires : tie.Need-account-at-requires
-account-at-requires c κs = omega (arith, c .accounts-from .ensures ∙ ap accountsFrom (c .before .counts .ensures))
+account-at-requires c κs =
+    let start = c .before .before .before in
+    let same = c .before .counts .ensures in
+    let high = ap (λ (n : Counts). n .accounts) same in
+    omega (arith, c .account-from .ensures, ap setupLength same, account-inside (c .before .counts .result) (start .args .number) (start .pre .1) (omega (arith, start .pre .2)))
 
 returns : tie.Need-returns
-unfolding accountsIn
-returns c = let start = c .before .before .before .before in entry-by-number accountEntry _ _ _ _ _ _ _ (c .before .accounts-from .ensures ∙ ap accountsFrom (c .before .before .counts .ensures)) (start .pre .1) (start .pre .2) (c .account-at .ensures)
+returns c =
+    let start = c .before .before .before .before in
+    let same = c .before .before .counts .ensures in
+    let high = ap (λ (n : Counts). n .accounts) same in
+    account-numbered _ _ same _ (c .before .account-from .ensures) (c .account-at .ensures) (start .pre .1) (omega (arith, start .pre .2))
 
 pub account-spec : {M : Type 1} → statement M
 account-spec =
-    tie.close
-    (tie.spec
-    counts-requires
-    accounts-from-requires
-    sub-account-at
-    mul-account-at
-    add-account-at
-    account-at-requires
-    returns)
+    tie.close (tie.spec counts-requires account-from-requires account-at-requires returns)

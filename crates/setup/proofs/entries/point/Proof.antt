@@ -23,11 +23,11 @@ add-point-at : tie.Need-add-point-at
 add-point-at c = search needs
 
 point-at-requires : tie.Need-point-at-requires
-point-at-requires c κs = omega (arith, c .points-from .ensures ∙ ap pointsFrom (c .before .counts .ensures))
+point-at-requires c κs = omega (arith, c .points-from .ensures .0 ∙ ap pointsFrom (c .before .counts .ensures))
 
 returns : tie.Need-returns
 unfolding pointsIn
-returns c = let start = c .before .before .before .before in entry-by-number pointEntry _ _ _ _ _ _ _ (c .before .points-from .ensures ∙ ap pointsFrom (c .before .before .counts .ensures)) (start .pre .1) (start .pre .2) (c .point-at .ensures)
+returns c = let start = c .before .before .before .before in entry-by-number pointEntry _ _ _ _ _ _ _ (c .before .points-from .ensures .0 ∙ ap pointsFrom (c .before .before .counts .ensures)) (start .pre .1) (start .pre .2) (c .point-at .ensures)
 
 pub point-spec : {M : Type 1} → statement M
 point-spec =

@@ -5,7 +5,7 @@ use lib.ListN.{length, drop}
 use native.Mathlib.Omega.{arith}
 use Rattle.rules.specs.declared.Counts.{Counts}
 use Rattle.rules.specs.Basics.{entries}
-use Rattle.rules.specs.Opening.{accountIn, pointIn, accountsFrom, pointsFrom, accountsIn, pointsIn, pointValues, valuesOf, accountEntry, pointEntry}
+use Rattle.rules.specs.Opening.{pointIn, pointsFrom, accountsIn, pointsIn, pointValues, valuesOf, pointEntry}
 use Rattle.setup.specs.Faults.{judged, pointFaults}
 use Rattle.setup.proofs.FaultLaws.{none-left, first-clear, first-fails, at-counts}
 use borrow.Author.Needs.{needs}
@@ -13,23 +13,20 @@ use Rattle.setup.proofs.fault.point_faults.Statement.{statement}
 use Rattle.setup.proofs.fault.point_faults.Tie as tie
 
 abbrev Inv-loop : tie.InvT-loop
-Inv-loop setup n accounts at₀ left₀ at left =
-    (at + pointEntry * left ≤ length setup) × (judged (valuesOf pointEntry (pointValues (entries accountEntry accountIn (n .accounts) (drop accounts setup)) (n .zones)) at (entries pointEntry pointIn left (drop at setup))) ≡ pointFaults setup)
+Inv-loop setup n at₀ left₀ at left =
+    (at + pointEntry * left ≤ length setup) × (judged (valuesOf pointEntry (pointValues (accountsIn setup) (n .zones)) at (entries pointEntry pointIn left (drop at setup))) ≡ pointFaults setup)
 
 abbrev μ-loop : tie.MeasureT-loop
-μ-loop setup n accounts at₀ left₀ at left = left
-
-accounts-from-requires : tie.Need-accounts-from-requires Inv-loop μ-loop
-accounts-from-requires c κs = search needs
+μ-loop setup n at₀ left₀ at left = left
 
 points-from-requires : tie.Need-points-from-requires Inv-loop μ-loop
 points-from-requires c κs = search needs
 
 loop-holds : tie.Need-loop-holds Inv-loop μ-loop
-unfolding pointFaults accountsIn pointsIn
+unfolding pointFaults pointsIn
 loop-holds c =
-    let s = c .before .before .before .args .setup .now in
-    (search needs, rw (c .before .accounts-from .ensures) (at-counts (λ (n : Counts) (at : ℕ). judged (valuesOf pointEntry (pointValues (entries accountEntry accountIn (n .accounts) (drop (accountsFrom n) s)) (n .zones)) at (entries pointEntry pointIn (n .points) (drop at s)))) pointsFrom (c .before .before .before .pre .counted) (c .points-from .ensures)))
+    let s = c .before .before .args .setup .now in
+    (search needs, at-counts (λ (n : Counts) (at : ℕ). judged (valuesOf pointEntry (pointValues (accountsIn s) (n .zones)) at (entries pointEntry pointIn (n .points) (drop at s)))) pointsFrom (c .before .before .pre .counted) (c .points-from .ensures .0))
 
 point-at-requires : tie.Need-point-at-requires Inv-loop μ-loop
 point-at-requires c κs = search needs
@@ -71,7 +68,6 @@ point-faults-spec =
     (tie.spec
     Inv-loop
     μ-loop
-    accounts-from-requires
     points-from-requires
     loop-holds
     point-at-requires

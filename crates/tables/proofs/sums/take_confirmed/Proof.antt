@@ -2,7 +2,8 @@
 use native.Mathlib.Omega.{arith}
 use Rattle.rules.specs.Limits.{mostAccounts}
 use Rattle.image.specs.Tables.{slotOf}
-use Rattle.image.proofs.Tables.SumLaws.{stride, room-past}
+use Rattle.rules.proofs.Basics.Products.{stride}
+use Rattle.image.proofs.Tables.SumLaws.{room-past}
 use Rattle.image.proofs.Tables.TabledLaws.{buyer-in, seller-in}
 use Rattle.tables.proofs.ShareLaws.{taken-confirmed}
 use borrow.Author.Needs.{needs}
