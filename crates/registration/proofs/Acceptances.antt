@@ -1,4 +1,4 @@
--- What an accepted call of each kind writes: the bytes are the image of the book, so that the write laws of images apply, and the
+-- What an accepted confirm or withdraw writes: the bytes are the image of the book, so that the write laws of images apply, and the
 -- checks that it passed keep the book sound.
 use Prim.Native.Nat.{ℕ, suc, _+_, _-_, _^_}
 use mathlib.Core.Path.{_≡_, refl, sym, ap, _∙_}
@@ -7,10 +7,10 @@ use mathlib.Core.Option.{none, some}
 use mathlib.Core.Bool.{true}
 use native.Mathlib.Numerals.{add-one}
 use native.Mathlib.Omega.{arith}
-use lib.ListN.{length, getD, drop}
+use lib.ListN.{getD}
 use Rattle.wire.specs.Numbers.{le}
-use Rattle.wire.specs.Regions.{splice, pasted}
-use Rattle.wire.specs.Parts.{zeros, sweep}
+use Rattle.wire.specs.Regions.{splice}
+use Rattle.wire.specs.Parts.{sweep}
 use Rattle.rules.specs.declared.Row.{Row}
 use Rattle.rules.specs.declared.Request.{Request}
 use Rattle.rules.specs.Limits.{mostHours, bookSize}
@@ -18,22 +18,21 @@ use Rattle.rules.specs.Verdicts.{accepted}
 use Rattle.rules.specs.Basics.{nth}
 use Rattle.rules.specs.Books.{Book, noRow}
 use Rattle.rules.specs.Registration.{pending, seller, buyer, confirms}
-use Rattle.rules.specs.Requests.{confirm, withdraw, openBatch, undo, keep, closeGate}
-use Rattle.rules.specs.Calls.{confirmedNumber, restored, given, savePart, restorePart, dropSaved, shutGate}
-use Rattle.rules.proofs.Checks.Passed.{passed-11, passed-12, passed-13}
+use Rattle.rules.specs.Requests.{confirm, withdraw}
+use Rattle.rules.specs.Calls.{confirmedNumber, given}
 use Rattle.rules.proofs.Rows.RowTests.{passed-confirm, passed-withdraw}
 use Rattle.rules.proofs.Rows.AccountHours.{pending-inside}
 use Rattle.rules.proofs.Basics.Searches.{each-nth}
-use Rattle.image.specs.Layout.{rowWidth, partSize, phaseAt, flagAt, presentAt, savedAt, rowAt, netAt, statusIn, netWidth}
+use Rattle.image.specs.Layout.{presentAt, rowAt, netAt, statusIn, netWidth}
 use Rattle.image.specs.Valid.{isBook, bookIn}
-use Rattle.image.specs.Changes.{raised, ended}
-use Rattle.image.proofs.Writing.Sizes.{RowFits, row-fits-of, statuses-small}
-use Rattle.image.proofs.Writing.BookWrites.{write-confirmed, write-withdrawn, write-saved, write-restored, write-dropped, write-closed}
+use Rattle.image.specs.Changes.{raised}
+use Rattle.image.proofs.Writing.Sizes.{RowFits, row-fits-of}
+use Rattle.image.proofs.Writing.BookWrites.{write-confirmed, write-withdrawn}
 use Rattle.image.proofs.Keeping.KeepsChanges.{apply-keeps}
 use Rattle.image.proofs.Keeping.KeepsKinds.{confirm-allowed, withdraw-allowed}
 use Rattle.book.specs.Kinds.{decided}
 use Rattle.book.proofs.StateLaws.{book-image, book-fits, book-is-sound}
-use Rattle.book.proofs.Answers.{decided-clear, Answered, AnsweredAll, accepted-answered, answered-all}
+use Rattle.book.proofs.Answers.{decided-clear, Answered, accepted-answered}
 
 module _ (s t : List ℕ) (h : isBook s ≡ true) where
   -- 2: the row's status, the hours of its seller, those of its buyer
@@ -76,56 +75,3 @@ module _ (s t : List ℕ) (h : isBook s ≡ true) where
       ∙ ap (λ (x : List ℕ). splice x at (le 1 3)) (book-image s h)
       ∙ write-withdrawn mostHours bookSize (bookIn s) (book-fits s h) (q .number) (q .number - 1) at (omega arith) pend place)
       (apply-keeps _ (bookIn s) (book-is-sound s h) (withdraw-allowed (bookIn s) q (book-is-sound s h) clear))
-
-  -- 5: the present part copied over the saved one, and the flag
-  pub opened-answered : ((q : Request) → decided openBatch (bookIn s) q ≡ none)
-      → t ≡ splice (pasted s (savedAt mostHours) (drop presentAt s) (partSize mostHours)) flagAt (le 1 1)
-      → AnsweredAll openBatch s (accepted 0) t
-  unfolding given
-  opened-answered d e =
-      answered-all openBatch s (accepted 0) t (λ q. accepted-answered openBatch s q h t 0 (d q) refl
-      (e
-      ∙ ap (λ (x : List ℕ). splice (pasted x (savedAt mostHours) (drop presentAt x) (partSize mostHours)) flagAt (le 1 1)) (book-image s h)
-      ∙ write-saved mostHours bookSize (bookIn s) (book-fits s h) (omega arith))
-      (apply-keeps savePart (bookIn s) (book-is-sound s h) (passed-11 (bookIn s) q openBatch (decided-clear openBatch (bookIn s) q (d q)))))
-
-  -- 6: the saved part copied over the present one and cleared, and the flag
-  pub undone-answered : (n : ℕ) → ((q : Request) → decided undo (bookIn s) q ≡ none)
-      → n ≡ length (bookIn s .part .rows) - length (restored (bookIn s .saved) (bookIn s .part) .rows)
-      → t ≡ splice (splice (pasted s presentAt (drop (savedAt mostHours) s) (partSize mostHours)) (savedAt mostHours) (zeros (partSize mostHours))) flagAt (le 1 0)
-      → AnsweredAll undo s (accepted n) t
-  unfolding given
-  undone-answered n d g e =
-      answered-all undo s (accepted n) t (λ q.
-      let clear = decided-clear undo (bookIn s) q (d q) in
-      let (p, saved) = passed-13 (bookIn s) q undo refl clear in
-      accepted-answered undo s q h t n (d q) g
-      (e
-      ∙ ap (λ (x : List ℕ). splice (splice (pasted x presentAt (drop (savedAt mostHours) x) (partSize mostHours)) (savedAt mostHours) (zeros (partSize mostHours))) flagAt (le 1 0)) (book-image s h)
-      ∙ write-restored mostHours bookSize (bookIn s) (book-fits s h) p (omega arith) saved)
-      (apply-keeps restorePart (bookIn s) (book-is-sound s h) (passed-11 (bookIn s) q undo clear)))
-
-  -- 7: the saved part cleared, and the flag
-  pub kept-answered : ((q : Request) → decided keep (bookIn s) q ≡ none)
-      → t ≡ splice (splice s (savedAt mostHours) (zeros (partSize mostHours))) flagAt (le 1 0)
-      → AnsweredAll keep s (accepted 0) t
-  unfolding given
-  kept-answered d e =
-      answered-all keep s (accepted 0) t (λ q. accepted-answered keep s q h t 0 (d q) refl
-      (e
-      ∙ ap (λ (x : List ℕ). splice (splice x (savedAt mostHours) (zeros (partSize mostHours))) flagAt (le 1 0)) (book-image s h)
-      ∙ write-dropped mostHours bookSize (bookIn s) (book-fits s h))
-      (apply-keeps dropSaved (bookIn s) (book-is-sound s h) (passed-11 (bookIn s) q keep (decided-clear keep (bookIn s) q (d q)))))
-
-  -- 8: a loop over the rows, and the phase
-  pub closed-answered : (n : ℕ) → ((q : Request) → decided closeGate (bookIn s) q ≡ none) → n ≡ length (bookIn s .part .rows)
-      → t ≡ splice (sweep ended rowWidth s (presentAt + rowAt 0) n) phaseAt (le 1 2)
-      → AnsweredAll closeGate s (accepted 0) t
-  unfolding given
-  closed-answered n d count e =
-      answered-all closeGate s (accepted 0) t (λ q. accepted-answered closeGate s q h t 0 (d q) refl
-      (e
-      ∙ ap (λ (x : List ℕ). splice (sweep ended rowWidth x (presentAt + rowAt 0) n) phaseAt (le 1 2)) (book-image s h)
-      ∙ write-closed mostHours bookSize (bookIn s) (book-fits s h) n (presentAt + rowAt 0) count
-      (statuses-small (book-is-sound s h .part-sound .rows-sound)) refl)
-      (apply-keeps shutGate (bookIn s) (book-is-sound s h) (passed-12 (bookIn s) q closeGate refl (decided-clear closeGate (bookIn s) q (d q)))))

@@ -1,10 +1,8 @@
 -- Laws of registration.
 -- Decisions: what the state refuses each kind for, test by test.
 pub mod Decisions
--- Acceptances: what an accepted call writes is the image of the next book.
+-- Acceptances: what an accepted confirm or withdraw writes is the image of the next book.
 pub mod Acceptances
--- BatchLaws: a part copied or cleared but for the room behind its rows, and where a book has such room.
-pub mod BatchLaws
 -- Withdrawals: the row that a withdrawal names.
 pub mod Withdrawals
 -- SearchLaws: a search that counts up, number by number, over a span, and by tests that agree.

@@ -3,5 +3,3 @@
 pub mod Confirming
 -- Margins: what the search for a broken margin finds.
 pub mod Margins
--- Rooms: the room behind the rows of a part.
-pub mod Rooms

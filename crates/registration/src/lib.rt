@@ -1,8 +1,6 @@
-// Registration on a book that is known to be one: kinds 1 to 8.
-pub mod batches;
+// Registration on a book that is known to be one: kinds 1 to 4.
 pub mod confirmation;
 pub mod cover;
-pub mod gate;
 pub mod lodging;
 pub mod margins;
 pub mod positions;

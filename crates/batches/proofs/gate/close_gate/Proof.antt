@@ -1,0 +1,74 @@
+-- What was checked is what the state decides, and what is written is the book with no row pending, in the next phase.
+use Prim.Native.Nat.{ℕ}
+use mathlib.Core.Path.{_≡_, refl, sym, ap, _∙_}
+use mathlib.Core.List.{List}
+use mathlib.Core.Option.{none, some}
+use native.Mathlib.Omega.{arith}
+use denote.Ref.{now}
+use Rattle.wire.specs.Numbers.{le}
+use Rattle.wire.specs.Regions.{splice}
+use Rattle.rules.specs.declared.Request.{Request}
+use Rattle.rules.specs.Requests.{closeGate}
+use Rattle.rules.proofs.Checks.Clearing.{checked-same}
+use Rattle.image.specs.Layout.{phaseAt}
+use Rattle.image.specs.Valid.{bookIn}
+use Rattle.book.specs.Kinds.{decided}
+use Rattle.book.proofs.StateLaws.{book-length}
+use Rattle.book.proofs.Answers.{refused-all}
+use Rattle.batches.proofs.Acceptances.{closed-answered}
+use borrow.Author.Needs.{needs}
+use Rattle.batches.proofs.gate.close_gate.Statement.{statement}
+use Rattle.batches.proofs.gate.close_gate.Tie as tie
+
+-- past the checks nothing is decided
+free : (c : tie.After-enum-told) (q : Request) → decided closeGate (bookIn (now (c .before .before .before .before .before .args .book))) q ≡ none
+free c q = checked-same _ none (sym (c .before .before .outside-batch .ensures closeGate q refl) ∙ c .enum-told .given .1)
+
+outside-batch-requires : tie.Need-outside-batch-requires
+outside-batch-requires c κs = search needs
+
+enum-known-r : tie.Need-enum-known-r
+enum-known-r c = search needs
+
+same-length : tie.Need-same-length
+same-length c = search needs
+
+returns : tie.Need-returns
+returns c = refused-all closeGate _ _ (c .before .before .before .before .before .before .pre) (λ q. checked-same _ (some _) (sym (c .before .before .before .outside-batch .ensures closeGate q refl) ∙ c .before .r .given .1))
+
+enum-told : tie.Need-enum-told
+enum-told c = search needs
+
+row-count-requires : tie.Need-row-count-requires
+row-count-requires c κs = search needs
+
+add-end-rows : tie.Need-add-end-rows
+add-end-rows c = search needs
+
+end-rows-requires : tie.Need-end-rows-requires
+end-rows-requires c κs = let n = book-length _ (c .before .before .before .before .before .before .before .before .pre) in omega arith
+
+put-u8-requires : tie.Need-put-u8-requires
+put-u8-requires c κs = let n = book-length _ (c .before .before .before .before .before .before .before .before .before .before .before .before .pre) in omega arith
+
+same-length-2 : tie.Need-same-length-2
+same-length-2 c = search needs
+
+returns-2 : tie.Need-returns-2
+returns-2 c = closed-answered _ _ (c .before .before .before .before .before .before .before .before .before .before .before .before .before .before .before .pre) _ (free (c .before .before .before .before .before .before .before .before .before .before)) (c .before .before .before .before .before .before .before .before .row-count .ensures .0) (c .before .before .put-u8 .ensures ∙ ap (λ (x : List ℕ). splice x phaseAt (le 1 2)) (c .before .before .before .before .before .before .end-rows .ensures))
+
+pub close-gate-spec : {M : Type 1} → statement M
+close-gate-spec =
+    tie.close
+    (tie.spec
+    outside-batch-requires
+    enum-known-r
+    same-length
+    returns
+    enum-told
+    row-count-requires
+    add-end-rows
+    end-rows-requires
+    put-u8-requires
+    same-length-2
+    returns-2)

@@ -1,0 +1,27 @@
+-- The tests of the two kinds, in the order of their numbers.
+use mathlib.Core.Path.{sym, ap, _∙_}
+use Rattle.rules.specs.Verdicts.{checked}
+use Rattle.book.proofs.Answers.{in-wrong-phase}
+use Rattle.batches.proofs.Decisions.{with-batch, outside-batch, phase-outside}
+use borrow.Author.Needs.{needs}
+use Rattle.batches.proofs.saving.outside_batch.Statement.{statement}
+use Rattle.batches.proofs.saving.outside_batch.Tie as tie
+
+phase-requires : tie.Need-phase-requires
+phase-requires c κs = search needs
+
+returns : tie.Need-returns
+returns c = λ k q m. ap checked (sym (in-wrong-phase _ q k (λ e. c .if1 .taken (c .before .phase .ensures ∙ e ∙ phase-outside k m))))
+
+batch-open-requires : tie.Need-batch-open-requires
+batch-open-requires c κs = search needs
+
+returns-2 : tie.Need-returns-2
+returns-2 c = λ k q m. ap checked (sym (with-batch _ q (sym (c .before .before .before .phase .ensures) ∙ c .before .before .if1 .left) k m (sym (c .before .batch-open .ensures) ∙ c .if2 .taken)))
+
+returns-3 : tie.Need-returns-3
+returns-3 c = λ k q m. ap checked (sym (outside-batch _ q (sym (c .before .before .before .phase .ensures) ∙ c .before .before .if1 .left) k m (sym (c .before .batch-open .ensures) ∙ c .if2 .left)))
+
+pub outside-batch-spec : {M : Type 1} → statement M
+outside-batch-spec =
+    tie.close (tie.spec phase-requires returns batch-open-requires returns-2 returns-3)

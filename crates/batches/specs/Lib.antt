@@ -1,0 +1,3 @@
+-- What the contracts of `batches` say.
+-- Rooms: the room behind the rows of a part.
+pub mod Rooms

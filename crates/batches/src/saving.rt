@@ -1,0 +1,156 @@
+// The batch: opened, undone, kept. It saves the present part, guarantees and rows alike.
+ghost use mathlib.Core.Path.{_≡_};
+ghost use mathlib.Core.Bool.{true};
+ghost use mathlib.Core.List.{[], _∷_};
+ghost use Prim.Native.Nat.{_+_, _≤_};
+ghost use lib.ListN.{length, drop};
+ghost use Rattle.wire.specs.Numbers.{le};
+ghost use Rattle.wire.specs.Regions.{splice, pasted, Apart};
+ghost use Rattle.wire.specs.Parts.{zeros};
+ghost use Rattle.rules.specs.declared.Request.{Request};
+ghost use Rattle.rules.specs.Limits.{mostHours, mostRows, bookSize};
+ghost use Rattle.rules.specs.Verdicts.{checked};
+ghost use Rattle.rules.specs.Requests.{Kind, openBatch, undo, keep, closeGate};
+ghost use Rattle.rules.specs.Calls.{_∈_};
+ghost use Rattle.image.specs.Layout.{flagAt, savedAt, partSize};
+ghost use Rattle.image.specs.Valid.{isBook, bookIn, bookBytes};
+ghost use Rattle.book.specs.Kinds.{decided, outcomeOn, bookAfter};
+ghost use Rattle.batches.specs.Rooms.{NoRowsPast};
+use book::state::REGISTRATION;
+use book::state::batch_open;
+use book::state::phase;
+use book::state::row_count;
+use book::state::saved_row_count;
+use image::layout::FLAG_AT;
+use image::layout::NETS_IN;
+use image::layout::PART_SIZE;
+use image::layout::PRESENT_AT;
+use image::layout::ROW_WIDTH;
+use image::layout::ROWS_IN;
+use image::layout::SAVED_AT;
+use rules::Checked;
+use rules::Outcome;
+use rules::Refusal;
+use rules::Verdict;
+use wire::numbers::put_u8;
+use wire::regions::clear_at;
+use wire::regions::copy_within;
+
+// What opening a batch and closing the gate are refused for.
+pub fn outside_batch(book: &[u8]) -> Checked
+    requires { ⌜ isBook (now book) ≡ true ⌝ }
+    ensures { λ r. ⌜ ((k : Kind) (q : Request) → k ∈ (openBatch ∷ closeGate ∷ []) ≡ true → r ≡ checked (decided k (bookIn (now (book .entry))) q)) ⌝ }
+{
+    if phase(book) != REGISTRATION {
+        return Checked::Fails(Refusal::WrongPhase);
+    }
+    if batch_open(book) {
+        return Checked::Fails(Refusal::BatchOpen);
+    }
+    Checked::Clear
+}
+
+// What undo and keep are refused for.
+pub fn inside_batch(book: &[u8]) -> Checked
+    requires { ⌜ isBook (now book) ≡ true ⌝ }
+    ensures { λ r. ⌜ ((k : Kind) (q : Request) → k ∈ (undo ∷ keep ∷ []) ≡ true → r ≡ checked (decided k (bookIn (now (book .entry))) q)) ⌝ }
+{
+    if phase(book) != REGISTRATION {
+        return Checked::Fails(Refusal::WrongPhase);
+    }
+    if batch_open(book) {
+        return Checked::Clear;
+    }
+    Checked::Fails(Refusal::NoBatch)
+}
+
+// Copies a part over another. Past the first n rows neither has any, so that room is left alone.
+fn copy_part(book: &mut [u8], from: usize, to: usize, n: u16)
+    requires { ⌜ (from + partSize mostHours ≤ length (now book)) × (to + partSize mostHours ≤ length (now book)) × Apart from to (partSize mostHours) ⌝ }
+    requires { ⌜ (n ≤ mostRows) × NoRowsPast (now book) from n × NoRowsPast (now book) to n ⌝ }
+    ensures { λ _. ⌜ now (book .exit) ≡ pasted (now (book .entry)) to (drop from (now (book .entry))) (partSize mostHours) ⌝ }
+{
+    copy_within(book, from, to, ROWS_IN + ROW_WIDTH * (n as usize));
+    copy_within(book, from + NETS_IN, to + NETS_IN, PART_SIZE - NETS_IN);
+}
+
+// Clears a part that has no more than n rows.
+fn clear_part(book: &mut [u8], at: usize, n: u16)
+    requires { ⌜ at + partSize mostHours ≤ length (now book) ⌝ }
+    requires { ⌜ (n ≤ mostRows) × NoRowsPast (now book) at n ⌝ }
+    ensures { λ _. ⌜ now (book .exit) ≡ splice (now (book .entry)) at (zeros (partSize mostHours)) ⌝ }
+{
+    clear_at(book, at, ROWS_IN + ROW_WIDTH * (n as usize));
+    clear_at(book, at + NETS_IN, PART_SIZE - NETS_IN);
+}
+
+// Clears what the batch saved, no more than n rows, and the flag.
+fn end_batch(book: &mut [u8], n: u16)
+    requires { ⌜ length (now book) ≡ bookSize ⌝ }
+    requires { ⌜ (n ≤ mostRows) × NoRowsPast (now book) (savedAt mostHours) n ⌝ }
+    ensures { λ _. ⌜ now (book .exit) ≡ splice (splice (now (book .entry)) (savedAt mostHours) (zeros (partSize mostHours))) flagAt (le 1 0) ⌝ }
+{
+    clear_part(book, SAVED_AT, n);
+    put_u8(book, FLAG_AT, 0);
+}
+
+// Kind 5: saves the present part.
+pub fn open_batch(book: &mut [u8]) -> Outcome
+    requires { ⌜ isBook (now book) ≡ true ⌝ }
+    ensures answer { λ o. ⌜ ((q : Request) → o ≡ outcomeOn openBatch (bookIn (now (book .entry))) q) ⌝ }
+    ensures bytes { λ _. ⌜ ((q : Request) → now (book .exit) ≡ bookBytes (bookAfter openBatch (bookIn (now (book .entry))) q)) ⌝ }
+    ensures still { λ _. ⌜ isBook (now (book .exit)) ≡ true ⌝ }
+{
+    if let Checked::Fails(r) = outside_batch(book) {
+        return Outcome {
+            verdict: Verdict::Refused(r),
+        };
+    }
+    let rows = row_count(book);
+    copy_part(book, PRESENT_AT, SAVED_AT, rows);
+    put_u8(book, FLAG_AT, 1);
+    Outcome {
+        verdict: Verdict::Accepted { number: 0 },
+    }
+}
+
+// Kind 6: puts back what the batch saved, guarantees and rows alike, and gives the number of rows registered since.
+pub fn undo(book: &mut [u8]) -> Outcome
+    requires { ⌜ isBook (now book) ≡ true ⌝ }
+    ensures answer { λ o. ⌜ ((q : Request) → o ≡ outcomeOn undo (bookIn (now (book .entry))) q) ⌝ }
+    ensures bytes { λ _. ⌜ ((q : Request) → now (book .exit) ≡ bookBytes (bookAfter undo (bookIn (now (book .entry))) q)) ⌝ }
+    ensures still { λ _. ⌜ isBook (now (book .exit)) ≡ true ⌝ }
+{
+    if let Checked::Fails(r) = inside_batch(book) {
+        return Outcome {
+            verdict: Verdict::Refused(r),
+        };
+    }
+    let rows = row_count(book);
+    let saved = saved_row_count(book);
+    let since = rows - saved;
+    copy_part(book, SAVED_AT, PRESENT_AT, rows);
+    end_batch(book, saved);
+    Outcome {
+        verdict: Verdict::Accepted { number: since },
+    }
+}
+
+// Kind 7: lets go of what the batch saved.
+pub fn keep(book: &mut [u8]) -> Outcome
+    requires { ⌜ isBook (now book) ≡ true ⌝ }
+    ensures answer { λ o. ⌜ ((q : Request) → o ≡ outcomeOn keep (bookIn (now (book .entry))) q) ⌝ }
+    ensures bytes { λ _. ⌜ ((q : Request) → now (book .exit) ≡ bookBytes (bookAfter keep (bookIn (now (book .entry))) q)) ⌝ }
+    ensures still { λ _. ⌜ isBook (now (book .exit)) ≡ true ⌝ }
+{
+    if let Checked::Fails(r) = inside_batch(book) {
+        return Outcome {
+            verdict: Verdict::Refused(r),
+        };
+    }
+    let saved = saved_row_count(book);
+    end_batch(book, saved);
+    Outcome {
+        verdict: Verdict::Accepted { number: 0 },
+    }
+}
