@@ -7,17 +7,9 @@ ghost use Rattle.rules.specs.Limits.{mostSchedules};
 ghost use Rattle.rules.specs.Settlement.{Judged, placed};
 ghost use Rattle.image.specs.Valid.{isBook, bookIn};
 ghost use Rattle.image.specs.Tables.{Room};
-ghost use Rattle.settlement.specs.Tables.{Priced, setupIn, usedCells};
-ghost use Rattle.settlement.specs.Balances.{credited, Creditable};
+ghost use Rattle.valuation.specs.Tables.{Priced, setupIn, usedCells};
+ghost use Rattle.valuation.specs.Balances.{credited, Creditable};
 ghost use Rattle.settlement.specs.Judging.{InPlace, nonePlaced, noResults, InOrder, NoneJudged, TablesIn, BeforeIn, judgedNext, settledIn, DrawnUp};
-use crate::Credit;
-use crate::balances::OPERATORS;
-use crate::balances::accounts_worth;
-use crate::balances::credit_of;
-use crate::balances::join;
-use crate::congruity::nothing_used;
-use crate::congruity::result_of;
-use crate::congruity::use_up;
 use image::layout::SCHEDULE_WIDTH;
 use image::layout::SCHEDULES_AT;
 use image::schedules::schedule_at;
@@ -29,6 +21,14 @@ use rules::limits::MOST_SCHEDULES;
 use setup::entries::point;
 use units::CentsPerMwh;
 use units::Kwh;
+use valuation::Credit;
+use valuation::balances::OPERATORS;
+use valuation::balances::accounts_worth;
+use valuation::balances::credit_of;
+use valuation::balances::join;
+use valuation::congruity::nothing_used;
+use valuation::congruity::result_of;
+use valuation::congruity::use_up;
 
 // No schedule has its place yet.
 fn none_placed() -> [Placed; MOST_SCHEDULES]

@@ -14,7 +14,7 @@ use Rattle.items.specs.Stream.{recordLength}
 use Rattle.items.proofs.StreamLaws.{call-parts}
 use Rattle.image.specs.Valid.{isBook, bookBytes, bookIn}
 use Rattle.day.specs.Doors.{callAnswer, callWith}
-use Rattle.settlement.specs.Tables.{balanceWidth}
+use Rattle.valuation.specs.Tables.{balanceWidth}
 use Rattle.day.proofs.DoorLaws.{call-on-book}
 use Rattle.day.proofs.CallLaws.{BookInParts}
 

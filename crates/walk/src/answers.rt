@@ -13,7 +13,7 @@ ghost use Rattle.rules.specs.Replay.{callOf, answerLines, text};
 ghost use Rattle.items.specs.Written.{Written, lineRoom};
 ghost use Rattle.items.specs.Figures.{SmallFigure};
 ghost use Rattle.image.specs.Valid.{isBook, bookIn, bookBytes};
-ghost use Rattle.settlement.specs.Tables.{balanceWidth};
+ghost use Rattle.valuation.specs.Tables.{balanceWidth};
 ghost use Rattle.walk.specs.Lent.{stepRoom, answerText};
 use book::state::schedule_count;
 use day::calls::call_in;
@@ -26,8 +26,8 @@ use rules::kinds::SETTLE;
 use rules::limits::MOST_OPERATORS;
 use rules::limits::MOST_SCHEDULES;
 use rules::verdicts::outcome_numbers;
-use settlement::balances::BALANCE_WIDTH;
 use setup::counts::counts;
+use valuation::balances::BALANCE_WIDTH;
 
 // Bytes of the balances of the most operators.
 const MOST_BALANCES: usize = BALANCE_WIDTH * (MOST_OPERATORS as usize);

@@ -7,8 +7,8 @@ use borrow.Author.Needs.{needs}
 use Rattle.image.specs.Valid.{bookIn}
 use Rattle.rules.specs.Limits.{mostSchedules}
 use Rattle.book.proofs.StateLaws.{schedule-count-high}
+use Rattle.valuation.proofs.BalanceLaws.{credited-made}
 use Rattle.settlement.specs.Judging.{TablesIn}
-use Rattle.settlement.proofs.BalanceLaws.{credited-made}
 use Rattle.settlement.proofs.TurnLaws.{judgedIn, length-unused, length-unjudged, in-turn, tables-begin, tables-end, first-fits, next-ready, next-known, tables-follow}
 use Rattle.settlement.proofs.judging.judge_all.Statement.{statement}
 use Rattle.settlement.proofs.judging.judge_all.Tie as tie

@@ -1,7 +1,7 @@
 -- What is used up, the results and the balances each follow the schedule's result, which is the definition's.
 use mathlib.Core.Path.{sym, ap}
 use Rattle.rules.specs.declared.Point.{Point}
-use Rattle.settlement.proofs.CongruityLaws.{on-point, point-stands, point-in-cells, account-read-in-cells}
+use Rattle.valuation.proofs.CongruityLaws.{on-point, point-stands, point-in-cells, account-read-in-cells}
 use Rattle.settlement.proofs.TurnLaws.{tables-next}
 use borrow.Author.Needs.{needs}
 use Rattle.settlement.proofs.judging.judge_next.Statement.{statement}

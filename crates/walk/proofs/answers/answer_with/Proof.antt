@@ -9,7 +9,7 @@ use Rattle.settlement.proofs.Refusals.{operators-counted, operators-few}
 use Rattle.items.proofs.WrittenLaws.{written-as}
 use Rattle.walk.proofs.AnswerLaws.{answer-prints, answer-small}
 use borrow.Author.Needs.{needs}
-use Rattle.settlement.specs.Tables.{balanceWidth}
+use Rattle.valuation.specs.Tables.{balanceWidth}
 use Rattle.walk.proofs.answers.answer_with.Statement.{statement}
 use Rattle.walk.proofs.answers.answer_with.Tie as tie
 

@@ -1,0 +1,19 @@
+-- The price of the number is the one that the schedule meets.
+use borrow.Author.Needs.{needs}
+use Rattle.valuation.proofs.congruity.is_taken.Statement.{statement}
+use Rattle.valuation.proofs.congruity.is_taken.Tie as tie
+
+price-number-requires : tie.Need-price-number-requires
+price-number-requires c κs = search needs
+
+price-requires : tie.Need-price-requires
+price-requires c κs = search needs
+
+takes-requires : tie.Need-takes-requires
+takes-requires c κs = search needs
+
+returns : tie.Need-returns
+returns c u e = rw (← c .before .before .price-number .ensures, ← c .before .price .ensures u e) (c .takes .ensures)
+
+pub is-taken-spec : {M : Type 1} → statement M
+is-taken-spec = tie.close (tie.spec price-number-requires price-requires takes-requires returns)

@@ -1,0 +1,50 @@
+-- The three tests are those of the definition, once what is used up is read off the table.
+use mathlib.Core.Path.{_∙_}
+use native.Mathlib.Omega.{arith}
+use Rattle.book.proofs.StateLaws.{book-length}
+use Rattle.valuation.proofs.CongruityLaws.{point-in-cells, price-stands, result-judged}
+use borrow.Author.Needs.{needs}
+use Rattle.valuation.proofs.congruity.result_of.Statement.{statement}
+use Rattle.valuation.proofs.congruity.result_of.Tie as tie
+
+counts-requires : tie.Need-counts-requires
+counts-requires c κs = omega (arith, book-length _ (c .before .before .before .pre .0 .is-book))
+
+over-point-requires : tie.Need-over-point-requires
+over-point-requires c κs =
+    let pre = c .before .before .before .before .pre in
+    (pre .1 .1, point-in-cells _ (pre .0 .is-book) _ (pre .1 .0 .in-range))
+
+over-account-requires : tie.Need-over-account-requires
+over-account-requires c κs =
+    let pre = c .before .before .before .before .before .pre in
+    (pre .0 .is-book, pre .1 .0, pre .1 .1)
+
+is-taken-requires : tie.Need-is-taken-requires
+is-taken-requires c κs =
+    let read = c .before .before in
+    let pre = read .before .before .before .before .pre in
+    price-stands _ (pre .0 .is-book) _ (pre .1 .0 .in-range) _ (pre .0) _ _ (read .counts .ensures) (pre .1 .0 .its-point)
+
+ranked-result-requires : tie.Need-ranked-result-requires
+ranked-result-requires c κs = search needs
+
+returns : tie.Need-returns
+returns c =
+    let tested = c .before in
+    let read = tested .before .before .before in
+    let pre = read .before .before .before .before .pre in
+    let judged = result-judged _ _ _ _ (pre .0) (pre .1 .0 .in-range) _ _ (read .counts .ensures) (pre .1 .0 .its-point)
+    (tested .before .before .over-point .ensures) (tested .before .over-account .ensures) (tested .is-taken .ensures _ (pre .0 .whole)) in
+    ((λ before by each. c .ranked-result .ensures .0 ∙ judged before by each), c .ranked-result .ensures .1)
+
+pub result-of-spec : {M : Type 1} → statement M
+result-of-spec =
+    tie.close
+    (tie.spec
+    counts-requires
+    over-point-requires
+    over-account-requires
+    is-taken-requires
+    ranked-result-requires
+    returns)

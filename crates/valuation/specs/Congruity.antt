@@ -1,0 +1,46 @@
+-- What a schedule is held against, in the values that code has at hand: the cells of the table of what is used up, the limits, the price.
+use Prim.Native.Nat.{ℕ, _+_, _-_, _*_, _≤_}
+use mathlib.Core.List.{List}
+use mathlib.Core.Bool.{Bool, _||_}
+use lib.ListN.{replicate}
+use lib.Dec.{eqb, leb}
+use Rattle.units.specs.declared.CentsPerMwh.{CentsPerMwh}
+use Rattle.rules.specs.declared.Net.{Net}
+use Rattle.rules.specs.declared.Point.{Point}
+use Rattle.rules.specs.declared.Schedule.{Schedule}
+use Rattle.rules.specs.Basics.{if_then_else_}
+use Rattle.rules.specs.Limits.{mostHours}
+use Rattle.valuation.specs.Tables.{usedCells}
+
+-- the table has a cell for the owner, of so many at most, in the schedule's hour and side
+pub record InCells (most owner : ℕ) (x : Schedule) : Type 0 where
+  pub owner-low : 1 ≤ owner
+  pub owner-high : owner ≤ most
+  pub hour-low : 1 ≤ x .hour
+  pub hour-high : x .hour ≤ mostHours
+  pub side-low : 1 ≤ x .side
+  pub side-high : x .side ≤ 2
+
+-- the table before any schedule is judged
+unfoldable pub nothingUsed : List ℕ
+nothingUsed = replicate usedCells 0
+
+-- the point's greatest amount on a side
+abbrev pub greatest : Point → ℕ → ℕ
+greatest p side = if eqb side 1 then p .injection .0 else p .withdrawal .0
+
+-- what a net position leaves for a side: minus net for injections and net for withdrawals, or 0
+abbrev pub leftBy : Net → ℕ → ℕ
+leftBy n side = if eqb side 1 then n .sold .0 - n .bought .0 else n .bought .0 - n .sold .0
+
+-- the number, in the price table, of the price that is met: the zone's for injections and on mixed points, else PUN
+abbrev pub priceNumber : ℕ → Point → Schedule → ℕ
+priceNumber hours p x = if eqb (x .side) 1 || eqb (p .kind) 3 then hours * p .zone + x .hour else x .hour
+
+-- taken at the price that is met
+abbrev pub takenAt : Schedule → CentsPerMwh → Bool
+takenAt x met = if eqb (x .side) 1 then leb (x .price .0) (met .0) else leb (met .0) (x .price .0)
+
+-- the result, by the three tests
+abbrev pub resultBy : Bool → Bool → Bool → ℕ
+resultBy over-point over-account taken = if over-point then 1 else if over-account then 2 else if taken then 0 else 3

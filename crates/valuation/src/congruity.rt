@@ -1,0 +1,214 @@
+// The result of a schedule at settlement, and the table of what is used up of the limits of points and accounts.
+ghost use mathlib.Core.Path.{_≡_};
+ghost use mathlib.Core.List.{List, _∷_};
+ghost use mathlib.Core.Bool.{true, _||_};
+ghost use Prim.Native.Nat.{ℕ, _+_, _-_, _*_, _^_, _≤_, _<_};
+ghost use lib.Dec.{eqb, ltb};
+ghost use lib.ListN.{length, getD, set};
+ghost use Rattle.units.specs.Units.{centsPerMwh};
+ghost use Rattle.units.specs.declared.CentsPerMwh.{CentsPerMwh};
+ghost use Rattle.rules.specs.declared.Net.{Net};
+ghost use Rattle.rules.specs.Basics.{if_then_else_, nth, Each};
+ghost use Rattle.rules.specs.Limits.{mostPoints, mostAccounts};
+ghost use Rattle.rules.specs.Books.{Setup};
+ghost use Rattle.rules.specs.Settlement.{Judged, accountOf, judge, priceCount, pricesIn};
+ghost use Rattle.rules.specs.Opening.{priceWidth};
+ghost use Rattle.image.specs.Valid.{isBook, scheduleOk};
+ghost use Rattle.image.specs.Tables.{Room};
+ghost use Rattle.valuation.specs.Tables.{Priced, OnPoint, setupIn, netsIn, pricesOf, cellFor, pointCells, UsedBy, usedCells};
+ghost use Rattle.valuation.specs.Congruity.{InCells, nothingUsed, greatest, leftBy, priceNumber, takenAt, resultBy};
+use crate::prices::price;
+use book::positions::net_at;
+use rules::Net;
+use rules::Point;
+use rules::Schedule;
+use rules::limits::MOST_ACCOUNTS;
+use rules::limits::MOST_POINTS;
+use rules::limits::PERIODS;
+use setup::counts::counts;
+use units::CentsPerMwh;
+use units::Kwh;
+
+// The side of an injection, and the kind of a mixed point.
+const INJECTION: u8 = 1;
+
+const MIXED: u8 = 3;
+
+// The results.
+const REGISTERED: u8 = 0;
+
+const OVER_POINT: u8 = 1;
+
+const OVER_ACCOUNT: u8 = 2;
+
+const NOT_TAKEN: u8 = 3;
+
+// The table of what is used up: the cells of an owner, of all points, and of the whole.
+const OWNER_CELLS: usize = 2 * PERIODS;
+
+const POINT_CELLS: usize = OWNER_CELLS * (MOST_POINTS as usize);
+
+pub const USED_SIZE: usize = POINT_CELLS + OWNER_CELLS * (MOST_ACCOUNTS as usize);
+
+// The cell of an owner, which is a point or an account, in the schedule's hour and side.
+fn cell_for(owner: u8, x: Schedule) -> usize
+    requires { ⌜ InCells mostPoints owner x ⌝ }
+    ensures { λ r. ⌜ r ≡ cellFor owner x ⌝ }
+{
+    OWNER_CELLS * (owner as usize - 1) + (2 * (x.hour as usize - 1) + (x.side as usize - 1))
+}
+
+// What is more on one side than on the other, or nothing.
+fn surplus(a: Kwh, b: Kwh) -> Kwh
+    ensures { λ r. ⌜ r .0 ≡ a .0 - b .0 ⌝ }
+{
+    if b.0 < a.0 {
+        return Kwh(a.0 - b.0);
+    }
+    Kwh(0)
+}
+
+// The point's greatest amount on a side.
+fn point_limit(point: Point, side: u8) -> Kwh
+    ensures { λ r. ⌜ r .0 ≡ greatest point side ⌝ }
+{
+    if side == INJECTION {
+        return point.injection;
+    }
+    point.withdrawal
+}
+
+// What a net position leaves for a side.
+fn account_limit(net: Net, side: u8) -> Kwh
+    ensures { λ r. ⌜ r .0 ≡ leftBy net side ⌝ }
+{
+    if side == INJECTION {
+        return surplus(net.sold, net.bought);
+    }
+    surplus(net.bought, net.sold)
+}
+
+// Whether the quantity, with what is used up before it, passes the limit.
+fn passes(limit: Kwh, before: u32, quantity: Kwh) -> bool
+    ensures { λ r. ⌜ r ≡ ltb (limit .0) (before + quantity .0) ⌝ }
+{
+    (limit.0 as u64) < (before as u64) + (quantity.0 as u64)
+}
+
+// Whether a schedule passes what is left of its point's greatest amount.
+fn over_point(used: &[u32], x: Schedule, point: Point) -> bool
+    requires { ⌜ (length (now used) ≡ usedCells) × InCells mostPoints (x .point) x ⌝ }
+    ensures { λ r. ⌜ r ≡ ltb (greatest point (x .side)) (getD (now (used .entry)) (cellFor (x .point) x) 0 + x .quantity .0) ⌝ }
+{
+    let k = cell_for(x.point, x);
+    let limit = point_limit(point, x.side);
+    passes(limit, used[k], x.quantity)
+}
+
+// Whether a schedule passes what is left of its account's net position.
+fn over_account(book: &[u8], used: &[u32], x: Schedule, point: Point) -> bool
+    requires { ⌜ (isBook (now book) ≡ true) × OnPoint (setupIn (now book)) point x × (length (now used) ≡ usedCells) ⌝ }
+    ensures { λ r. ⌜ r ≡ ltb (leftBy (netsIn (now (book .entry)) (point .account) (x .hour)) (x .side)) (getD (now (used .entry)) (pointCells + cellFor (point .account) x) 0 + x .quantity .0) ⌝ }
+{
+    let k = POINT_CELLS + cell_for(point.account, x);
+    let net = net_at(book, point.account, x.hour);
+    let limit = account_limit(net, x.side);
+    passes(limit, used[k], x.quantity)
+}
+
+// The number, in the price table, of the price that a schedule on the point meets.
+fn price_number(hours: u8, point: Point, x: Schedule) -> usize
+    ensures { λ r. ⌜ r ≡ priceNumber hours point x ⌝ }
+{
+    if (x.side == INJECTION) | (point.kind == MIXED) {
+        return (hours as usize) * (point.zone as usize) + x.hour as usize;
+    }
+    x.hour as usize
+}
+
+// Whether a schedule is taken at the price that it meets.
+fn takes(x: Schedule, met: CentsPerMwh) -> bool
+    ensures { λ r. ⌜ r ≡ takenAt x met ⌝ }
+{
+    if x.side == INJECTION {
+        return x.price.at_most(met);
+    }
+    met.at_most(x.price)
+}
+
+// Whether a schedule on the point is taken at the prices of the table.
+fn is_taken(prices: &[u8], hours: u8, point: Point, x: Schedule) -> bool
+    requires { ⌜ (1 ≤ priceNumber hours point x) × (priceWidth * priceNumber hours point x ≤ length (now prices)) ⌝ }
+    ensures { λ r. ⌜ ((u : Setup) → length (now (prices .entry)) ≡ priceWidth * priceCount u → r ≡ takenAt x (nth (pricesIn u (now (prices .entry))) (priceNumber hours point x) (centsPerMwh 0))) ⌝ }
+{
+    let number = price_number(hours, point, x);
+    let met = price(prices, number);
+    takes(x, met)
+}
+
+// The result by three tests, in their order: the point's limit is passed, the account's is, the price takes it.
+fn ranked_result(point: bool, account: bool, taken: bool) -> u8
+    ensures { λ r. ⌜ (r ≡ resultBy point account taken) × (r ≤ 3) ⌝ }
+{
+    if point {
+        return OVER_POINT;
+    }
+    if account {
+        return OVER_ACCOUNT;
+    }
+    if taken {
+        return REGISTERED;
+    }
+    NOT_TAKEN
+}
+
+// The result of a schedule on its point, after those that used up what the table says.
+pub fn result_of(book: &[u8], prices: &[u8], used: &[u32], point: Point, x: Schedule) -> u8
+    requires { ⌜ Priced (now book) (now prices) ⌝ }
+    requires { ⌜ OnPoint (setupIn (now book)) point x × (length (now used) ≡ usedCells) ⌝ }
+    ensures meaning { λ r. ⌜ ((before : List Judged) → UsedBy (setupIn (now (book .entry))) (netsIn (now (book .entry))) (pricesOf (now (book .entry)) (now (prices .entry))) before (now (used .entry)) → Each (λ j. scheduleOk (setupIn (now (book .entry))) (j .schedule) ≡ true) before → r ≡ judge (setupIn (now (book .entry))) (netsIn (now (book .entry))) (pricesOf (now (book .entry)) (now (prices .entry))) before x) ⌝ }
+    ensures bounded { λ r. ⌜ r ≤ 3 ⌝ }
+{
+    let n = counts(book);
+    let over_point = over_point(used, x, point);
+    let over_account = over_account(book, used, x, point);
+    let taken = is_taken(prices, n.hours, point, x);
+    ranked_result(over_point, over_account, taken)
+}
+
+// What a schedule of that result uses up: its quantity where it is congruous.
+fn share(quantity: Kwh, result: u8) -> Kwh
+    ensures { λ r. ⌜ (r .0 ≡ (if eqb result 0 || eqb result 3 then quantity .0 else 0)) × (r .0 ≤ quantity .0) ⌝ }
+{
+    if (result == REGISTERED) | (result == NOT_TAKEN) {
+        return quantity;
+    }
+    Kwh(0)
+}
+
+// Adds `q` to a cell.
+fn add_to(table: &mut [u32], k: usize, q: u32)
+    requires { ⌜ (k < length (now table)) × (getD (now table) k 0 + q < 2 ^ 32) ⌝ }
+    ensures { λ _. ⌜ now (table .exit) ≡ set (now (table .entry)) k (getD (now (table .entry)) k 0 + q) ⌝ }
+{
+    table[k] = table[k] + q;
+}
+
+// A schedule of that result more: a congruous one uses up its quantity of its point's and its account's limits.
+pub fn use_up(used: &mut [u32], account: u8, x: Schedule, result: u8)
+    requires { ⌜ (length (now used) ≡ usedCells) × InCells mostPoints (x .point) x × InCells mostAccounts account x × Room (now used) 0 (x .quantity .0) ⌝ }
+    ensures { λ _. ⌜ ((u : Setup) (net : ℕ → ℕ → Net) (t : List CentsPerMwh) (before : List Judged) (place : ℕ) → accountOf u net t x ≡ account → UsedBy u net t before (now (used .entry)) → UsedBy u net t (record { place = place; schedule = x; result = result } ∷ before) (now (used .exit))) ⌝ }
+{
+    let q = share(x.quantity, result);
+    let at_point = cell_for(x.point, x);
+    let at_account = POINT_CELLS + cell_for(account, x);
+    add_to(used, at_point, q.0);
+    add_to(used, at_account, q.0);
+}
+
+// The table before any schedule is judged.
+pub fn nothing_used() -> [u32; USED_SIZE]
+    ensures { λ r. ⌜ r ≡ nothingUsed ⌝ }
+{
+    [0u32; USED_SIZE]
+}
