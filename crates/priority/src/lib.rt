@@ -1,3 +1,2 @@
 // The schedules in order of priority.
 pub mod order;
-pub mod sorting;
