@@ -29,7 +29,7 @@ module _ (P : Kind → Type 0) (i j k : Kind) where
   of-two-go false false e f m x y = let z : _≡_ {A = ℕ} 0 1 = cc in absurd (omega arith)
 
   -- what holds of both holds of the one that it is
-  pub of-two : k ∈ (i ∷ j ∷ []) ≡ true → P i → P j → P k
+  of-two : k ∈ (i ∷ j ∷ []) ≡ true → P i → P j → P k
   of-two m x y = of-two-go (eqb (kindNumber k) (kindNumber i)) (eqb (kindNumber k) (kindNumber j)) refl refl m x y
 
 -- ---- the tests

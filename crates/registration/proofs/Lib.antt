@@ -1,5 +1,5 @@
 -- Laws of registration.
--- Decisions: what the state refuses each kind for, test by test.
+-- Decisions: what the state refuses confirm and withdraw for, test by test.
 pub mod Decisions
 -- Acceptances: what an accepted confirm or withdraw writes is the image of the next book.
 pub mod Acceptances
