@@ -1,6 +1,6 @@
 -- The set-up and the rows of bytes that are a book stand at their places, and what they say is in range: all that the sums, the margins and
 -- the exposure ask of such bytes.
-use Prim.Native.Nat.{ℕ, zero, suc, _+_, _*_, _≤_, _<_}
+use Prim.Native.Nat.{ℕ, zero, suc, _+_, _-_, _*_, _≤_, _<_}
 use mathlib.Core.Path.{_≡_, refl, sym, ap, _∙_}
 use mathlib.Core.List.{List, []}
 use mathlib.Core.Bool.{true}
@@ -18,7 +18,7 @@ use Rattle.rules.specs.declared.Row.{Row}
 use Rattle.rules.specs.Basics.{nth, Each}
 use Rattle.rules.specs.Limits.{mostPrice, mostRows, mostHours, mostAccounts, bookSize}
 use Rattle.rules.specs.Books.{Setup, Book, noAccount, noRow, accountAt, operatorOf, countsOf, operatorCount, accountCount, periods, marginsOf}
-use Rattle.rules.specs.Opening.{countsIn, accountsIn, accountFrom, estimatesIn, setupOf, setupLength, operatorsOf}
+use Rattle.rules.specs.Opening.{countsIn, accountsIn, accountFrom, estimatesIn, setupOf, operatorsOf}
 use Rattle.rules.proofs.Basics.Searches.{each-map, each-nth, each-at}
 use Rattle.rules.proofs.Setups.SetupEntries.{account-at, account-wide, account-inside, account-numbered, counts-of-setup}
 use Rattle.image.specs.Layout.{setupRoom, rowWidth, partWidths, partSize, presentAt, rowCountAt, rowsAt, rowCountSection, rowsSection}
@@ -30,6 +30,7 @@ use Rattle.image.proofs.Sound.Soundness.{SoundSetup, SoundRow}
 use Rattle.image.proofs.Setups.SetupRanges.{InRange, values-in-range}
 use Rattle.image.proofs.Setups.SetupAgain.{counts-first-bytes, setup-short, setup-in-front}
 use Rattle.image.proofs.Reading.Places.{decode-places}
+use Rattle.book.specs.Worth.{AccountsAt}
 use Rattle.book.proofs.StateLaws.{book-length, book-is-sound, row-count-stands}
 
 -- ---- a part
@@ -118,18 +119,20 @@ module _ (s : List ℕ) (h : isBook s ≡ true) where
   hours-few = book-is-sound s h .setup-sound .hours-high
 
   -- the operator of an account stands in the first byte of the account's entry
-  module _ (n : Counts) (a : ℕ) (counted : n ≡ countsIn s) (low : 1 ≤ a) (high : a ≤ accountCount (bookIn s .setup)) where
-    within : a ≤ n .accounts
-    within = omega (arith, ap (λ (m : Counts). m .accounts) (counts-in ∙ sym counted))
+  module _ (from width a : ℕ) (places : AccountsAt from width s) (low : 1 ≤ a) (high : a ≤ accountCount (bookIn s .setup)) where
+    within : a ≤ countsIn s .accounts
+    within = omega (arith, ap (λ (m : Counts). m .accounts) counts-in)
 
-    pub owner-inside : accountFrom n a < length s
-    owner-inside =
-        omega (arith, account-inside n a low within, account-wide n, setup-tabled .whole, ap setupLength counted)
+    place : from + width * (a - 1) ≡ accountFrom (countsIn s) a
+    place = rw (places .0, places .1)
 
-    pub owner-stands : (at : ℕ) → at ≡ accountFrom n a → numberAt s at 1 ≡ operatorOf (bookIn s .setup) a
+    pub owner-inside : from + width * (a - 1) < length s
+    owner-inside = omega (arith, place, account-inside (countsIn s) a low within, account-wide (countsIn s), setup-tabled .whole)
+
+    pub owner-stands : numberAt s (from + width * (a - 1)) 1 ≡ operatorOf (bookIn s .setup) a
     unfolding setupOf
-    owner-stands at place =
-        let entry = account-numbered s n counted a place (sym (account-at s at n)) low within in
+    owner-stands =
+        let entry = account-numbered s (countsIn s) refl a place (sym (account-at s (from + width * (a - 1)) (countsIn s))) low within in
         ap (λ (x : Account). x .operator) entry ∙ sym (ap (λ (u : Setup). operatorOf u a) setup-in)
 
   -- the row of a number is sound, and the table has room for it

@@ -11,9 +11,14 @@ use Rattle.rules.specs.declared.Net.{Net}
 use Rattle.rules.specs.Basics.{if_then_else_, total, upTo, Each}
 use Rattle.rules.specs.Limits.{mostEnergy, mostHours}
 use Rattle.rules.specs.Books.{Setup, estimateAt, operatorOf, accountCount, periods}
+use Rattle.rules.specs.Opening.{countsIn, accountsFrom, accountEntry}
 use Rattle.rules.specs.Registration.{pending, covers, accountHour, takes, takesAll, ofOperator}
 use Rattle.book.specs.declared.worth.Added.{Added}
 use Rattle.book.specs.declared.worth.Added.the-variants.{Nothing, One}
+
+-- the accounts of these bytes begin at `from`, with `width` bytes each
+abbrev pub AccountsAt : ℕ → ℕ → List ℕ → Type 0
+AccountsAt from width s = (from ≡ accountsFrom (countsIn s)) × (width ≡ accountEntry (countsIn s))
 
 -- what is to be added, as rows
 abbrev pub addedRows : Added → List Row

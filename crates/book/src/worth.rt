@@ -6,21 +6,20 @@ ghost use lib.ListN.{length, getD};
 ghost use Rattle.rules.specs.Basics.{total, nth, Each};
 ghost use Rattle.rules.specs.Limits.{mostEnergy, mostPrice, mostHours, mostAccounts, mostRows};
 ghost use Rattle.rules.specs.Books.{noRow, estimateAt, operatorOf, accountCount, periods};
-ghost use Rattle.rules.specs.Opening.{countsIn};
 ghost use Rattle.rules.specs.Registration.{exposureWith};
 ghost use Rattle.image.specs.Valid.{isBook, bookIn};
-ghost use Rattle.book.specs.Worth.{addedRows, Slight, shortTaken, shortWorth, saleWorth, PriceSums, Takeable, accountShort, shortShare, netWith, sumsSize};
+ghost use Rattle.book.specs.Worth.{AccountsAt, addedRows, Slight, shortTaken, shortWorth, saleWorth, PriceSums, Takeable, accountShort, shortShare, netWith, sumsSize};
 use crate::positions::net_at;
 use crate::state::row_count;
 use crate::state::row_place;
 use image::rows::row_at;
 use rules::AccountHour;
-use rules::Counts;
 use rules::Net;
 use rules::Row;
 use rules::hours::short;
 use rules::limits::PERIODS;
-use setup::counts::account_from;
+use setup::counts::account_entry;
+use setup::counts::accounts_from;
 use setup::counts::counts;
 use setup::entries::estimate;
 use units::CentsPerMwh;
@@ -37,12 +36,12 @@ pub enum Added {
 // The hours that a day can have, and none.
 const PRICE_SUMS: usize = PERIODS + 1;
 
-// The operator of an account, of a book with these counts: the first byte of its entry.
-fn owner(book: &[u8], n: Counts, number: u8) -> u8
-    requires { ⌜ (isBook (now book) ≡ true) × (n ≡ countsIn (now book)) × (1 ≤ number) × (number ≤ accountCount (bookIn (now book) .setup)) ⌝ }
+// The operator of an account, of a book whose accounts begin at `from` with `width` bytes each: the first byte of its entry.
+fn owner(book: &[u8], from: usize, width: usize, number: u8) -> u8
+    requires { ⌜ (isBook (now book) ≡ true) × AccountsAt from width (now book) × (1 ≤ number) × (number ≤ accountCount (bookIn (now book) .setup)) ⌝ }
     ensures { λ r. ⌜ r ≡ operatorOf (bookIn (now (book .entry)) .setup) number ⌝ }
 {
-    get_u8(book, account_from(n, number))
+    get_u8(book, from + width * (number as usize - 1))
 }
 
 // ---- prices
@@ -92,30 +91,37 @@ fn span_worth(sums: &[u64], first: u8, last: u8, quantity: Kwh) -> MilliCents
     MilliCents((quantity.0 as u64) * (end - start))
 }
 
-// What a row weighs on the operator as a pending sale, of a book with these counts.
-fn sale_of(book: &[u8], sums: &[u64], n: Counts, operator: u8, r: Row) -> MilliCents
-    requires { ⌜ (isBook (now book) ≡ true) × PriceSums (bookIn (now book) .setup) (now sums) × (n ≡ countsIn (now book)) × Takeable (bookIn (now book) .setup) r ⌝ }
+// What a row weighs on the operator as a pending sale, of a book whose accounts begin at `from` with `width` bytes each.
+fn sale_of(book: &[u8], sums: &[u64], from: usize, width: usize, operator: u8, r: Row) -> MilliCents
+    requires { ⌜ (isBook (now book) ≡ true) × PriceSums (bookIn (now book) .setup) (now sums) × AccountsAt from width (now book) × Takeable (bookIn (now book) .setup) r ⌝ }
     ensures { λ m. ⌜ (m .0 ≡ saleWorth (bookIn (now (book .entry)) .setup) operator r) × (m .0 ≤ mostEnergy * (mostHours * mostPrice)) ⌝ }
 {
     if (r.status != 1) | (r.side != 1) {
         return MilliCents(0);
     }
-    if owner(book, n, r.proposer) == operator {
+    if owner(book, from, width, r.proposer) == operator {
         return span_worth(sums, r.first, r.last, r.quantity);
     }
     MilliCents(0)
 }
 
 // What the row of that number weighs on the operator as a pending sale. Most rows are another's, so that the owner is looked at first.
-fn row_sale(book: &[u8], sums: &[u64], n: Counts, operator: u8, number: u16) -> MilliCents
-    requires { ⌜ (isBook (now book) ≡ true) × PriceSums (bookIn (now book) .setup) (now sums) × (n ≡ countsIn (now book)) × (1 ≤ number) × (number ≤ length (bookIn (now book) .part .rows)) ⌝ }
+fn row_sale(
+    book: &[u8],
+    sums: &[u64],
+    from: usize,
+    width: usize,
+    operator: u8,
+    number: u16,
+) -> MilliCents
+    requires { ⌜ (isBook (now book) ≡ true) × PriceSums (bookIn (now book) .setup) (now sums) × AccountsAt from width (now book) × (1 ≤ number) × (number ≤ length (bookIn (now book) .part .rows)) ⌝ }
     ensures { λ m. ⌜ (m .0 ≡ saleWorth (bookIn (now (book .entry)) .setup) operator (nth (bookIn (now (book .entry)) .part .rows) number noRow)) × (m .0 ≤ mostEnergy * (mostHours * mostPrice)) ⌝ }
 {
     let at = row_place(number);
-    if owner(book, n, get_u8(book, at)) != operator {
+    if owner(book, from, width, get_u8(book, at)) != operator {
         return MilliCents(0);
     }
-    sale_of(book, sums, n, operator, row_at(book, at))
+    sale_of(book, sums, from, width, operator, row_at(book, at))
 }
 
 // What the rows weigh on the operator as pending sales.
@@ -124,11 +130,13 @@ fn sales_worth(book: &[u8], sums: &[u64], operator: u8) -> MilliCents
     ensures { λ m. ⌜ (m .0 ≡ total (saleWorth (bookIn (now (book .entry)) .setup) operator) (bookIn (now (book .entry)) .part .rows)) × (m .0 ≤ mostRows * (mostEnergy * (mostHours * mostPrice))) ⌝ }
 {
     let n = counts(book);
+    let from = accounts_from(n);
+    let width = account_entry(n);
     let rows = row_count(book);
     let mut sum = MilliCents(0);
     let mut number: u16 = 1;
     while number <= rows {
-        sum = sum.plus(row_sale(book, sums, n, operator, number));
+        sum = sum.plus(row_sale(book, sums, from, width, operator, number));
         number = number + 1;
     }
     sum
@@ -183,11 +191,18 @@ fn account_short(book: &[u8], account: u8, added: Added) -> MilliCents
 }
 
 // The same of one account, where it is the operator's; nothing where it is another's.
-fn short_share(book: &[u8], n: Counts, account: u8, operator: u8, added: Added) -> MilliCents
-    requires { ⌜ (isBook (now book) ≡ true) × (n ≡ countsIn (now book)) × ((1 ≤ account) × (account ≤ accountCount (bookIn (now book) .setup))) × Slight added ⌝ }
+fn short_share(
+    book: &[u8],
+    from: usize,
+    width: usize,
+    account: u8,
+    operator: u8,
+    added: Added,
+) -> MilliCents
+    requires { ⌜ (isBook (now book) ≡ true) × AccountsAt from width (now book) × ((1 ≤ account) × (account ≤ accountCount (bookIn (now book) .setup))) × Slight added ⌝ }
     ensures { λ r. ⌜ (r .0 ≡ shortShare (bookIn (now (book .entry)) .setup) (netWith (bookIn (now (book .entry)) .part .rows) (addedRows added)) operator account) × (r .0 ≤ mostHours * (2 * mostEnergy * mostPrice)) ⌝ }
 {
-    if owner(book, n, account) == operator {
+    if owner(book, from, width, account) == operator {
         return account_short(book, account, added);
     }
     MilliCents(0)
@@ -199,10 +214,12 @@ fn short_worth(book: &[u8], operator: u8, added: Added) -> MilliCents
     ensures { λ r. ⌜ (r .0 ≡ shortWorth (bookIn (now (book .entry)) .setup) (netWith (bookIn (now (book .entry)) .part .rows) (addedRows added)) operator) × (r .0 ≤ mostAccounts * (mostHours * (2 * mostEnergy * mostPrice))) ⌝ }
 {
     let n = counts(book);
+    let from = accounts_from(n);
+    let width = account_entry(n);
     let mut sum = MilliCents(0);
     let mut account: u8 = 1;
     while account <= n.accounts {
-        sum = sum.plus(short_share(book, n, account, operator, added));
+        sum = sum.plus(short_share(book, from, width, account, operator, added));
         account = account + 1;
     }
     sum
@@ -210,14 +227,21 @@ fn short_worth(book: &[u8], operator: u8, added: Added) -> MilliCents
 
 // ---- exposure
 
-// What is added weighs on the operator as a pending sale, of a book with these counts.
-fn added_sale(book: &[u8], sums: &[u64], n: Counts, operator: u8, added: Added) -> MilliCents
-    requires { ⌜ (isBook (now book) ≡ true) × PriceSums (bookIn (now book) .setup) (now sums) × (n ≡ countsIn (now book)) × Each (Takeable (bookIn (now book) .setup)) (addedRows added) ⌝ }
+// What is added weighs on the operator as a pending sale, of a book whose accounts begin at `from` with `width` bytes each.
+fn added_sale(
+    book: &[u8],
+    sums: &[u64],
+    from: usize,
+    width: usize,
+    operator: u8,
+    added: Added,
+) -> MilliCents
+    requires { ⌜ (isBook (now book) ≡ true) × PriceSums (bookIn (now book) .setup) (now sums) × AccountsAt from width (now book) × Each (Takeable (bookIn (now book) .setup)) (addedRows added) ⌝ }
     ensures { λ m. ⌜ (m .0 ≡ total (saleWorth (bookIn (now (book .entry)) .setup) operator) (addedRows added)) × (m .0 ≤ mostEnergy * (mostHours * mostPrice)) ⌝ }
 {
     match added {
         Added::Nothing => MilliCents(0),
-        Added::One(r) => sale_of(book, sums, n, operator, r),
+        Added::One(r) => sale_of(book, sums, from, width, operator, r),
     }
 }
 
@@ -229,8 +253,10 @@ pub fn exposure_with(book: &[u8], operator: u8, added: Added) -> MilliCents
 {
     let sums = price_sums(book);
     let n = counts(book);
+    let from = accounts_from(n);
+    let width = account_entry(n);
     let below = short_worth(book, operator, added);
     let waits = sales_worth(book, &sums, operator);
-    let own = added_sale(book, &sums, n, operator, added);
+    let own = added_sale(book, &sums, from, width, operator, added);
     below.plus(waits).plus(own)
 }

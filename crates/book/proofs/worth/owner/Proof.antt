@@ -1,25 +1,38 @@
 -- The operator of an account is the first byte of its entry.
-use mathlib.Core.Path.{ap, _∙_}
+use mathlib.Core.Path.{_∙_}
 use native.Mathlib.Omega.{arith}
 use Rattle.book.proofs.BookRows.{owner-inside, owner-stands}
+use Rattle.book.proofs.StateLaws.{book-length}
 use borrow.Author.Needs.{needs}
 use Rattle.book.proofs.worth.owner.Statement.{statement}
 use Rattle.book.proofs.worth.owner.Tie as tie
 
-account-from-requires : tie.Need-account-from-requires
-account-from-requires c κs = search needs
+sub-get-u8 : tie.Need-sub-get-u8
+sub-get-u8 c = search needs
+
+mul-get-u8 : tie.Need-mul-get-u8
+mul-get-u8 c =
+    let start = c .before in
+    let pre = start .pre in
+    omega (arith, owner-inside _ (pre .0) (start .args .from) (start .args .width) (start .args .number) (pre .1) (pre .2) (pre .3), book-length _ (pre .0))
+
+add-get-u8 : tie.Need-add-get-u8
+add-get-u8 c =
+    let start = c .before in
+    let pre = start .pre in
+    omega (arith, owner-inside _ (pre .0) (start .args .from) (start .args .width) (start .args .number) (pre .1) (pre .2) (pre .3), book-length _ (pre .0))
 
 get-u8-requires : tie.Need-get-u8-requires
 get-u8-requires c κs =
-    let start = c .before .before in
+    let start = c .before in
     let pre = start .pre in
-    omega (arith, c .account-from .ensures, owner-inside _ (pre .0) (start .args .n) (start .args .number) (pre .1) (pre .2) (pre .3))
+    omega (arith, owner-inside _ (pre .0) (start .args .from) (start .args .width) (start .args .number) (pre .1) (pre .2) (pre .3))
 
 returns : tie.Need-returns
 returns c =
-    let start = c .before .before .before in
+    let start = c .before .before in
     let pre = start .pre in
-    c .get-u8 .ensures ∙ owner-stands _ (pre .0) (start .args .n) (start .args .number) (pre .1) (pre .2) (pre .3) _ (c .before .account-from .ensures)
+    c .get-u8 .ensures ∙ owner-stands _ (pre .0) (start .args .from) (start .args .width) (start .args .number) (pre .1) (pre .2) (pre .3)
 
 pub owner-spec : {M : Type 1} → statement M
-owner-spec = tie.close (tie.spec account-from-requires get-u8-requires returns)
+owner-spec = tie.close (tie.spec sub-get-u8 mul-get-u8 add-get-u8 get-u8-requires returns)

@@ -1,24 +1,24 @@
 -- The sum and what the rows of later numbers weigh make what all rows weigh.
 use Prim.Native.Nat.{_+_, _-_, _*_, _≤_}
-use mathlib.Core.Path.{_≡_}
+use mathlib.Core.Path.{_≡_, ap, _∙_}
 use native.Mathlib.Nat.{zero-add}
 use native.Mathlib.Omega.{arith}
 use lib.ListN.{length, drop}
 use borrow.Author.Needs.{needs}
 use Rattle.rules.specs.Basics.{total}
 use Rattle.rules.specs.Limits.{mostEnergy, mostPrice, mostHours, mostRows}
-use Rattle.rules.specs.Opening.{countsIn}
+use Rattle.rules.specs.Opening.{accountsFrom, accountEntry}
 use Rattle.image.specs.Valid.{bookIn}
-use Rattle.book.specs.Worth.{saleWorth}
+use Rattle.book.specs.Worth.{AccountsAt, saleWorth}
 use Rattle.book.proofs.StateLaws.{book-length}
 use Rattle.book.proofs.WorthParts.{rows-next, rows-done}
 use Rattle.book.proofs.worth.sales_worth.Statement.{statement}
 use Rattle.book.proofs.worth.sales_worth.Tie as tie
 
 abbrev Inv-loop : tie.InvT-loop
-Inv-loop book sums operator n rows sum₀ number₀ sum number =
+Inv-loop book sums operator from width rows sum₀ number₀ sum number =
     let b = bookIn book in
-    (n ≡ countsIn book)
+    AccountsAt from width book
     × (rows ≡ length (b .part .rows))
     × (rows ≤ mostRows)
     × (1 ≤ number)
@@ -27,29 +27,36 @@ Inv-loop book sums operator n rows sum₀ number₀ sum number =
     × (sum .0 + total (saleWorth (b .setup) operator) (drop (number - 1) (b .part .rows)) ≡ total (saleWorth (b .setup) operator) (b .part .rows))
 
 abbrev μ-loop : tie.MeasureT-loop
-μ-loop book sums operator n rows sum₀ number₀ sum number = rows + 1 - number
+μ-loop book sums operator from width rows sum₀ number₀ sum number = rows + 1 - number
 
 counts-requires : tie.Need-counts-requires Inv-loop μ-loop
 counts-requires c κs = omega (arith, book-length _ (c .before .before .pre .0))
+
+accounts-from-requires : tie.Need-accounts-from-requires Inv-loop μ-loop
+accounts-from-requires c κs = search needs
+
+account-entry-requires : tie.Need-account-entry-requires Inv-loop μ-loop
+account-entry-requires c κs = search needs
 
 row-count-requires : tie.Need-row-count-requires Inv-loop μ-loop
 row-count-requires c κs = search needs
 
 loop-holds : tie.Need-loop-holds Inv-loop μ-loop
-loop-holds c = (
-  c .before .counts .ensures,
-  c .row-count .ensures .0,
-  c .row-count .ensures .1,
-  omega arith,
-  omega arith,
-  omega arith,
-  zero-add _,
-)
+loop-holds c =
+    let read = c .before .before .before .counts .ensures in (
+      (c .before .before .accounts-from .ensures ∙ ap accountsFrom read, c .before .account-entry .ensures .0 ∙ ap accountEntry read),
+      c .row-count .ensures .0,
+      c .row-count .ensures .1,
+      omega arith,
+      omega arith,
+      omega arith,
+      zero-add _,
+    )
 
 row-sale-requires : tie.Need-row-sale-requires Inv-loop μ-loop
 row-sale-requires c κs =
     let l = c .before .loop in
-    let pre = c .before .before .before .before .before .before .pre in
+    let pre = c .before .before .before .before .before .before .before .before .pre in
     (pre .0, pre .1, l .inv .0, l .inv .3, omega (arith, l .inv .1))
 
 plus-requires : tie.Need-plus-requires Inv-loop μ-loop
@@ -85,6 +92,8 @@ sales-worth-spec =
     Inv-loop
     μ-loop
     counts-requires
+    accounts-from-requires
+    account-entry-requires
     row-count-requires
     loop-holds
     row-sale-requires

@@ -7,10 +7,10 @@ use Rattle.rules.specs.declared.Counts.{Counts}
 use Rattle.rules.specs.Basics.{total, counting}
 use Rattle.rules.specs.Limits.{mostEnergy, mostPrice, mostHours, mostAccounts}
 use Rattle.rules.specs.Books.{accountCount}
-use Rattle.rules.specs.Opening.{countsIn}
+use Rattle.rules.specs.Opening.{accountsFrom, accountEntry}
 use Rattle.rules.proofs.Basics.CountingLaws.{sum-begins, sum-next, sum-done}
 use Rattle.image.specs.Valid.{bookIn}
-use Rattle.book.specs.Worth.{addedRows, shortShare, netWith}
+use Rattle.book.specs.Worth.{AccountsAt, addedRows, shortShare, netWith}
 use Rattle.book.proofs.StateLaws.{book-length, book-is-sound}
 use Rattle.book.proofs.WorthParts.{accounts-in}
 use Rattle.book.proofs.ShortLaws.{short-by-account}
@@ -18,11 +18,11 @@ use Rattle.book.proofs.worth.short_worth.Statement.{statement}
 use Rattle.book.proofs.worth.short_worth.Tie as tie
 
 abbrev Inv-loop : tie.InvT-loop
-Inv-loop book operator added n sum₀ account₀ sum account =
+Inv-loop book operator added n from width sum₀ account₀ sum account =
     let b = bookIn book in
     (n .accounts ≡ accountCount (b .setup))
     × (n .accounts ≤ mostAccounts)
-    × (n ≡ countsIn book)
+    × AccountsAt from width book
     × (1 ≤ account)
     × (account ≤ n .accounts + 1)
     × (sum .0 ≤ (account - 1) * (mostHours * (2 * mostEnergy * mostPrice)))
@@ -30,19 +30,25 @@ Inv-loop book operator added n sum₀ account₀ sum account =
     ≡ total (shortShare (b .setup) (netWith (b .part .rows) (addedRows added)) operator) (counting (accountCount (b .setup)) 1))
 
 abbrev μ-loop : tie.MeasureT-loop
-μ-loop book operator added n sum₀ account₀ sum account = n .accounts + 1 - account
+μ-loop book operator added n from width sum₀ account₀ sum account = n .accounts + 1 - account
 
 counts-requires : tie.Need-counts-requires Inv-loop μ-loop
 counts-requires c κs = omega (arith, book-length _ (c .before .pre .0))
 
+accounts-from-requires : tie.Need-accounts-from-requires Inv-loop μ-loop
+accounts-from-requires c κs = search needs
+
+account-entry-requires : tie.Need-account-entry-requires Inv-loop μ-loop
+account-entry-requires c κs = search needs
+
 loop-holds : tie.Need-loop-holds Inv-loop μ-loop
 loop-holds c =
-    let start = c .before .before in
-    let read = c .counts .ensures in
+    let start = c .before .before .before .before in
+    let read = c .before .before .counts .ensures in
     let accounts = ap (λ (n : Counts). n .accounts) read ∙ accounts-in _ (start .pre .0) in (
       accounts,
       omega (arith, accounts, book-is-sound _ (start .pre .0) .setup-sound .accounts-high),
-      read,
+      (c .before .accounts-from .ensures ∙ ap accountsFrom read, c .account-entry .ensures .0 ∙ ap accountEntry read),
       omega arith,
       omega arith,
       omega arith,
@@ -52,7 +58,7 @@ loop-holds c =
 short-share-requires : tie.Need-short-share-requires Inv-loop μ-loop
 short-share-requires c κs =
     let l = c .before .before .loop in
-    let pre = c .before .before .before .before .before .pre in
+    let pre = c .before .before .before .before .before .before .before .pre in
     (pre .0, l .inv .2, (l .inv .3, omega (arith, l .inv .0)), pre .1)
 
 plus-requires : tie.Need-plus-requires Inv-loop μ-loop
@@ -89,6 +95,8 @@ short-worth-spec =
     Inv-loop
     μ-loop
     counts-requires
+    accounts-from-requires
+    account-entry-requires
     loop-holds
     short-share-requires
     plus-requires
