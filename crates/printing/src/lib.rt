@@ -5,6 +5,8 @@ ghost use Prim.Native.Nat.{_+_, _≤_};
 ghost use lib.ListN.{length};
 ghost use Rattle.rules.specs.Limits.{bookSize, longestStream};
 ghost use Rattle.walk.specs.Lent.{stepRoom};
+ghost use Rattle.io.specs.Counts.{Counts};
+ghost use Rattle.printing.specs.Rounds.{Replayed};
 use image::layout::BOOK_SIZE;
 use walk::Gathered;
 use walk::gathering::gather;
@@ -35,26 +37,55 @@ pub fn line_buffer() -> [u8; LINES_ROOM]
     [0; LINES_ROOM]
 }
 
-// Writes the gathered lines. Says whether the walk goes on, which a failed write ends.
-fn write_lines(out: &[u8], gathered: Gathered) -> bool
-    requires { ⌜ gathered .end ≤ length (now out) ⌝ }
-    ensures { λ r. ⌜ (r ≡ true → gathered .«goes_on» ≡ true) ⌝ }
-{
-    let end = gathered.end;
-    if io::write_all(libc::STDOUT_FILENO, &out[..end]) {
-        return gathered.goes_on;
-    }
-    false
+// What was read of a stream: how many bytes, and whether a read failed.
+pub struct Input {
+    pub length: usize,
+    pub failed: bool,
 }
 
-// Replays a stream, in bytes lent for its book and for the lines that are written together.
-pub fn replay_day(stream: &[u8], book: &mut [u8], out: &mut [u8])
+// Reads standard input until it ends, the buffer is full, or a read fails.
+pub fn read_stream(space: &mut [u8]) -> Input
+    ensures { λ i. ⌜ Counts (i .length) (now (space .exit)) ⌝ }
+{
+    let mut filled = 0;
+    while filled < space.len() {
+        let got = libc::read(libc::STDIN_FILENO, &mut space[filled..]);
+        let more = io::count(got, &space[filled..]);
+        if more == 0 {
+            return Input {
+                length: filled,
+                failed: got < 0,
+            };
+        }
+        filled += more;
+    }
+    Input {
+        length: filled,
+        failed: false,
+    }
+}
+
+// Writes the gathered lines, and says whether all were written.
+fn write_lines(out: &[u8], gathered: Gathered) -> bool
+    requires { ⌜ gathered .end ≤ length (now out) ⌝ }
+{
+    let end = gathered.end;
+    io::write_all(libc::STDOUT_FILENO, &out[..end])
+}
+
+// Replays a stream, in bytes lent for its book and for the lines that are written together. Says whether all lines were written: a write that
+// fails ends the replay.
+pub fn replay_day(stream: &[u8], book: &mut [u8], out: &mut [u8]) -> bool
     requires { ⌜ (length (now book) ≡ bookSize) × (stepRoom ≤ length (now out)) ⌝ }
+    ensures { λ w. ⌜ Replayed (now (stream .entry)) (now (book .entry)) (now (out .entry)) (now (book .exit)) (now (out .exit)) w ⌝ }
 {
     let first = gather_first(stream, book, out);
     let mut gathered = gather(stream, first, book, out);
-    while write_lines(out, gathered) {
+    let mut written = write_lines(out, gathered);
+    while written & gathered.goes_on {
         gathered.end = 0;
         gathered = gather(stream, gathered, book, out);
+        written = write_lines(out, gathered);
     }
+    written
 }

@@ -6,7 +6,7 @@ ghost use lib.ListN.{length};
 ghost use Rattle.rules.specs.Limits.{bookSize};
 ghost use Rattle.rules.specs.Replay.{replay, text};
 ghost use Rattle.walk.specs.Lent.{stepRoom};
-ghost use Rattle.walk.specs.Gathering.{Underway, wholeText};
+ghost use Rattle.walk.specs.Gathering.{Underway, Follows, soFar, firstGathered, itemGathered, allGathered, wholeText};
 use crate::Gathered;
 use crate::steps::STEP_ROOM;
 use crate::steps::begin;
@@ -15,8 +15,9 @@ use crate::steps::walk_item;
 // Begins the walk: opens the book of item 0, and puts the lines of the beginning at the front of `out`.
 pub fn gather_first(stream: &[u8], book: &mut [u8], out: &mut [u8]) -> Gathered
     requires { ⌜ (length (now book) ≡ bookSize) × (stepRoom ≤ length (now out)) ⌝ }
-    ensures whole { λ g. ⌜ wholeText (now (stream .entry)) (now (book .exit)) (now (out .exit)) g ≡ text (replay (now (stream .entry))) ⌝ }
-    ensures underway { λ g. ⌜ Underway (now (stream .entry)) (now (book .exit)) (now (out .exit)) g ⌝ }
+    ensures left { λ g. ⌜ soFar g (now (book .exit)) (now (out .exit)) ≡ firstGathered (now (stream .entry)) (now (book .entry)) (now (out .entry)) ⌝ }
+    ensures whole { λ g. ⌜ wholeText (now (stream .entry)) (soFar g (now (book .exit)) (now (out .exit))) ≡ text (replay (now (stream .entry))) ⌝ }
+    ensures underway { λ g. ⌜ Underway (now (stream .entry)) (soFar g (now (book .exit)) (now (out .exit))) ⌝ }
 {
     let first = begin(stream, book, out);
     Gathered {
@@ -30,9 +31,9 @@ pub fn gather_first(stream: &[u8], book: &mut [u8], out: &mut [u8]) -> Gathered
 // Walks the next item, and puts its lines behind those that are gathered.
 fn gather_item(stream: &[u8], gathered: Gathered, book: &mut [u8], out: &mut [u8]) -> Gathered
     requires { ⌜ (gathered .«goes_on» ≡ true) × (gathered .end + stepRoom ≤ length (now out)) ⌝ }
-    requires { ⌜ Underway (now stream) (now book) (now out) gathered ⌝ }
-    ensures whole { λ g. ⌜ wholeText (now (stream .entry)) (now (book .exit)) (now (out .exit)) g ≡ wholeText (now (stream .entry)) (now (book .entry)) (now (out .entry)) gathered ⌝ }
-    ensures underway { λ g. ⌜ Underway (now (stream .entry)) (now (book .exit)) (now (out .exit)) g ⌝ }
+    requires { ⌜ Underway (now stream) (soFar gathered (now book) (now out)) ⌝ }
+    ensures left { λ g. ⌜ soFar g (now (book .exit)) (now (out .exit)) ≡ itemGathered (now (stream .entry)) (soFar gathered (now (book .entry)) (now (out .entry))) ⌝ }
+    ensures follows { λ g. ⌜ Follows (now (stream .entry)) (soFar gathered (now (book .entry)) (now (out .entry))) (soFar g (now (book .exit)) (now (out .exit))) ⌝ }
     ensures counted { λ g. ⌜ g .number ≡ gathered .number + 1 ⌝ }
 {
     let from = gathered.end;
@@ -49,9 +50,9 @@ fn gather_item(stream: &[u8], gathered: Gathered, book: &mut [u8], out: &mut [u8
 // Walks on, and gathers the lines of each item behind those that are gathered, until the walk ends or `out` has no room for another step.
 pub fn gather(stream: &[u8], gathered: Gathered, book: &mut [u8], out: &mut [u8]) -> Gathered
     requires { ⌜ stepRoom ≤ length (now out) ⌝ }
-    requires { ⌜ Underway (now stream) (now book) (now out) gathered ⌝ }
-    ensures whole { λ g. ⌜ wholeText (now (stream .entry)) (now (book .exit)) (now (out .exit)) g ≡ wholeText (now (stream .entry)) (now (book .entry)) (now (out .entry)) gathered ⌝ }
-    ensures underway { λ g. ⌜ Underway (now (stream .entry)) (now (book .exit)) (now (out .exit)) g ⌝ }
+    requires { ⌜ Underway (now stream) (soFar gathered (now book) (now out)) ⌝ }
+    ensures left { λ g. ⌜ soFar g (now (book .exit)) (now (out .exit)) ≡ allGathered (now (stream .entry)) (soFar gathered (now (book .entry)) (now (out .entry))) ⌝ }
+    ensures follows { λ g. ⌜ Follows (now (stream .entry)) (soFar gathered (now (book .entry)) (now (out .entry))) (soFar g (now (book .exit)) (now (out .exit))) ⌝ }
     ensures further { λ g. ⌜ (gathered .«goes_on» ≡ true → gathered .end + stepRoom ≤ length (now (out .entry)) → gathered .number < g .number) ⌝ }
 {
     let last = out.len() - STEP_ROOM;

@@ -1,7 +1,5 @@
--- Only a step whose lines were written goes on.
-use Prim.Native.Nat.{ℕ}
-use mathlib.Core.Path.{_≡_, sym}
-use native.Mathlib.Omega.{arith}
+-- The lines stand within the buffer.
+use mathlib.Core.Path.{sym}
 use lib.Seq.{length-take-le}
 use borrow.Author.Needs.{needs}
 use Rattle.printing.proofs.write_lines.Statement.{statement}
@@ -16,9 +14,5 @@ write-all-requires c κs = search needs
 returns : tie.Need-returns
 returns c = search needs
 
-returns-2 : tie.Need-returns-2
-returns-2 c = λ e. let z : _≡_ {A = ℕ} 0 1 = cc in absurd (omega arith)
-
 pub write-lines-spec : {M : Type 1} → statement M
-write-lines-spec =
-    tie.close (tie.spec slice-aggregate-write-all write-all-requires returns returns-2)
+write-lines-spec = tie.close (tie.spec slice-aggregate-write-all write-all-requires returns)

@@ -1,6 +1,6 @@
 -- The lines of the beginning stand at the front; all that follows is to come.
 use native.Mathlib.Omega.{arith}
-use Rattle.walk.proofs.GatherLaws.{first-whole}
+use Rattle.walk.proofs.GatherLaws.{first-left, first-whole}
 use borrow.Author.Needs.{needs}
 use Rattle.walk.proofs.gathering.gather_first.Statement.{statement}
 use Rattle.walk.proofs.gathering.gather_first.Tie as tie
@@ -21,12 +21,15 @@ returns c =
     let (out, rest) = lines in
     let (bound, goes) = rest in
     let (opens, onward) = goes in (
-      first-whole _ _ _ answer book out,
-      record {
-        room = omega (arith, same-length-2 c);
-        counted = omega arith;
-        onward = λ on. (opens on, onward, omega arith);
-      },
+      first-left _ _ _ answer book out,
+      (
+        first-whole _ _ _ answer book out,
+        record {
+          room = omega (arith, same-length-2 c);
+          counted = omega arith;
+          onward = λ on. (opens on, onward, omega arith);
+        },
+      ),
     )
 
 pub gather-first-spec : {M : Type 1} → statement M

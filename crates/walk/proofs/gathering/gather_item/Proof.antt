@@ -3,7 +3,7 @@ use mathlib.Core.Path.{refl}
 use native.Mathlib.Omega.{arith}
 use lib.ListN.{length-take, length-drop}
 use Rattle.wire.proofs.NumberLaws.{bytes-known}
-use Rattle.walk.proofs.GatherLaws.{item-whole}
+use Rattle.walk.proofs.GatherLaws.{item-left, item-whole}
 use borrow.Author.Needs.{needs}
 use Rattle.walk.proofs.gathering.gather_item.Statement.{statement}
 use Rattle.walk.proofs.gathering.gather_item.Tie as tie
@@ -45,12 +45,16 @@ returns c =
     let (bound, goes) = rest in
     let (still, onward) = goes in
     let whole = item-whole _ _ _ _ (start .pre .0 .0) bytes (on .0) (start .pre .1 .room) _ _ answer book out in (
-      whole,
+      item-left _ _ _ _ (start .pre .0 .0) bytes (on .0) (start .pre .1 .room) answer book out,
       (
         record {
-          room = omega (arith, same-length-2 c);
-          counted = omega arith;
-          onward = λ t. let f = onward t in (still, f .1, omega arith);
+          whole = whole;
+          underway =
+              record {
+                room = omega (arith, same-length-2 c);
+                counted = omega arith;
+                onward = λ t. let f = onward t in (still, f .1, omega arith);
+              };
         },
         refl,
       ),
