@@ -2,20 +2,17 @@
 -- changes no byte.
 use Prim.Native.Nat.{ℕ}
 use mathlib.Core.List.{List, [], _∷_}
-use mathlib.Core.Option.{Option}
+use mathlib.Core.Option.{Option, none, some}
 use lib.ListN.{length}
 use lib.Dec.{ltb}
+use lib.IntN.{ℤ}
 use Rattle.wire.specs.Numbers.{le, signed}
+use Rattle.units.specs.declared.MilliCents.{MilliCents}
 use Rattle.rules.specs.declared.Outcome.{Outcome}
-use Rattle.rules.specs.declared.Reading.{Reading}
-use Rattle.rules.specs.declared.NetReading.{NetReading}
-use Rattle.rules.specs.declared.ExposureReading.{ExposureReading}
 use Rattle.rules.specs.declared.Refusal.{Refusal}
 use Rattle.rules.specs.declared.Refusal.the-variants.{BufferShort}
-use Rattle.rules.specs.Verdicts.{refused, firstToApply, outcomeOf, _⇒_}
+use Rattle.rules.specs.Verdicts.{Numbers, ReadOut, numbers, firstToApply, outcomeOf, _⇒_}
 use Rattle.rules.specs.Requests.{filled, unlessRefused}
-use Rattle.rules.specs.Readings.{positionFigure}
-use Rattle.abi.specs.Fields.{requestBytes}
 
 -- ---- bytes told to a buffer
 
@@ -28,32 +25,20 @@ lentOutcome said buffer = outcomeOf (lentRefusal said buffer) 0
 unfoldable pub lentBytes : List ℕ → List ℕ → List ℕ
 lentBytes said buffer = unlessRefused (lentRefusal said buffer) buffer (filled said buffer)
 
--- ---- a net position: its figure in 8 bytes, signed
+-- ---- a reading whose value is written to a buffer, in bytes that `say` gives: its own refusal, or that of the buffer
 
-abbrev pub netOutcome : NetReading → List ℕ → Outcome
-netOutcome (NetReading.Stands p) figure = lentOutcome (signed 8 (positionFigure p)) figure
-netOutcome (NetReading.Unread r) figure = refused r
+abbrev pub lentNumbers : {A : Type 0} → (A → List ℕ) → ReadOut A → List ℕ → Numbers
+lentNumbers say (n, none) buffer = n
+lentNumbers say (n, some x) buffer = numbers (lentOutcome (say x) buffer)
 
-abbrev pub netBytes : NetReading → List ℕ → List ℕ
-netBytes (NetReading.Stands p) figure = lentBytes (signed 8 (positionFigure p)) figure
-netBytes (NetReading.Unread r) figure = figure
+abbrev pub lentFilled : {A : Type 0} → (A → List ℕ) → ReadOut A → List ℕ → List ℕ
+lentFilled say (n, none) buffer = buffer
+lentFilled say (n, some x) buffer = lentBytes (say x) buffer
 
--- ---- an exposure: 8 bytes
+-- a net position: its figure in 8 bytes, signed
+abbrev pub netBytes : ℤ → List ℕ
+netBytes z = signed 8 z
 
-abbrev pub exposureOutcome : ExposureReading → List ℕ → Outcome
-exposureOutcome (ExposureReading.Stands m) figure = lentOutcome (le 8 (m .0)) figure
-exposureOutcome (ExposureReading.Unread r) figure = refused r
-
-abbrev pub exposureBytes : ExposureReading → List ℕ → List ℕ
-exposureBytes (ExposureReading.Stands m) figure = lentBytes (le 8 (m .0)) figure
-exposureBytes (ExposureReading.Unread r) figure = figure
-
--- ---- a request: its fields in 34 bytes
-
-abbrev pub readOutcome : Reading → List ℕ → Outcome
-readOutcome (Reading.Read q) fields = lentOutcome (requestBytes q) fields
-readOutcome (Reading.Unread r) fields = refused r
-
-abbrev pub readBytes : Reading → List ℕ → List ℕ
-readBytes (Reading.Read q) fields = lentBytes (requestBytes q) fields
-readBytes (Reading.Unread r) fields = fields
+-- an exposure: 8 bytes
+abbrev pub exposureBytes : MilliCents → List ℕ
+exposureBytes m = le 8 (m .0)

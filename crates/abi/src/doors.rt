@@ -2,13 +2,14 @@
 ghost use mathlib.Core.Path.{_≡_};
 ghost use Rattle.rules.specs.Verdicts.{numbers};
 ghost use Rattle.rules.specs.Opening.{openOutcome};
-ghost use Rattle.rules.specs.Requests.{reading};
+ghost use Rattle.rules.specs.Requests.{reading, requestReadOut};
+ghost use Rattle.rules.specs.Readings.{netReadOut, exposureReadOut};
 ghost use Rattle.image.specs.Valid.{isBook};
 ghost use Rattle.book.specs.Doors.{openBytes, netAnswer, exposureAnswer};
 ghost use Rattle.day.specs.Doors.{callAnswer, callWith};
 ghost use Rattle.abi.specs.Packing.{packed, unpacked};
-ghost use Rattle.abi.specs.Lending.{netOutcome, netBytes, exposureOutcome, exposureBytes, readOutcome, readBytes};
-ghost use Rattle.abi.specs.Fields.{fieldsOutcome, fieldsWritten};
+ghost use Rattle.abi.specs.Lending.{lentNumbers, lentFilled, netBytes, exposureBytes};
+ghost use Rattle.abi.specs.Fields.{requestBytes, fieldsOutcome, fieldsWritten};
 use crate::fields::FIELDS_SIZE;
 use crate::fields::request_in;
 use crate::lending::lend_exposure;
@@ -58,9 +59,9 @@ pub extern "C" fn energy_book_call(
 // The net position of an account in an hour, as a signed figure in the first 8 bytes of the buffer.
 #[no_mangle]
 pub extern "C" fn energy_book_net(book: &[u8], account: u8, hour: u8, figure: &mut [u8]) -> u64
-    ensures answer { λ r. ⌜ r ≡ packed (numbers (netOutcome (netAnswer (now (book .entry)) account hour) (now (figure .entry)))) ⌝ }
-    ensures apart { λ r. ⌜ unpacked r ≡ numbers (netOutcome (netAnswer (now (book .entry)) account hour) (now (figure .entry))) ⌝ }
-    ensures filled { λ _. ⌜ now (figure .exit) ≡ netBytes (netAnswer (now (book .entry)) account hour) (now (figure .entry)) ⌝ }
+    ensures answer { λ r. ⌜ r ≡ packed (lentNumbers netBytes (netReadOut (netAnswer (now (book .entry)) account hour)) (now (figure .entry))) ⌝ }
+    ensures apart { λ r. ⌜ unpacked r ≡ lentNumbers netBytes (netReadOut (netAnswer (now (book .entry)) account hour)) (now (figure .entry)) ⌝ }
+    ensures filled { λ _. ⌜ now (figure .exit) ≡ lentFilled netBytes (netReadOut (netAnswer (now (book .entry)) account hour)) (now (figure .entry)) ⌝ }
 {
     let reading = day::doors::net(book, account, hour);
     pack(lend_net(reading, figure))
@@ -69,9 +70,9 @@ pub extern "C" fn energy_book_net(book: &[u8], account: u8, hour: u8, figure: &m
 // The exposure of an operator, in the first 8 bytes of the buffer.
 #[no_mangle]
 pub extern "C" fn energy_book_exposure(book: &[u8], operator: u8, figure: &mut [u8]) -> u64
-    ensures answer { λ r. ⌜ r ≡ packed (numbers (exposureOutcome (exposureAnswer (now (book .entry)) operator) (now (figure .entry)))) ⌝ }
-    ensures apart { λ r. ⌜ unpacked r ≡ numbers (exposureOutcome (exposureAnswer (now (book .entry)) operator) (now (figure .entry))) ⌝ }
-    ensures filled { λ _. ⌜ now (figure .exit) ≡ exposureBytes (exposureAnswer (now (book .entry)) operator) (now (figure .entry)) ⌝ }
+    ensures answer { λ r. ⌜ r ≡ packed (lentNumbers exposureBytes (exposureReadOut (exposureAnswer (now (book .entry)) operator)) (now (figure .entry))) ⌝ }
+    ensures apart { λ r. ⌜ unpacked r ≡ lentNumbers exposureBytes (exposureReadOut (exposureAnswer (now (book .entry)) operator)) (now (figure .entry)) ⌝ }
+    ensures filled { λ _. ⌜ now (figure .exit) ≡ lentFilled exposureBytes (exposureReadOut (exposureAnswer (now (book .entry)) operator)) (now (figure .entry)) ⌝ }
 {
     let reading = day::doors::exposure(book, operator);
     pack(lend_exposure(reading, figure))
@@ -80,9 +81,9 @@ pub extern "C" fn energy_book_exposure(book: &[u8], operator: u8, figure: &mut [
 // What a record says: the fields of its request, in the first 34 bytes of the buffer.
 #[no_mangle]
 pub extern "C" fn energy_book_read(bytes: &[u8], fields: &mut [u8]) -> u64
-    ensures answer { λ r. ⌜ r ≡ packed (numbers (readOutcome (reading (now (bytes .entry))) (now (fields .entry)))) ⌝ }
-    ensures apart { λ r. ⌜ unpacked r ≡ numbers (readOutcome (reading (now (bytes .entry))) (now (fields .entry))) ⌝ }
-    ensures filled { λ _. ⌜ now (fields .exit) ≡ readBytes (reading (now (bytes .entry))) (now (fields .entry)) ⌝ }
+    ensures answer { λ r. ⌜ r ≡ packed (lentNumbers requestBytes (requestReadOut (reading (now (bytes .entry)))) (now (fields .entry))) ⌝ }
+    ensures apart { λ r. ⌜ unpacked r ≡ lentNumbers requestBytes (requestReadOut (reading (now (bytes .entry)))) (now (fields .entry)) ⌝ }
+    ensures filled { λ _. ⌜ now (fields .exit) ≡ lentFilled requestBytes (requestReadOut (reading (now (bytes .entry)))) (now (fields .entry)) ⌝ }
 {
     let said = day::doors::read(bytes);
     pack(lend_request(said, fields))

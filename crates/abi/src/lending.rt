@@ -2,8 +2,11 @@
 ghost use mathlib.Core.Path.{_≡_};
 ghost use Rattle.wire.specs.Numbers.{le, signed};
 ghost use lib.IntN.{pos, negℤ};
-ghost use Rattle.rules.specs.Readings.{positionFigure};
-ghost use Rattle.abi.specs.Lending.{lentOutcome, lentBytes, netOutcome, netBytes, exposureOutcome, exposureBytes, readOutcome, readBytes};
+ghost use Rattle.rules.specs.Verdicts.{numbers};
+ghost use Rattle.rules.specs.Requests.{requestReadOut};
+ghost use Rattle.rules.specs.Readings.{positionFigure, netReadOut, exposureReadOut};
+ghost use Rattle.abi.specs.Fields.{requestBytes};
+ghost use Rattle.abi.specs.Lending.{lentOutcome, lentBytes, lentNumbers, lentFilled, netBytes, exposureBytes};
 use crate::fields::request_bytes;
 use rules::ExposureReading;
 use rules::NetReading;
@@ -69,8 +72,8 @@ fn position_word(p: Position) -> u64
 
 // A net position: 8 bytes, signed.
 pub fn lend_net(reading: NetReading, figure: &mut [u8]) -> Outcome
-    ensures answer { λ o. ⌜ o ≡ netOutcome reading (now (figure .entry)) ⌝ }
-    ensures filled { λ _. ⌜ now (figure .exit) ≡ netBytes reading (now (figure .entry)) ⌝ }
+    ensures answer { λ o. ⌜ numbers o ≡ lentNumbers netBytes (netReadOut reading) (now (figure .entry)) ⌝ }
+    ensures filled { λ _. ⌜ now (figure .exit) ≡ lentFilled netBytes (netReadOut reading) (now (figure .entry)) ⌝ }
 {
     match reading {
         NetReading::Unread(r) => Outcome {
@@ -85,8 +88,8 @@ pub fn lend_net(reading: NetReading, figure: &mut [u8]) -> Outcome
 
 // An exposure: 8 bytes.
 pub fn lend_exposure(reading: ExposureReading, figure: &mut [u8]) -> Outcome
-    ensures answer { λ o. ⌜ o ≡ exposureOutcome reading (now (figure .entry)) ⌝ }
-    ensures filled { λ _. ⌜ now (figure .exit) ≡ exposureBytes reading (now (figure .entry)) ⌝ }
+    ensures answer { λ o. ⌜ numbers o ≡ lentNumbers exposureBytes (exposureReadOut reading) (now (figure .entry)) ⌝ }
+    ensures filled { λ _. ⌜ now (figure .exit) ≡ lentFilled exposureBytes (exposureReadOut reading) (now (figure .entry)) ⌝ }
 {
     match reading {
         ExposureReading::Unread(r) => Outcome {
@@ -101,8 +104,8 @@ pub fn lend_exposure(reading: ExposureReading, figure: &mut [u8]) -> Outcome
 
 // A request: its fields in 34 bytes.
 pub fn lend_request(reading: Reading, fields: &mut [u8]) -> Outcome
-    ensures answer { λ o. ⌜ o ≡ readOutcome reading (now (fields .entry)) ⌝ }
-    ensures filled { λ _. ⌜ now (fields .exit) ≡ readBytes reading (now (fields .entry)) ⌝ }
+    ensures answer { λ o. ⌜ numbers o ≡ lentNumbers requestBytes (requestReadOut reading) (now (fields .entry)) ⌝ }
+    ensures filled { λ _. ⌜ now (fields .exit) ≡ lentFilled requestBytes (requestReadOut reading) (now (fields .entry)) ⌝ }
 {
     match reading {
         Reading::Unread(r) => Outcome {

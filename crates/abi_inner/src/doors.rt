@@ -4,11 +4,11 @@
 ghost use mathlib.Core.Path.{_≡_};
 ghost use mathlib.Core.Bool.{true};
 ghost use Rattle.rules.specs.Verdicts.{numbers};
-ghost use Rattle.rules.specs.Readings.{netReading, exposureReading};
+ghost use Rattle.rules.specs.Readings.{netReading, netReadOut, exposureReading, exposureReadOut};
 ghost use Rattle.image.specs.Valid.{isBook, bookIn};
 ghost use Rattle.day.specs.Doors.{callAnswer, callWith};
 ghost use Rattle.abi.specs.Packing.{packed, unpacked};
-ghost use Rattle.abi.specs.Lending.{netOutcome, netBytes, exposureOutcome, exposureBytes};
+ghost use Rattle.abi.specs.Lending.{lentNumbers, lentFilled, netBytes, exposureBytes};
 use abi::lending::lend_exposure;
 use abi::lending::lend_net;
 use abi::packing::pack;
@@ -37,9 +37,9 @@ pub extern "C" fn energy_book_call_in(
 #[no_mangle]
 pub extern "C" fn energy_book_net_in(book: &[u8], account: u8, hour: u8, figure: &mut [u8]) -> u64
     requires { ⌜ isBook (now book) ≡ true ⌝ }
-    ensures answer { λ r. ⌜ r ≡ packed (numbers (netOutcome (netReading (bookIn (now (book .entry))) account hour) (now (figure .entry)))) ⌝ }
-    ensures apart { λ r. ⌜ unpacked r ≡ numbers (netOutcome (netReading (bookIn (now (book .entry))) account hour) (now (figure .entry))) ⌝ }
-    ensures filled { λ _. ⌜ now (figure .exit) ≡ netBytes (netReading (bookIn (now (book .entry))) account hour) (now (figure .entry)) ⌝ }
+    ensures answer { λ r. ⌜ r ≡ packed (lentNumbers netBytes (netReadOut (netReading (bookIn (now (book .entry))) account hour)) (now (figure .entry))) ⌝ }
+    ensures apart { λ r. ⌜ unpacked r ≡ lentNumbers netBytes (netReadOut (netReading (bookIn (now (book .entry))) account hour)) (now (figure .entry)) ⌝ }
+    ensures filled { λ _. ⌜ now (figure .exit) ≡ lentFilled netBytes (netReadOut (netReading (bookIn (now (book .entry))) account hour)) (now (figure .entry)) ⌝ }
 {
     let reading = day::doors::net_in(book, account, hour);
     pack(lend_net(reading, figure))
@@ -49,9 +49,9 @@ pub extern "C" fn energy_book_net_in(book: &[u8], account: u8, hour: u8, figure:
 #[no_mangle]
 pub extern "C" fn energy_book_exposure_in(book: &[u8], operator: u8, figure: &mut [u8]) -> u64
     requires { ⌜ isBook (now book) ≡ true ⌝ }
-    ensures answer { λ r. ⌜ r ≡ packed (numbers (exposureOutcome (exposureReading (bookIn (now (book .entry))) operator) (now (figure .entry)))) ⌝ }
-    ensures apart { λ r. ⌜ unpacked r ≡ numbers (exposureOutcome (exposureReading (bookIn (now (book .entry))) operator) (now (figure .entry))) ⌝ }
-    ensures filled { λ _. ⌜ now (figure .exit) ≡ exposureBytes (exposureReading (bookIn (now (book .entry))) operator) (now (figure .entry)) ⌝ }
+    ensures answer { λ r. ⌜ r ≡ packed (lentNumbers exposureBytes (exposureReadOut (exposureReading (bookIn (now (book .entry))) operator)) (now (figure .entry))) ⌝ }
+    ensures apart { λ r. ⌜ unpacked r ≡ lentNumbers exposureBytes (exposureReadOut (exposureReading (bookIn (now (book .entry))) operator)) (now (figure .entry)) ⌝ }
+    ensures filled { λ _. ⌜ now (figure .exit) ≡ lentFilled exposureBytes (exposureReadOut (exposureReading (bookIn (now (book .entry))) operator)) (now (figure .entry)) ⌝ }
 {
     let reading = day::doors::exposure_in(book, operator);
     pack(lend_exposure(reading, figure))

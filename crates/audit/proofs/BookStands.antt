@@ -12,7 +12,7 @@ use Rattle.wire.specs.Regions.{zerosFrom}
 use Rattle.wire.specs.Parts.{chunks}
 use Rattle.wire.proofs.SlotLaws.{length-chunks, chunks-front}
 use Rattle.rules.specs.declared.Row.{Row}
-use Rattle.rules.specs.Basics.{if_then_else_, any, every, allOf, isSome}
+use Rattle.rules.specs.Basics.{if_then_else_, anyPasses, every, allOf, isSome}
 use Rattle.rules.specs.Limits.{mostHours, mostOperators, mostSchedules, bookSize}
 use Rattle.rules.specs.Books.{Setup, Part, Book}
 use Rattle.rules.specs.Opening.{countsIn, setupOf}
@@ -133,8 +133,8 @@ module _ (s : List ℕ) where
   present-rows o t = ap (λ (p : Part). p .rows) (part-places mostHours s presentAt (countsIn s .operators) o (few-rows mostHours s presentAt t))
 
   none-left : here .part .rows ≡ rowsOf s presentAt
-      → (eqb phase 1 || not (any pending (here .part .rows))) ≡ (eqb phase 1 || not (any pending (rowsOf s presentAt)))
-  none-left e = ap (λ (r : List Row). eqb phase 1 || not (any pending r)) e
+      → (eqb phase 1 || not (anyPasses pending (here .part .rows))) ≡ (eqb phase 1 || not (anyPasses pending (rowsOf s presentAt)))
+  none-left e = ap (λ (r : List Row). eqb phase 1 || not (anyPasses pending r)) e
 
   none-yet : (not (eqb phase 1) || eqb (length (here .schedules)) 0) ≡ (not (eqb phase 1) || eqb (numberAt s scheduleCountAt 2) 0)
   none-yet = ap (λ (n : ℕ). not (eqb phase 1) || eqb n 0) (schedule-count s)

@@ -14,7 +14,7 @@ use borrow.Author.Tests.{ltb-true, ltb-false, eqb-true, eqb-false, eq-eqb, ne-eq
 use Rattle.wire.specs.Numbers.{Bytes}
 use Rattle.wire.proofs.NumberLaws.{number-at-small}
 use Rattle.rules.specs.declared.Row.{Row}
-use Rattle.rules.specs.Basics.{any}
+use Rattle.rules.specs.Basics.{anyPasses}
 use Rattle.rules.specs.Registration.{pending, alike}
 use Rattle.rules.proofs.Basics.Tests.{test-same, and-both, or-neither}
 use Rattle.rules.proofs.Rows.RowTests.{alike-by, alike-true}
@@ -175,14 +175,14 @@ module _ (x r : Row) (k i : ℕ) (apart : k ≡ i → ⊥) (px : Parties x) (pr 
 -- ---- keys apart are rows with no twins
 
 -- a test before a search is a test before each
-any-each : {A : Type 0} (b : Bool) (p : A → Bool) (x : A) (xs : List A) → (b && any p (x ∷ xs)) ≡ ((b && p x) || (b && any p xs))
-unfolding any
+any-each : {A : Type 0} (b : Bool) (p : A → Bool) (x : A) (xs : List A) → (b && anyPasses p (x ∷ xs)) ≡ ((b && p x) || (b && anyPasses p xs))
+unfolding anyPasses
 any-each false p x xs = refl
 any-each true p x xs = go (p x) refl
   where
-    go : (t : Bool) → p x ≡ t → any p (x ∷ xs) ≡ (p x || any p xs)
-    go true e = rw (e, any)
-    go false e = rw (e, any)
+    go : (t : Bool) → p x ≡ t → anyPasses p (x ∷ xs) ≡ (p x || anyPasses p xs)
+    go true e = rw (e, anyPasses)
+    go false e = rw (e, anyPasses)
 
 module _ {s : List ℕ} (bytes : Bytes s) (at n : ℕ) (codes pairs : List ℕ) (keyed : Keyed s at n codes pairs) where
   abbrev row : ℕ → Row
@@ -193,8 +193,8 @@ module _ {s : List ℕ} (bytes : Bytes s) (at n : ℕ) (codes pairs : List ℕ) 
 
   among-rows : (i k m : ℕ) → i < k → k + m ≡ n
       → keyAmong codes pairs (row i .code) (pairOf i (row i)) k m
-      ≡ (pending (row i) && any (alike (row i .proposer) (row i .counterparty) (row i .code)) (rowsFrom s (at + rowWidth * k) m))
-  unfolding keyAmong any
+      ≡ (pending (row i) && anyPasses (alike (row i .proposer) (row i .counterparty) (row i .code)) (rowsFrom s (at + rowWidth * k) m))
+  unfolding keyAmong anyPasses
   among-rows i k zero l e = rw (rows-done s (at + rowWidth * k) 0 (omega arith)) (sym (and-false (pending (row i))))
   among-rows i k (suc m) l e =
       let h : k < n = omega arith in

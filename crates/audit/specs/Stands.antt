@@ -9,7 +9,7 @@ use lib.Dec.{eqb, leb}
 use Rattle.wire.specs.Numbers.{numberAt}
 use Rattle.wire.specs.Regions.{zerosFrom}
 use Rattle.rules.specs.declared.Row.{Row}
-use Rattle.rules.specs.Basics.{if_then_else_, any, every, allOf, within, Each}
+use Rattle.rules.specs.Basics.{if_then_else_, anyPasses, every, allOf, within, Each}
 use Rattle.rules.specs.Limits.{mostPrice, mostGuarantee, thousand, mostOperators, mostRows, mostSchedules, bookSize}
 use Rattle.rules.specs.Books.{Part}
 use Rattle.rules.specs.Opening.{countsIn, operatorsFrom, setupLength, setupOf, estimatesIn, guaranteeWidth}
@@ -118,7 +118,7 @@ phaseStandTests s =
     let flag = getD s flagAt 0 in
     within 1 phase 3
     ∷ leb flag 1
-    ∷ (eqb phase 1 || not (any pending (rowsOf s presentAt)))
+    ∷ (eqb phase 1 || not (anyPasses pending (rowsOf s presentAt)))
     ∷ (not (eqb phase 1) || eqb (numberAt s scheduleCountAt 2) 0)
     ∷ (eqb phase 1 || eqb flag 0)
     ∷ []

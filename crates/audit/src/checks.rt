@@ -4,7 +4,7 @@ ghost use mathlib.Core.Bool.{not};
 ghost use Prim.Native.Nat.{_+_, _*_, _≤_};
 ghost use lib.ListN.{length};
 ghost use lib.Dec.{leb};
-ghost use Rattle.rules.specs.Basics.{any, every};
+ghost use Rattle.rules.specs.Basics.{anyPasses, every};
 ghost use Rattle.rules.specs.Limits.{mostGuarantee};
 ghost use Rattle.rules.specs.Books.{Setup, accountCount, pointCount, periods};
 ghost use Rattle.rules.specs.Registration.{pending};
@@ -84,7 +84,7 @@ pub fn schedules_ok(s: &[u8], at: usize, n: usize, points: u8, hours: u8) -> boo
 // None of the `n` rows from `at` on is pending.
 pub fn none_pending(s: &[u8], at: usize, n: usize) -> bool
     requires { ⌜ at + rowWidth * n ≤ length (now s) ⌝ }
-    ensures { λ b. ⌜ b ≡ not (any pending (rowsFrom (now (s .entry)) at n)) ⌝ }
+    ensures { λ b. ⌜ b ≡ not (anyPasses pending (rowsFrom (now (s .entry)) at n)) ⌝ }
 {
     let mut ok = true;
     let mut k = at;

@@ -13,7 +13,7 @@ use Rattle.rules.specs.Basics.{isSome}
 use Rattle.rules.specs.Verdicts.{firstToApply}
 use Rattle.rules.specs.Books.{Book}
 use Rattle.rules.specs.Requests.{Kind, openBatch, undo, keep, closeGate, kindNumber}
-use Rattle.rules.specs.Calls.{_∈_, phaseOf, stateChecks}
+use Rattle.rules.specs.Calls.{_oneOf_, phaseOf, stateChecks}
 use Rattle.rules.proofs.Checks.KindTables.{same-kind}
 use Rattle.rules.proofs.Checks.Passed.{passed-12, passed-13}
 use Rattle.book.specs.Kinds.{decided}
@@ -29,7 +29,7 @@ module _ (P : Kind → Type 0) (i j k : Kind) where
   of-two-go false false e f m x y = let z : _≡_ {A = ℕ} 0 1 = cc in absurd (omega arith)
 
   -- what holds of both holds of the one that it is
-  of-two : k ∈ (i ∷ j ∷ []) ≡ true → P i → P j → P k
+  of-two : k oneOf (i ∷ j ∷ []) ≡ true → P i → P j → P k
   of-two m x y = of-two-go (eqb (kindNumber k) (kindNumber i)) (eqb (kindNumber k) (kindNumber j)) refl refl m x y
 
 -- ---- the tests
@@ -37,37 +37,37 @@ module _ (P : Kind → Type 0) (i j k : Kind) where
 module _ (b : Book) (q : Request) where
   module _ (first : b .phase ≡ 1) where
     -- 12, of opening a batch and of closing the gate
-    pub with-batch : (k : Kind) → k ∈ (openBatch ∷ closeGate ∷ []) ≡ true → isSome (b .saved) ≡ true → decided k b q ≡ some BatchOpen
+    pub with-batch : (k : Kind) → k oneOf (openBatch ∷ closeGate ∷ []) ≡ true → isSome (b .saved) ≡ true → decided k b q ≡ some BatchOpen
     unfolding decided stateChecks firstToApply
     with-batch k m o =
         of-two (λ i. decided i b q ≡ some BatchOpen) openBatch closeGate k m (rw (eq-eqb _ 1 first, o)) (rw (eq-eqb _ 1 first, o))
 
-    pub outside-batch : (k : Kind) → k ∈ (openBatch ∷ closeGate ∷ []) ≡ true → isSome (b .saved) ≡ false → decided k b q ≡ none
+    pub outside-batch : (k : Kind) → k oneOf (openBatch ∷ closeGate ∷ []) ≡ true → isSome (b .saved) ≡ false → decided k b q ≡ none
     unfolding decided stateChecks firstToApply
     outside-batch k m o =
         of-two (λ i. decided i b q ≡ none) openBatch closeGate k m (rw (eq-eqb _ 1 first, o)) (rw (eq-eqb _ 1 first, o))
 
     -- 13, of undo and of keep
-    pub without-batch : (k : Kind) → k ∈ (undo ∷ keep ∷ []) ≡ true → isSome (b .saved) ≡ false → decided k b q ≡ some NoBatch
+    pub without-batch : (k : Kind) → k oneOf (undo ∷ keep ∷ []) ≡ true → isSome (b .saved) ≡ false → decided k b q ≡ some NoBatch
     unfolding decided stateChecks firstToApply
     without-batch k m o =
         of-two (λ i. decided i b q ≡ some NoBatch) undo keep k m (rw (eq-eqb _ 1 first, o)) (rw (eq-eqb _ 1 first, o))
 
-    pub inside-batch : (k : Kind) → k ∈ (undo ∷ keep ∷ []) ≡ true → isSome (b .saved) ≡ true → decided k b q ≡ none
+    pub inside-batch : (k : Kind) → k oneOf (undo ∷ keep ∷ []) ≡ true → isSome (b .saved) ≡ true → decided k b q ≡ none
     unfolding decided stateChecks firstToApply
     inside-batch k m o =
         of-two (λ i. decided i b q ≡ none) undo keep k m (rw (eq-eqb _ 1 first, o)) (rw (eq-eqb _ 1 first, o))
 
 -- the phase of the two kinds that want no open batch, and of the two that want one
-pub phase-outside : (k : Kind) → k ∈ (openBatch ∷ closeGate ∷ []) ≡ true → phaseOf k ≡ 1
+pub phase-outside : (k : Kind) → k oneOf (openBatch ∷ closeGate ∷ []) ≡ true → phaseOf k ≡ 1
 phase-outside k m = of-two (λ i. phaseOf i ≡ 1) openBatch closeGate k m refl refl
 
-pub phase-inside : (k : Kind) → k ∈ (undo ∷ keep ∷ []) ≡ true → phaseOf k ≡ 1
+pub phase-inside : (k : Kind) → k oneOf (undo ∷ keep ∷ []) ≡ true → phaseOf k ≡ 1
 phase-inside k m = of-two (λ i. phaseOf i ≡ 1) undo keep k m refl refl
 
 -- what opening a batch accepts has none open, what undo and keep accept has one
 pub opening-finds-none : (b : Book) (q : Request) → decided openBatch b q ≡ none → b .saved ≡ none
 opening-finds-none b q d = passed-12 b q openBatch refl (decided-clear openBatch b q d)
 
-pub ending-finds-batch : (k : Kind) (b : Book) (q : Request) → k ∈ (undo ∷ keep ∷ []) ≡ true → decided k b q ≡ none → isSome (b .saved) ≡ true
+pub ending-finds-batch : (k : Kind) (b : Book) (q : Request) → k oneOf (undo ∷ keep ∷ []) ≡ true → decided k b q ≡ none → isSome (b .saved) ≡ true
 ending-finds-batch k b q m d = let (p, e) = passed-13 b q k m (decided-clear k b q d) in rw e

@@ -11,7 +11,7 @@ ghost use Rattle.rules.specs.declared.Request.{Request};
 ghost use Rattle.rules.specs.Limits.{mostHours, mostRows, bookSize};
 ghost use Rattle.rules.specs.Verdicts.{checked};
 ghost use Rattle.rules.specs.Requests.{Kind, openBatch, undo, keep, closeGate};
-ghost use Rattle.rules.specs.Calls.{_∈_};
+ghost use Rattle.rules.specs.Calls.{_oneOf_};
 ghost use Rattle.image.specs.Layout.{flagAt, savedAt, partSize};
 ghost use Rattle.image.specs.Valid.{isBook, bookIn, bookBytes};
 ghost use Rattle.book.specs.Kinds.{decided, outcomeOn, bookAfter};
@@ -39,7 +39,7 @@ use wire::regions::copy_within;
 // What opening a batch and closing the gate are refused for.
 pub fn outside_batch(book: &[u8]) -> Checked
     requires { ⌜ isBook (now book) ≡ true ⌝ }
-    ensures { λ r. ⌜ ((k : Kind) (q : Request) → k ∈ (openBatch ∷ closeGate ∷ []) ≡ true → r ≡ checked (decided k (bookIn (now (book .entry))) q)) ⌝ }
+    ensures { λ r. ⌜ ((k : Kind) (q : Request) → k oneOf (openBatch ∷ closeGate ∷ []) ≡ true → r ≡ checked (decided k (bookIn (now (book .entry))) q)) ⌝ }
 {
     if phase(book) != REGISTRATION {
         return Checked::Fails(Refusal::WrongPhase);
@@ -53,7 +53,7 @@ pub fn outside_batch(book: &[u8]) -> Checked
 // What undo and keep are refused for.
 pub fn inside_batch(book: &[u8]) -> Checked
     requires { ⌜ isBook (now book) ≡ true ⌝ }
-    ensures { λ r. ⌜ ((k : Kind) (q : Request) → k ∈ (undo ∷ keep ∷ []) ≡ true → r ≡ checked (decided k (bookIn (now (book .entry))) q)) ⌝ }
+    ensures { λ r. ⌜ ((k : Kind) (q : Request) → k oneOf (undo ∷ keep ∷ []) ≡ true → r ≡ checked (decided k (bookIn (now (book .entry))) q)) ⌝ }
 {
     if phase(book) != REGISTRATION {
         return Checked::Fails(Refusal::WrongPhase);

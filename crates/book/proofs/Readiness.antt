@@ -10,7 +10,7 @@ use Rattle.rules.specs.Basics.{bit}
 use Rattle.rules.specs.Limits.{mostRows}
 use Rattle.rules.specs.Books.{Book, countsOf, operatorCount}
 use Rattle.rules.specs.Requests.{Kind, withdraw, guarantee, settle, kindNumber, wantedMap, fieldCount, inRange}
-use Rattle.rules.specs.Calls.{Call, _∈_, inputChecks}
+use Rattle.rules.specs.Calls.{Call, _oneOf_, inputChecks}
 use Rattle.rules.proofs.Basics.Tests.{within-true}
 use Rattle.rules.proofs.Checks.Clearing.{Clear}
 use Rattle.rules.proofs.Checks.Passed.{field-in-range}
@@ -26,7 +26,7 @@ module _ (k : Kind) (b : Book) (q : Request) (r : Ready k b q) where
   ready-field i l e = field-in-range (countsOf (b .setup)) q i (r .in-range) l (rw (r .of-kind) e)
 
   -- no check of the input applies: only settle looks at the buffers of a call
-  pub ready-input : (c : Call) → k ∈ (settle ∷ []) ≡ false → Clear (inputChecks b c k q)
+  pub ready-input : (c : Call) → k oneOf (settle ∷ []) ≡ false → Clear (inputChecks b c k q)
   unfolding inputChecks
   ready-input c other = (rw other, (rw (r .in-range), (rw other, (rw (r .two-accounts), (rw other, tt)))))
 

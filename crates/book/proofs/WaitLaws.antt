@@ -11,7 +11,7 @@ use lib.Dec.{eqb}
 use borrow.Author.Tests.{eq-eqb, ne-eqb}
 use Rattle.wire.specs.Numbers.{numberAt}
 use Rattle.rules.specs.declared.Row.{Row}
-use Rattle.rules.specs.Basics.{if_then_else_, total, any, nth}
+use Rattle.rules.specs.Basics.{if_then_else_, total, anyPasses, nth}
 use Rattle.rules.specs.Limits.{mostEnergy, mostHours}
 use Rattle.rules.specs.Books.{noRow, periods}
 use Rattle.rules.specs.Registration.{pending, covers, alike, waiting}
@@ -152,26 +152,26 @@ own-alike r a counterparty code e d = rw (e, eq-eqb (r .proposer) a d)
 -- ---- whether some row is, number by number: what was found, or some row that is left
 
 module _ (p : Row → Bool) (rows : List Row) where
-  any-step : (x : Row) (xs : List Row) → any p (x ∷ xs) ≡ p x || any p xs
-  unfolding any
+  any-step : (x : Row) (xs : List Row) → anyPasses p (x ∷ xs) ≡ p x || anyPasses p xs
+  unfolding anyPasses
   any-step x xs = go (p x) refl
     where
-      go : (t : Bool) → p x ≡ t → any p (x ∷ xs) ≡ t || any p xs
-      go true e = rw (e, any)
-      go false e = rw (e, any)
+      go : (t : Bool) → p x ≡ t → anyPasses p (x ∷ xs) ≡ t || anyPasses p xs
+      go true e = rw (e, anyPasses)
+      go false e = rw (e, anyPasses)
 
   pub told-next : (n : ℕ) (found here : Bool) → 1 ≤ n → n ≤ length rows → here ≡ p (nth rows n noRow)
-      → found || any p (drop (n - 1) rows) ≡ any p rows → (found || here) || any p (drop (n + 1 - 1) rows) ≡ any p rows
+      → found || anyPasses p (drop (n - 1) rows) ≡ anyPasses p rows → (found || here) || anyPasses p (drop (n + 1 - 1) rows) ≡ anyPasses p rows
   told-next zero found here low high e h = absurd (omega arith)
   told-next (suc i) found here low high e h =
       let this : suc i - 1 ≡ i = omega arith in
       let next : suc i + 1 - 1 ≡ suc i = omega arith in
-      let split : any p (drop i rows) ≡ here || any p (drop (suc i) rows) =
+      let split : anyPasses p (drop i rows) ≡ here || anyPasses p (drop (suc i) rows) =
       rw (drop-cons rows i noRow (omega arith), e) (any-step (getD rows i noRow) (drop (suc i) rows)) in
-      rw next (or-assoc found here (any p (drop (suc i) rows)) ∙ ap (λ (b : Bool). found || b) (sym split) ∙ rw this at h)
+      rw next (or-assoc found here (anyPasses p (drop (suc i) rows)) ∙ ap (λ (b : Bool). found || b) (sym split) ∙ rw this at h)
 
-  pub told-last : (k : ℕ) (found : Bool) → k ≡ length rows → found || any p (drop k rows) ≡ any p rows → found ≡ any p rows
-  unfolding any
+  pub told-last : (k : ℕ) (found : Bool) → k ≡ length rows → found || anyPasses p (drop k rows) ≡ anyPasses p rows → found ≡ anyPasses p rows
+  unfolding anyPasses
   told-last k found e h = sym (or-false found) ∙ rw (e, drop-length rows) at h
 
 -- a side and an hour of the set-up have their cell

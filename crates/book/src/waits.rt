@@ -3,7 +3,7 @@ ghost use mathlib.Core.Path.{_≡_};
 ghost use mathlib.Core.Bool.{true};
 ghost use Prim.Native.Nat.{_+_, _-_, _≤_};
 ghost use lib.ListN.{length, getD};
-ghost use Rattle.rules.specs.Basics.{any, nth};
+ghost use Rattle.rules.specs.Basics.{anyPasses, nth};
 ghost use Rattle.rules.specs.Limits.{mostEnergy, mostHours};
 ghost use Rattle.rules.specs.Books.{noRow, accountCount, periods};
 ghost use Rattle.rules.specs.Registration.{alike};
@@ -82,7 +82,7 @@ pub fn no_waits() -> [u32; WAITS_SIZE]
 pub fn fill_waits(table: &mut [u32], book: &[u8], account: u8, counterparty: u8, code: u64) -> bool
     requires { ⌜ (now table ≡ noWaits) × (isBook (now book) ≡ true) ⌝ }
     ensures waits { λ _. ⌜ WaitsOf (bookIn (now (book .entry)) .part .rows) account (now (table .exit)) ⌝ }
-    ensures tells { λ r. ⌜ r ≡ any (alike account counterparty code) (bookIn (now (book .entry)) .part .rows) ⌝ }
+    ensures tells { λ r. ⌜ r ≡ anyPasses (alike account counterparty code) (bookIn (now (book .entry)) .part .rows) ⌝ }
 {
     let n = row_count(book);
     let mut found = false;

@@ -20,7 +20,7 @@ use Rattle.rules.specs.Verdicts.{_⇒_, _⇒↑_, firstToApply, checked, refuse
 use Rattle.rules.specs.Books.{Book, countsOf}
 use Rattle.rules.specs.Opening.{countsIn}
 use Rattle.rules.specs.Requests.{Kind, settle, kindNumber, kindOf, requestOf, readChecks, readingOf, reading, Fits, faultyBit, sameAccounts, rangeChecks}
-use Rattle.rules.specs.Calls.{Call, Answer, refusedOn, requestIn, kindIn, _∈_, inputChecks, refusal}
+use Rattle.rules.specs.Calls.{Call, Answer, refusedOn, requestIn, kindIn, _oneOf_, inputChecks, refusal}
 use Rattle.rules.proofs.Basics.Tests.{within-true}
 use Rattle.rules.proofs.Checks.Clearing.{checked-same, clear, spared, spared↑}
 use Rattle.rules.proofs.Checks.Passed.{kind-number}
@@ -62,13 +62,13 @@ sift (some n) same a b d = refl
 sift none true a b d = refl
 sift none false a b d = refl
 
-input-is-ranges : (b : Book) (c : Call) (k : Kind) (q : Request) → k ∈ (settle ∷ []) ≡ false
+input-is-ranges : (b : Book) (c : Call) (k : Kind) (q : Request) → k oneOf (settle ∷ []) ≡ false
     → firstToApply (inputChecks b c k q) ≡ firstToApply (rangeChecks (countsOf (b .setup)) q)
 unfolding inputChecks
 input-is-ranges b c k q e = rw e (sift (faultyBit (countsOf (b .setup)) q) (sameAccounts q) WrongLength (OutOfRange 12) BufferShort)
 
 -- a kind of 1 to 9 is not settle
-others : (n : ℕ) → 1 ≤ n → n ≤ 9 → kindOf n ∈ (settle ∷ []) ≡ false
+others : (n : ℕ) → 1 ≤ n → n ≤ 9 → kindOf n oneOf (settle ∷ []) ≡ false
 others n low high =
     let number : kindNumber (kindOf n) ≡ n = kind-number n (within-true 1 n 10 .1 (low, omega arith)) in
     let other : eqb n 10 ≡ false = ne-eqb n 10 (λ e. omega arith) in
@@ -81,7 +81,7 @@ module _ (s : List ℕ) (c : Call) (h : isBook s ≡ true) (q : Request) (e : re
   says = read-as (c .bytes) q e .1
 
   module _ (low : 1 ≤ q .kind) (high : q .kind ≤ 9) where
-    other : kindIn c ∈ (settle ∷ []) ≡ false
+    other : kindIn c oneOf (settle ∷ []) ≡ false
     other = rw says (others (q .kind) low high)
 
     ranges : firstToApply (inputChecks (bookIn s) c (kindIn c) (requestIn c)) ≡ firstToApply (rangeChecks (countsOf (bookIn s .setup)) q)

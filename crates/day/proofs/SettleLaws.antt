@@ -17,7 +17,7 @@ use Rattle.rules.specs.Books.{Book, operatorCount}
 use Rattle.rules.specs.Requests.{Kind, settle, filled}
 use Rattle.rules.specs.Registration.{netOf}
 use Rattle.rules.specs.Settlement.{pricesIn, settled, balance, results, balances, balanceFigure, balanceBytes, figuresIn}
-use Rattle.rules.specs.Calls.{Call, Settled, drawnUp, kindIn, requestIn, workedOut, settles, refusal, answer, balancesAfter, _∈_, inputChecks, step, settlement}
+use Rattle.rules.specs.Calls.{Call, Settled, drawnUp, kindIn, requestIn, workedOut, settles, refusal, answer, balancesAfter, _oneOf_, inputChecks, step, settlement}
 use Rattle.rules.specs.Lists.{isAcceptance, accepts, acceptsAs}
 use Rattle.rules.proofs.Basics.Tests.{and-both}
 use Rattle.rules.proofs.Basics.Searches.{each-map, any-none, counting-length}
@@ -63,8 +63,8 @@ module _ (b : Book) (c : Call) where
       let w = worked-go (kindIn c) e in (w, ap (λ (o : Option Settled). balancesAfter o (c .balances)) w)
 
   module _ (h : acceptsAs step (settle ∷ []) b c ≡ true) where
-    both : (accepts step b c ≡ true) × (kindIn c ∈ (settle ∷ []) ≡ true)
-    both = and-both (accepts step b c) (kindIn c ∈ (settle ∷ [])) .0 h
+    both : (accepts step b c ≡ true) × (kindIn c oneOf (settle ∷ []) ≡ true)
+    both = and-both (accepts step b c) (kindIn c oneOf (settle ∷ [])) .0 h
 
     is-settle : kindIn c ≡ settle
     is-settle = the-kind (kindIn c) settle (both .1)

@@ -10,7 +10,7 @@ use Rattle.rules.specs.Limits.{mostHours, bookSize}
 use Rattle.rules.specs.Verdicts.{Check, applies, firstToApply, outcomeOf}
 use Rattle.rules.specs.Books.{Book}
 use Rattle.rules.specs.Requests.{Kind, settle, readChecks, unlessRefused}
-use Rattle.rules.specs.Calls.{Call, carried, refusedOn, requestIn, kindIn, next, given, _∈_, inputChecks, stateChecks, checks, refusal, settles, answer, step}
+use Rattle.rules.specs.Calls.{Call, carried, refusedOn, requestIn, kindIn, next, given, _oneOf_, inputChecks, stateChecks, checks, refusal, settles, answer, step}
 use Rattle.image.specs.Valid.{isBook, bookBytes, bookIn}
 use Rattle.image.proofs.Round.{book-is-image}
 use Rattle.day.specs.Doors.{callAnswer}
@@ -74,12 +74,12 @@ module _ (s : List ℕ) (c : Call) (h : isBook s ≡ true) where
   call-accepted e = call-on-book s c h ∙ rw e
 
 -- every kind but settle leaves both buffers as they were
-works-nothing : (k : Kind) (b : Book) (c : Call) → k ∈ (settle ∷ []) ≡ false → settles k b c ≡ none
+works-nothing : (k : Kind) (b : Book) (c : Call) → k oneOf (settle ∷ []) ≡ false → settles k b c ≡ none
 unfolding settles
 works-nothing k b c e = rw e
 
 -- what any other kind answers, by what it is refused for
-pub call-decided : (s : List ℕ) (c : Call) → isBook s ≡ true → kindIn c ∈ (settle ∷ []) ≡ false → (o : Option Refusal) → refusal (bookIn s) c ≡ o
+pub call-decided : (s : List ℕ) (c : Call) → isBook s ≡ true → kindIn c oneOf (settle ∷ []) ≡ false → (o : Option Refusal) → refusal (bookIn s) c ≡ o
     → callAnswer s c
     ≡ record {
       outcome = outcomeOf o (given (kindIn c) (bookIn s) (requestIn c));

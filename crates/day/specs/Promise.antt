@@ -11,13 +11,14 @@ use Rattle.rules.specs.Books.{accountCount, operatorCount, periods, lowerAt, up
 use Rattle.rules.specs.Opening.{setupOf}
 use Rattle.rules.specs.Requests.{settle}
 use Rattle.rules.specs.Registration.{figure, low, high}
+use Rattle.rules.specs.Readings.{netReadOut, exposureReadOut}
 use Rattle.rules.specs.Settlement.{pricesIn, registeredTotal, figuresIn}
 use Rattle.rules.specs.Calls.{Call}
 use Rattle.rules.specs.Lists.{after, acceptsAs, UndoneBatch, CutOut}
 use Rattle.rules.specs.Ledger.{Ledger, ledgerAfter, ledgerNet, ledgerHour, ledgerExposure, ledgerAvailable}
 use Rattle.book.specs.Doors.{netAnswer, exposureAnswer}
 use Rattle.day.specs.Doors.{callAnswer}
-use Rattle.day.specs.Readings.{ledgerNetReading, ledgerExposureReading}
+use Rattle.day.specs.Readings.{ledgerNetReadOut, ledgerExposureReadOut}
 
 module _ (setup start : List ℕ) where
   -- the book's bytes after a list of calls
@@ -29,10 +30,11 @@ module _ (setup start : List ℕ) where
   ledger cs = ledgerAfter callAnswer setup start cs
 
   pub record Promise (cs : List Call) : Type 0 where
-    -- after the list every reading of net equals the ledger's: the signed sum of the account's confirmed trades that no undo struck
-    pub net-readings : (a h : ℕ) → netAnswer (book cs) a h ≡ ledgerNetReading (ledger cs) a h
-    -- and every reading of exposure
-    pub exposure-readings : (o : ℕ) → exposureAnswer (book cs) o ≡ ledgerExposureReading (ledger cs) o
+    -- after the list every reading of net equals the ledger's, in number, details and signed figure: the sum of the account's confirmed trades
+    -- that no undo struck
+    pub net-readings : (a h : ℕ) → netReadOut (netAnswer (book cs) a h) ≡ ledgerNetReadOut (ledger cs) a h
+    -- and every reading of exposure, in number, details and money
+    pub exposure-readings : (o : ℕ) → exposureReadOut (exposureAnswer (book cs) o) ≡ ledgerExposureReadOut (ledger cs) o
     -- in each hour net positions sum to zero
     pub nets-sum-to-zero : (h : ℕ)
         → sumOf (map (λ a. figure (ledgerNet (ledger cs) a h)) (upTo (accountCount (setupOf setup)))) ≡ pos 0

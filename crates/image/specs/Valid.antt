@@ -8,7 +8,7 @@ use lib.Dec.{eqb, leb, ltb}
 use Rattle.units.specs.Units.{cents}
 use Rattle.rules.specs.declared.Row.{Row}
 use Rattle.rules.specs.declared.Schedule.{Schedule}
-use Rattle.rules.specs.Basics.{any, every, allOf, isSome, upTo, within}
+use Rattle.rules.specs.Basics.{anyPasses, every, allOf, isSome, upTo, within}
 use Rattle.rules.specs.Limits.{mostEnergy, mostPrice, mostGuarantee, mostRows, mostSchedules, mostHours, bookSize}
 use Rattle.rules.specs.Books.{Setup, Part, Book, countsOf, operatorCount, accountCount, pointCount, periods, marginsAt}
 use Rattle.rules.specs.Opening.{badCounts, operatorsOf, faultyOffset}
@@ -62,7 +62,7 @@ scheduleOk u x = allOf (scheduleTests u x)
 -- no two pending rows are alike in proposer, counterparty and code
 unfoldable pub noTwins : List Row → Bool
 noTwins [] = true
-noTwins (r ∷ rs) = not (pending r && any (alike (r .proposer) (r .counterparty) (r .code)) rs) && noTwins rs
+noTwins (r ∷ rs) = not (pending r && anyPasses (alike (r .proposer) (r .counterparty) (r .code)) rs) && noTwins rs
 
 -- margins are kept by every account in every hour
 unfoldable pub marginsKept : Setup → List Row → Bool
@@ -118,7 +118,7 @@ bookTests b =
     ∷ savedOk (b .setup) (b .part .rows) (b .saved)
     ∷ leb (length (b .schedules)) mostSchedules
     ∷ every (scheduleOk (b .setup)) (b .schedules)
-    ∷ (eqb (b .phase) 1 || not (any pending (b .part .rows)))
+    ∷ (eqb (b .phase) 1 || not (anyPasses pending (b .part .rows)))
     ∷ (not (eqb (b .phase) 1) || eqb (length (b .schedules)) 0)
     ∷ (eqb (b .phase) 1 || not (isSome (b .saved)))
     ∷ []

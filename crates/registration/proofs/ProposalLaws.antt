@@ -15,7 +15,7 @@ use Rattle.wire.specs.Parts.{Small}
 use Rattle.rules.specs.declared.Row.{Row}
 use Rattle.rules.specs.declared.Request.{Request}
 use Rattle.rules.specs.declared.Refusal.the-variants.{AlreadyPending, RowsFull, MarginBroken, Uncovered}
-use Rattle.rules.specs.Basics.{any}
+use Rattle.rules.specs.Basics.{anyPasses}
 use Rattle.rules.specs.Limits.{mostHours, mostRows, bookSize}
 use Rattle.rules.specs.Verdicts.{firstToApply, accepted}
 use Rattle.rules.specs.Books.{Setup, Book, operatorOf}
@@ -51,11 +51,11 @@ ready-fits s q r h ready e = rw e (row-small (bookIn s .setup) (proposed q) (boo
 
 module _ (b : Book) (q : Request) (first : b .phase ≡ 1) where
   -- 14
-  pub twin-pending : any (alike (q .account) (q .other) (q .code)) (b .part .rows) ≡ true → decided register b q ≡ some AlreadyPending
+  pub twin-pending : anyPasses (alike (q .account) (q .other) (q .code)) (b .part .rows) ≡ true → decided register b q ≡ some AlreadyPending
   unfolding decided stateChecks firstToApply
   twin-pending e = rw (eq-eqb _ 1 first, e)
 
-  module _ (alone : any (alike (q .account) (q .other) (q .code)) (b .part .rows) ≡ false) where
+  module _ (alone : anyPasses (alike (q .account) (q .other) (q .code)) (b .part .rows) ≡ false) where
     -- 15
     pub no-number-left : mostRows ≤ length (b .part .rows) → decided register b q ≡ some RowsFull
     unfolding decided stateChecks firstToApply

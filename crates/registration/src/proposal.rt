@@ -8,7 +8,7 @@ ghost use lib.Dec.{leb};
 ghost use Rattle.wire.specs.Numbers.{le};
 ghost use Rattle.wire.specs.Regions.{splice};
 ghost use Rattle.wire.specs.Parts.{Small};
-ghost use Rattle.rules.specs.Basics.{any};
+ghost use Rattle.rules.specs.Basics.{anyPasses};
 ghost use Rattle.rules.specs.Limits.{mostRows, bookSize};
 ghost use Rattle.rules.specs.Verdicts.{checked};
 ghost use Rattle.rules.specs.Requests.{register};
@@ -80,7 +80,7 @@ fn row_covered(book: &[u8], row: Row, number: u8) -> bool
 
 // What register is refused for where its row is no twin and has a number: margins, by what waits on the account, and exposure as they would be.
 fn weighed(book: &[u8], waits: &[u32], request: Request) -> Checked
-    requires { ⌜ (isBook (now book) ≡ true) × WaitsOf (bookIn (now book) .part .rows) (request .account) (now waits) × Ready register (bookIn (now book)) request × (bookIn (now book) .phase ≡ 1) × (any (alike (request .account) (request .other) (request .code)) (bookIn (now book) .part .rows) ≡ false) × (length (bookIn (now book) .part .rows) < mostRows) ⌝ }
+    requires { ⌜ (isBook (now book) ≡ true) × WaitsOf (bookIn (now book) .part .rows) (request .account) (now waits) × Ready register (bookIn (now book)) request × (bookIn (now book) .phase ≡ 1) × (anyPasses (alike (request .account) (request .other) (request .code)) (bookIn (now book) .part .rows) ≡ false) × (length (bookIn (now book) .part .rows) < mostRows) ⌝ }
     ensures { λ r. ⌜ r ≡ checked (decided register (bookIn (now (book .entry))) request) ⌝ }
 {
     let row = proposed_row(request);

@@ -14,7 +14,7 @@ use Rattle.rules.specs.declared.Request.{Request}
 use Rattle.rules.specs.declared.Outcome.{Outcome}
 use Rattle.rules.specs.declared.Refusal.{Refusal}
 use Rattle.rules.specs.declared.Refusal.the-variants.{WrongLength, OutOfRange, SameAccount, BufferShort, WrongPhase, BatchOpen, NoBatch, AlreadyPending, RowsFull, NoSuchRow, NotMirrored, MarginBroken, Uncovered, SchedulesFull}
-use Rattle.rules.specs.Basics.{if_then_else_, any, isSome, nth, put}
+use Rattle.rules.specs.Basics.{if_then_else_, anyPasses, isSome, nth, put}
 use Rattle.rules.specs.Limits.{mostPrice, mostRows, mostSchedules}
 use Rattle.rules.specs.Verdicts.{Check, _⇒_, _⇒↑_, firstToApply, accepted, refused}
 use Rattle.rules.specs.Books.{Setup, Part, Book, withPhase, withPart, withSchedules, withSaved, withGuarantees, withRows, noRow, operatorOf, operatorCount, countsOf}
@@ -114,10 +114,10 @@ given settle b q = 0
 
 -- ---- what a call is refused for
 
-infix 40 _∈_
-abbrev pub _∈_ : Kind → List Kind → Bool
-k ∈ [] = false
-k ∈ (j ∷ js) = eqb (kindNumber k) (kindNumber j) || k ∈ js
+infix 40 _oneOf_
+abbrev pub _oneOf_ : Kind → List Kind → Bool
+k oneOf [] = false
+k oneOf (j ∷ js) = eqb (kindNumber k) (kindNumber j) || k oneOf js
 
 -- what was found, where the test holds
 abbrev pub when : Bool → Option ℕ → Option ℕ
@@ -127,37 +127,37 @@ when false found = none
 -- 5 to 10, beside what the record itself is refused for
 unfoldable pub inputChecks : Book → Call → Kind → Request → List Check
 inputChecks b c k q =
-    (k ∈ (settle ∷ []) && not (eqb (length (c .prices)) (4 * priceCount (b .setup))) ⇒ WrongLength)
+    (k oneOf (settle ∷ []) && not (eqb (length (c .prices)) (4 * priceCount (b .setup))) ⇒ WrongLength)
     ∷ (faultyBit (countsOf (b .setup)) q ⇒↑ OutOfRange)
-    ∷ (k ∈ (settle ∷ []) && any (λ p. ltb mostPrice (p .0)) (pricesIn (b .setup) (c .prices)) ⇒ OutOfRange 12)
+    ∷ (k oneOf (settle ∷ []) && anyPasses (λ p. ltb mostPrice (p .0)) (pricesIn (b .setup) (c .prices)) ⇒ OutOfRange 12)
     ∷ (sameAccounts q ⇒ SameAccount)
-    ∷ (k ∈ (settle ∷ [])
+    ∷ (k oneOf (settle ∷ [])
     && (ltb (length (c .results)) (length (b .schedules)) || ltb (length (c .balances)) (8 * operatorCount (b .setup)))
     ⇒ BufferShort)
     ∷ []
 
 -- the phase that a kind wants
 abbrev pub phaseOf : Kind → ℕ
-phaseOf k = if k ∈ (schedule ∷ settle ∷ []) then 2 else 1
+phaseOf k = if k oneOf (schedule ∷ settle ∷ []) then 2 else 1
 
 -- the operator that a call weighs on: the calling account's, or the one whose guarantee is replaced
 abbrev pub weighsOn : Kind → Setup → Request → ℕ
-weighsOn k u q = if k ∈ (guarantee ∷ []) then q .operator else operatorOf u (q .account)
+weighsOn k u q = if k oneOf (guarantee ∷ []) then q .operator else operatorOf u (q .account)
 
 -- 11 to 20; margins and exposure are judged on the book as it would be
 unfoldable pub stateChecks : Book → Kind → Request → List Check
 stateChecks b k q =
     (not (eqb (b .phase) (phaseOf k)) ⇒ WrongPhase)
-    ∷ (k ∈ (openBatch ∷ closeGate ∷ []) && isSome (b .saved) ⇒ BatchOpen)
-    ∷ (k ∈ (undo ∷ keep ∷ []) && not (isSome (b .saved)) ⇒ NoBatch)
-    ∷ (k ∈ (register ∷ []) && any (alike (q .account) (q .other) (q .code)) (b .part .rows) ⇒ AlreadyPending)
-    ∷ (k ∈ (register ∷ []) && leb mostRows (length (b .part .rows)) ⇒ RowsFull)
-    ∷ (k ∈ (confirm ∷ []) && not (isSome (confirms (b .part .rows) q)) ⇒ NoSuchRow)
-    ∷ (k ∈ (withdraw ∷ []) && not (withdraws (b .part .rows) q) ⇒ NoSuchRow)
-    ∷ (k ∈ (confirm ∷ []) && not (mirrors q (nth (b .part .rows) (confirmedNumber b q) noRow)) ⇒ NotMirrored)
-    ∷ (when (k ∈ (register ∷ confirm ∷ [])) (brokenHour (b .setup) (next k b q .part .rows) (q .account)) ⇒↑ MarginBroken)
-    ∷ (k ∈ (register ∷ confirm ∷ guarantee ∷ []) && not (covered (b .setup) (next k b q .part) (weighsOn k (b .setup) q)) ⇒ Uncovered)
-    ∷ (k ∈ (schedule ∷ []) && leb mostSchedules (length (b .schedules)) ⇒ SchedulesFull)
+    ∷ (k oneOf (openBatch ∷ closeGate ∷ []) && isSome (b .saved) ⇒ BatchOpen)
+    ∷ (k oneOf (undo ∷ keep ∷ []) && not (isSome (b .saved)) ⇒ NoBatch)
+    ∷ (k oneOf (register ∷ []) && anyPasses (alike (q .account) (q .other) (q .code)) (b .part .rows) ⇒ AlreadyPending)
+    ∷ (k oneOf (register ∷ []) && leb mostRows (length (b .part .rows)) ⇒ RowsFull)
+    ∷ (k oneOf (confirm ∷ []) && not (isSome (confirms (b .part .rows) q)) ⇒ NoSuchRow)
+    ∷ (k oneOf (withdraw ∷ []) && not (withdraws (b .part .rows) q) ⇒ NoSuchRow)
+    ∷ (k oneOf (confirm ∷ []) && not (mirrors q (nth (b .part .rows) (confirmedNumber b q) noRow)) ⇒ NotMirrored)
+    ∷ (when (k oneOf (register ∷ confirm ∷ [])) (brokenHour (b .setup) (next k b q .part .rows) (q .account)) ⇒↑ MarginBroken)
+    ∷ (k oneOf (register ∷ confirm ∷ guarantee ∷ []) && not (covered (b .setup) (next k b q .part) (weighsOn k (b .setup) q)) ⇒ Uncovered)
+    ∷ (k oneOf (schedule ∷ []) && leb mostSchedules (length (b .schedules)) ⇒ SchedulesFull)
     ∷ []
 
 -- every check, in rank
@@ -184,7 +184,7 @@ drawnUp b c =
 
 -- no other kind works anything out
 unfoldable pub settles : Kind → Book → Call → Option Settled
-settles k b c = if k ∈ (settle ∷ []) then some (drawnUp b c) else none
+settles k b c = if k oneOf (settle ∷ []) then some (drawnUp b c) else none
 
 -- what a call answers on a book of any form: the outcome, and the book and the two output buffers as the call leaves them
 pub record Answer (B : Type 0) : Type 0 where

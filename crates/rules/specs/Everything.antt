@@ -1,7 +1,7 @@
 -- All definitions that compute a replay, opened at once: an example says `unfolding everything`.
 use Rattle.wire.specs.Numbers.{number, numberAt, le, signed}
 use Rattle.wire.specs.Parts.{flat, pieces, pack}
-use Rattle.rules.specs.Basics.{total, any, every, find, indexOf, entries, joined, sumOf, allOf, counting, bit}
+use Rattle.rules.specs.Basics.{total, anyPasses, every, find, indexOf, entries, joined, sumOf, allOf, counting, bit}
 use Rattle.rules.specs.Verdicts.{firstToApply}
 use Rattle.rules.specs.Opening.{accountEntry, priceIn, operatorIn, accountIn, pointIn, estimatesIn, operatorsIn, accountsIn, pointsIn, setupOf, guaranteesOf, badCounts, misshapen, operatorsOf, setupBytes, valuesOf, estimateValues, operatorValues, accountValues, pointValues, values, faultyOffset, setupRefusal, openRefusal, openOutcome, opened}
 use Rattle.rules.specs.Requests.{bits, mapOf, room, offset, fieldIn, requestOf, more, unreadable, readChecks, reading, fieldBytes, write, writeOutcome, written, inRange, faultyField, faultyBit, sameAccounts}
@@ -15,7 +15,7 @@ use Rattle.rules.specs.Ledger.{blank, newLedger, without, turn, feed, fe
 
 unfoldable pub everything : Unit {0}
 unfolding number numberAt le signed flat pieces pack
-    total any every find indexOf entries joined sumOf allOf counting bit
+    total anyPasses every find indexOf entries joined sumOf allOf counting bit
     firstToApply
     accountEntry priceIn operatorIn accountIn pointIn estimatesIn operatorsIn accountsIn pointsIn setupOf guaranteesOf badCounts misshapen operatorsOf
     setupBytes valuesOf estimateValues operatorValues accountValues pointValues values faultyOffset setupRefusal openRefusal openOutcome opened

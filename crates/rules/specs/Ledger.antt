@@ -20,7 +20,7 @@ use Rattle.rules.specs.Requests.{Kind, register, confirm, withdraw, guar
 use Rattle.rules.specs.Registration.{proposed, alike, counted, covers, exposureOf}
 use Rattle.rules.specs.Settlement.{Judged, settled}
 use Rattle.rules.specs.Lists.{heard}
-use Rattle.rules.specs.Calls.{Call, Answer, _∈_, scheduled}
+use Rattle.rules.specs.Calls.{Call, Answer, _oneOf_, scheduled}
 
 -- a trade: who sells to whom, in which hours, how much in each
 pub record Trade : Type 0 where
@@ -120,7 +120,7 @@ feed k q l =
     record {
       setup = l .setup;
       page = turn k q (l .copy) (l .page);
-      copy = if k ∈ (openBatch ∷ []) then l .page else l .copy;
+      copy = if k oneOf (openBatch ∷ []) then l .page else l .copy;
     }
 
 -- a record, and whether it was accepted: a refused one leaves the ledger unchanged

@@ -5,6 +5,7 @@ use mathlib.Core.Option.{Option, none, some}
 use mathlib.Core.Bool.{not}
 use lib.Dec.{ltb}
 use lib.IntN.{ℤ, pos, negℤ}
+use Rattle.units.specs.declared.MilliCents.{MilliCents}
 use Rattle.units.specs.Units.{kwh, milliCents}
 use Rattle.rules.specs.declared.Net.{Net}
 use Rattle.rules.specs.declared.Position.{Position}
@@ -14,7 +15,7 @@ use Rattle.rules.specs.declared.ExposureReading.{ExposureReading}
 use Rattle.rules.specs.declared.Refusal.{Refusal}
 use Rattle.rules.specs.declared.Refusal.the-variants.{OutOfRange}
 use Rattle.rules.specs.Basics.{if_then_else_, within}
-use Rattle.rules.specs.Verdicts.{Check, _⇒_, firstToApply}
+use Rattle.rules.specs.Verdicts.{ReadOut, readOut, notRead, Check, _⇒_, firstToApply}
 use Rattle.rules.specs.Books.{Book, accountCount, operatorCount, periods}
 use Rattle.rules.specs.Registration.{netOf, exposure}
 
@@ -42,6 +43,11 @@ netReadingOf none p = NetReading.Stands p
 unfoldable pub netReading : Book → ℕ → ℕ → NetReading
 netReading b a h = netReadingOf (firstToApply (netChecks b a h)) (position (netOf (b .part .rows) a h))
 
+-- in the paper's numbers: its verdict, and the signed figure in kWh
+abbrev pub netReadOut : NetReading → ReadOut ℤ
+netReadOut (NetReading.Stands p) = readOut (positionFigure p)
+netReadOut (NetReading.Unread r) = notRead r
+
 -- 6 with bit 9, the operator
 abbrev pub exposureChecks : Book → ℕ → List Check
 exposureChecks b o = (not (within 1 o (operatorCount (b .setup))) ⇒ OutOfRange 9) ∷ []
@@ -52,3 +58,8 @@ exposureReadingOf none e = ExposureReading.Stands (milliCents e)
 
 unfoldable pub exposureReading : Book → ℕ → ExposureReading
 exposureReading b o = exposureReadingOf (firstToApply (exposureChecks b o)) (exposure (b .setup) (b .part .rows) o)
+
+-- in the paper's numbers: its verdict, and the money in thousandths of a cent
+abbrev pub exposureReadOut : ExposureReading → ReadOut MilliCents
+exposureReadOut (ExposureReading.Stands m) = readOut m
+exposureReadOut (ExposureReading.Unread r) = notRead r

@@ -1,4 +1,4 @@
-// The paper's figures, each once, named as in specs/Limits.antt.
+// The paper's figures that several crates go by, named as in specs/Limits.antt.
 
 // kWh: a quantity, a margin, a point's greatest amount.
 pub const MOST_ENERGY: u32 = 10_000_000;

@@ -17,7 +17,7 @@ use Rattle.rules.specs.Verdicts.{Numbers, numbers}
 use Rattle.rules.specs.Books.{Book, operatorCount}
 use Rattle.rules.specs.Requests.{Kind, register, confirm, withdraw, guarantee, openBatch, undo, keep, closeGate, schedule, settle, kindNumber, requestOf}
 use Rattle.rules.specs.Settlement.{results, figuresIn}
-use Rattle.rules.specs.Calls.{Call, kindIn, settles, refusal, answer, resultsAfter, _∈_, step, workedOut, settlement}
+use Rattle.rules.specs.Calls.{Call, kindIn, settles, refusal, answer, resultsAfter, _oneOf_, step, workedOut, settlement}
 use Rattle.rules.specs.Lists.{isAcceptance, accepts, acceptsAs}
 use Rattle.rules.specs.Replay.{callOf, answered, answerLines, settledLines, lineText, text}
 use Rattle.rules.proofs.Basics.Searches.{each-map, counting-length}
@@ -52,7 +52,7 @@ module _ (b : Book) (item : List ℕ) where
       ∙ ap (λ (x : List ℕ). getD x 2 0) (sym (record-bytes item))
       ∙ getD-take (recordLength item) item 2 0 l
 
-  settles-go : (t : Bool) → accepts step b (callOf item) ≡ t → (t && kindIn (callOf item) ∈ (settle ∷ [])) ≡ (t && eqb (getD item 2 0) 10)
+  settles-go : (t : Bool) → accepts step b (callOf item) ≡ t → (t && kindIn (callOf item) oneOf (settle ∷ [])) ≡ (t && eqb (getD item 2 0) 10)
   settles-go true e = rw (third-byte (accepts-passed b (callOf item) e)) (or-false (eqb (getD item 2 0) 10))
   settles-go false e = refl
 
@@ -71,7 +71,7 @@ short-settles-nothing t item h = rw (List·getD-eq-default item 0 {n = 2} h) (go
 -- ---- what settle worked out, and the buffers
 
 module _ (b : Book) (c : Call) where
-  others : (k : Kind) → k ∈ (settle ∷ []) ≡ false → settles k b c ≡ none
+  others : (k : Kind) → k oneOf (settle ∷ []) ≡ false → settles k b c ≡ none
   unfolding settles
   others register h = refl
   others confirm h = refl
@@ -84,7 +84,7 @@ module _ (b : Book) (c : Call) where
   others schedule h = refl
   others settle h = let z : _≡_ {A = ℕ} 0 1 = cc in absurd (omega arith)
 
-  unsettled-go : (o : Option Refusal) → (isAcceptance (answer b c o .outcome .verdict) && kindIn c ∈ (settle ∷ [])) ≡ false
+  unsettled-go : (o : Option Refusal) → (isAcceptance (answer b c o .outcome .verdict) && kindIn c oneOf (settle ∷ [])) ≡ false
       → workedOut b c o ≡ none
   unfolding answer workedOut
   unsettled-go (some r) h = refl

@@ -10,7 +10,7 @@ use Rattle.wire.specs.Numbers.{Bytes}
 use Rattle.rules.specs.declared.Request.{Request}
 use Rattle.rules.specs.Books.{Part, Book}
 use Rattle.rules.specs.Requests.{Kind, register, confirm, withdraw, guarantee, openBatch, undo, keep, closeGate, schedule, settle, kindNumber, requestOf}
-use Rattle.rules.specs.Calls.{Call, requestIn, kindIn, change, next, _∈_, inputChecks, stateChecks, step, apply}
+use Rattle.rules.specs.Calls.{Call, requestIn, kindIn, change, next, _oneOf_, inputChecks, stateChecks, step, apply}
 use Rattle.rules.proofs.Checks.Clearing.{Clear}
 use Rattle.rules.proofs.Checks.Passed.{Passed, Kept, passed-kind, step-cases}
 use Rattle.rules.proofs.Records.Fields.{field-in-fits}
@@ -51,7 +51,7 @@ pub no-call-changes-setup : (b : Book) (c : Call) → step b c .book .setup ≡ 
 no-call-changes-setup b c = setup-go b c (step-cases b c)
 
 -- no kind but open, undo and keep changes what is saved
-pub next-saved : (k : Kind) (b : Book) (q : Request) → k ∈ (openBatch ∷ undo ∷ keep ∷ []) ≡ false → next k b q .saved ≡ b .saved
+pub next-saved : (k : Kind) (b : Book) (q : Request) → k oneOf (openBatch ∷ undo ∷ keep ∷ []) ≡ false → next k b q .saved ≡ b .saved
 unfolding apply
 next-saved register b q e = refl
 next-saved confirm b q e = refl
@@ -64,12 +64,12 @@ next-saved closeGate b q e = refl
 next-saved schedule b q e = refl
 next-saved settle b q e = refl
 
-saved-go : (b : Book) (c : Call) → kindIn c ∈ (openBatch ∷ undo ∷ keep ∷ []) ≡ false → Kept b c ⊎ Passed b c
+saved-go : (b : Book) (c : Call) → kindIn c oneOf (openBatch ∷ undo ∷ keep ∷ []) ≡ false → Kept b c ⊎ Passed b c
     → step b c .book .saved ≡ b .saved
 saved-go b c e (inl w) = ap (λ (x : Book). x .saved) (w .book)
 saved-go b c e (inr w) = ap (λ (x : Book). x .saved) (w .book) ∙ next-saved (kindIn c) b (requestIn c) e
 
-pub batch-calls-alone-change-saved : (b : Book) (c : Call) → kindIn c ∈ (openBatch ∷ undo ∷ keep ∷ []) ≡ false
+pub batch-calls-alone-change-saved : (b : Book) (c : Call) → kindIn c oneOf (openBatch ∷ undo ∷ keep ∷ []) ≡ false
     → step b c .book .saved ≡ b .saved
 batch-calls-alone-change-saved b c e = saved-go b c e (step-cases b c)
 

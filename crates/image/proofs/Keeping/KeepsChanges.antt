@@ -9,7 +9,7 @@ use native.Mathlib.Omega.{arith}
 use lib.ListN.{length, length-append}
 use Rattle.rules.specs.declared.Row.{Row}
 use Rattle.rules.specs.declared.Schedule.{Schedule}
-use Rattle.rules.specs.Basics.{any, Each}
+use Rattle.rules.specs.Basics.{anyPasses, Each}
 use Rattle.rules.specs.Limits.{mostSchedules}
 use Rattle.rules.specs.Books.{Setup, Part, Book, withPhase, withPart, withSchedules, withSaved}
 use Rattle.rules.specs.Registration.{pending}
@@ -59,7 +59,7 @@ in-registration b p saved s first part batch =
 
 -- after phase 1, with no batch open, a sound part in which no row is pending and sound schedules make a sound book
 after-registration : (b : Book) (phase : ℕ) (p : Part) (xs : List Schedule) → SoundBook b → 2 ≤ phase → phase ≤ 3 → b .saved ≡ none
-    → SoundPart (b .setup) p → any pending (p .rows) ≡ false → length xs ≤ mostSchedules → Each (SoundSchedule (b .setup)) xs
+    → SoundPart (b .setup) p → anyPasses pending (p .rows) ≡ false → length xs ≤ mostSchedules → Each (SoundSchedule (b .setup)) xs
     → SoundBook (withSchedules (withPart (withPhase b phase) p) xs)
 after-registration b phase p xs s later known batch part ended few schedules =
     record {

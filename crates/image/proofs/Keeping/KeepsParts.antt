@@ -13,7 +13,7 @@ use borrow.Author.Tests.{eqb-true, eqb-false, not-false}
 use Rattle.units.specs.declared.Cents.{Cents}
 use Rattle.rules.specs.declared.Row.{Row}
 use Rattle.rules.specs.declared.Request.{Request}
-use Rattle.rules.specs.Basics.{any, nth, put, upTo, Each, nil, cons}
+use Rattle.rules.specs.Basics.{anyPasses, nth, put, upTo, Each, nil, cons}
 use Rattle.rules.specs.Limits.{mostGuarantee, mostRows}
 use Rattle.rules.specs.Books.{Setup, Part, partGuarantees, partRows, noRow, operatorOf, periods, marginsAt}
 use Rattle.rules.specs.Registration.{pending, alike, mark, closed, proposed, accountHour, keepsMargins, brokenHour, available, covered}
@@ -166,7 +166,7 @@ module _ (u : Setup) (p : Part) (sound : SoundPart u p) where
   -- ---- what the kinds bring
 
   -- what register proposes
-  pub register-addable : (q : Request) → SoundRow u (proposed q) → any (alike (q .account) (q .other) (q .code)) (p .rows) ≡ false
+  pub register-addable : (q : Request) → SoundRow u (proposed q) → anyPasses (alike (q .account) (q .other) (q .code)) (p .rows) ≡ false
       → length (p .rows) < mostRows → brokenHour u (p .rows ++ proposed q ∷ []) (q .account) ≡ none
       → covered u (partRows p (p .rows ++ proposed q ∷ [])) (operatorOf u (q .account)) ≡ true
       → Addable u p (proposed q ∷ [])

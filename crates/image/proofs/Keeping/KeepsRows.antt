@@ -10,7 +10,7 @@ use lib.ListN.{getD, set}
 use lib.Dec.{eqb}
 use borrow.Author.Tests.{eqb-true, eq-eqb, not-true}
 use Rattle.rules.specs.declared.Row.{Row}
-use Rattle.rules.specs.Basics.{if_then_else_, any, nth, Each, nil, cons}
+use Rattle.rules.specs.Basics.{if_then_else_, anyPasses, nth, Each, nil, cons}
 use Rattle.rules.specs.Books.{Setup, noRow}
 use Rattle.rules.specs.Registration.{pending, alike, withStatus, mark, closed}
 use Rattle.rules.proofs.Basics.Tests.{and-both}
@@ -62,7 +62,7 @@ each-ended [] = nil
 each-ended (r ∷ rs) = cons (closed-go r (pending r) refl) (each-ended rs)
 
 -- none is pending after the close of the gate
-pub closed-none-pending : (rows : List Row) → any pending (closed rows) ≡ false
+pub closed-none-pending : (rows : List Row) → anyPasses pending (closed rows) ≡ false
 closed-none-pending rows = none-any pending (each-ended rows)
 
 -- ---- no two pending rows are alike
@@ -72,7 +72,7 @@ abbrev Apart : Row → List Row → Type 0
 Apart r rs = Each (λ x. alike (r .proposer) (r .counterparty) (r .code) x ≡ false) rs
 
 apart-go : (r : Row) (rs : List Row) (t : Bool) → pending r ≡ t
-    → (not (t && any (alike (r .proposer) (r .counterparty) (r .code)) rs) ≡ true) ↔ (pending r ≡ true → Apart r rs)
+    → (not (t && anyPasses (alike (r .proposer) (r .counterparty) (r .code)) rs) ≡ true) ↔ (pending r ≡ true → Apart r rs)
 apart-go r rs true e = ((λ h p. any-none _ rs (not-true _ h)), (λ f. rw (none-any _ (f e))))
 apart-go r rs false e = ((λ h p. absurd (never p e)), (λ f. refl))
 
@@ -80,7 +80,7 @@ twins-cons : (r : Row) (rs : List Row) → (noTwins (r ∷ rs) ≡ true) ↔ ((p
 unfolding noTwins
 twins-cons r rs =
     let a = apart-go r rs (pending r) refl in
-    let b = and-both (not (pending r && any (alike (r .proposer) (r .counterparty) (r .code)) rs)) (noTwins rs) in
+    let b = and-both (not (pending r && anyPasses (alike (r .proposer) (r .counterparty) (r .code)) rs)) (noTwins rs) in
     ((λ h. (a .0 (b .0 h .0), b .0 h .1)), (λ w. b .1 (a .1 (w .0), w .1)))
 
 -- of two pending rows each is like the other or neither is
@@ -103,7 +103,7 @@ twins-go r h (cons {x = x} {xs = xs} a rest) =
 
 -- one row more, like none that is pending
 pub twins-snoc : (rows : List Row) (r : Row) → noTwins rows ≡ true
-    → any (alike (r .proposer) (r .counterparty) (r .code)) rows ≡ false → noTwins (rows ++ r ∷ []) ≡ true
+    → anyPasses (alike (r .proposer) (r .counterparty) (r .code)) rows ≡ false → noTwins (rows ++ r ∷ []) ≡ true
 twins-snoc rows r h n = twins-go r h (any-none _ rows n)
 
 twins-set : (rows : List Row) (i : ℕ) (y : Row) → pending y ≡ false → noTwins rows ≡ true → noTwins (set rows i y) ≡ true

@@ -10,7 +10,7 @@ use lib.ListN.{length-map}
 use lib.Dec.{eqb}
 use borrow.Author.Tests.{le-leb}
 use Rattle.rules.specs.declared.Operator.{Operator}
-use Rattle.rules.specs.Basics.{if_then_else_, total, any, upTo, Each, nil, cons}
+use Rattle.rules.specs.Basics.{if_then_else_, total, anyPasses, upTo, Each, nil, cons}
 use Rattle.rules.specs.Limits.{mostGuarantee}
 use Rattle.rules.specs.Books.{Setup, estimateAt, operatorOf, accountCount, periods, lowerAt, upperAt}
 use Rattle.rules.specs.Opening.{operatorsIn, setupOf, guaranteesOf, setupRefusal, opened}
@@ -55,7 +55,7 @@ module _ (s : List ℕ) (h : setupRefusal s ≡ none) where
       }
 
   pub opened-valid : valid (opened s) ≡ true
-  unfolding opened any
+  unfolding opened anyPasses
   opened-valid =
       book-sound (opened s) (record {
         setup-sound = sound-setup (setupOf s) (accepted-sound s h);

@@ -10,7 +10,7 @@ use lib.Seq.{drop-drop}
 use Rattle.wire.specs.Parts.{chunks}
 use Rattle.wire.proofs.SlotLaws.{length-chunks, chunk-at, map-get}
 use Rattle.rules.specs.declared.Row.{Row}
-use Rattle.rules.specs.Basics.{any, every}
+use Rattle.rules.specs.Basics.{anyPasses, every}
 use Rattle.image.specs.Image.{rowIn}
 use Rattle.image.specs.Cells.{rowsFrom}
 use Rattle.image.specs.Layout.{rowWidth}
@@ -43,14 +43,14 @@ module _ {A : Type 0} (say : List ℕ → A) (w : ℕ) where
   every-step ok p s at n m d r h e = e ∙ rw (from-step s at n m d, every, h, r) (sym (and-assoc ok _ _))
 
 -- none passes a test where each fails it
-pub not-any : {A : Type 0} (p : A → Bool) (xs : List A) → not (any p xs) ≡ every (λ x. not (p x)) xs
-unfolding any every
+pub not-any : {A : Type 0} (p : A → Bool) (xs : List A) → not (anyPasses p xs) ≡ every (λ x. not (p x)) xs
+unfolding anyPasses every
 not-any p [] = refl
 not-any p (x ∷ xs) = go (p x) refl (not-any p xs)
   where
-    go : (t : Bool) → p x ≡ t → not (any p xs) ≡ every (λ y. not (p y)) xs → not (any p (x ∷ xs)) ≡ every (λ y. not (p y)) (x ∷ xs)
-    go true e ih = rw (e, any, every)
-    go false e ih = rw (e, any, every) ih
+    go : (t : Bool) → p x ≡ t → not (anyPasses p xs) ≡ every (λ y. not (p y)) xs → not (anyPasses p (x ∷ xs)) ≡ every (λ y. not (p y)) (x ∷ xs)
+    go true e ih = rw (e, anyPasses, every)
+    go false e ih = rw (e, anyPasses, every) ih
 
 -- ---- rows
 

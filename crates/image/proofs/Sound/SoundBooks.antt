@@ -8,7 +8,7 @@ use lib.ListN.{length}
 use lib.Dec.{eqb}
 use borrow.Author.Tests.{eqb-true, eqb-false, leb-true, eq-eqb, ne-eqb, le-leb, not-false, not-true}
 use Rattle.rules.specs.declared.Row.{Row}
-use Rattle.rules.specs.Basics.{any, isSome, Each}
+use Rattle.rules.specs.Basics.{anyPasses, isSome, Each}
 use Rattle.rules.specs.Limits.{mostGuarantee, mostRows, mostSchedules}
 use Rattle.rules.specs.Books.{Setup, Part, Book, operatorCount, accountCount, periods, marginsAt}
 use Rattle.rules.specs.Registration.{pending, accountHour, keepsMargins, covered}
@@ -73,7 +73,7 @@ pub record SoundBook (b : Book) : Type 0 where
   pub saved-sound : SavedSound (b .setup) (b .part .rows) (b .saved)
   pub schedules-high : length (b .schedules) ≤ mostSchedules
   pub schedules-sound : Each (SoundSchedule (b .setup)) (b .schedules)
-  pub none-pending : (b .phase ≡ 1 → ⊥) → any pending (b .part .rows) ≡ false
+  pub none-pending : (b .phase ≡ 1 → ⊥) → anyPasses pending (b .part .rows) ≡ false
   pub no-schedules : b .phase ≡ 1 → length (b .schedules) ≡ 0
   pub no-batch : (b .phase ≡ 1 → ⊥) → b .saved ≡ none
 
@@ -117,7 +117,7 @@ book-sound b s =
     and saved-sound (b .setup) (b .part .rows) (b .saved) (s .saved-sound)
     and le-leb _ _ (s .schedules-high)
     and each-every _ (each-map (schedule-sound (b .setup)) (s .schedules-sound))
-    and or-by (eqb (b .phase) 1) (not (any pending (b .part .rows))) (λ e. rw (s .none-pending (eqb-false _ _ e)))
+    and or-by (eqb (b .phase) 1) (not (anyPasses pending (b .part .rows))) (λ e. rw (s .none-pending (eqb-false _ _ e)))
     and or-by _ _ (λ e. eq-eqb _ _ (s .no-schedules (eqb-true _ _ (not-false _ e))))
     and or-by (eqb (b .phase) 1) (not (isSome (b .saved))) (λ e. rw (s .no-batch (eqb-false _ _ e)))
     and no-more

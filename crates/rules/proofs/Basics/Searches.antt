@@ -7,7 +7,7 @@ use mathlib.Core.Bool.{Bool, true, false}
 use native.Mathlib.Omega.{arith}
 use lib.ListN.{length, getD}
 use Rattle.rules.proofs.Basics.Tests.{and-both}
-use Rattle.rules.specs.Basics.{any, every, find, indexOf, isSome, nth, counting, Each, nil, cons}
+use Rattle.rules.specs.Basics.{anyPasses, every, find, indexOf, isSome, nth, counting, Each, nil, cons}
 
 -- an option that holds something
 pub some-of {ℓ} : {A : Type ℓ} (o : Option A) → isSome o ≡ true → (x : A) × (o ≡ some x)
@@ -83,20 +83,20 @@ pub record First {ℓ} {A : Type ℓ} (p : A → Bool) (xs : List A) (d : A) (i 
   pub before : (j : ℕ) → j < i → p (getD xs j d) ≡ false
 
 module _ {ℓ} {A : Type ℓ} (p : A → Bool) where
-  any-go : (x : A) (xs : List A) (t : Bool) → p x ≡ t → any p (x ∷ xs) ≡ false → (p x ≡ false) × (any p xs ≡ false)
-  unfolding any
-  any-go x xs true e h = let z : true ≡ false = rw (e, any) at h in (cc, cc)
-  any-go x xs false e h = (e, rw (e, any) at h)
+  any-go : (x : A) (xs : List A) (t : Bool) → p x ≡ t → anyPasses p (x ∷ xs) ≡ false → (p x ≡ false) × (anyPasses p xs ≡ false)
+  unfolding anyPasses
+  any-go x xs true e h = let z : true ≡ false = rw (e, anyPasses) at h in (cc, cc)
+  any-go x xs false e h = (e, rw (e, anyPasses) at h)
 
   -- none passes
-  pub any-none : (xs : List A) → any p xs ≡ false → Each (λ x. p x ≡ false) xs
+  pub any-none : (xs : List A) → anyPasses p xs ≡ false → Each (λ x. p x ≡ false) xs
   any-none [] h = nil
   any-none (x ∷ xs) h = let w = any-go x xs (p x) refl h in cons (w .0) (any-none xs (w .1))
 
-  pub none-any : {xs : List A} → Each (λ x. p x ≡ false) xs → any p xs ≡ false
-  unfolding any
+  pub none-any : {xs : List A} → Each (λ x. p x ≡ false) xs → anyPasses p xs ≡ false
+  unfolding anyPasses
   none-any nil = refl
-  none-any (cons e es) = rw (e, any) (none-any es)
+  none-any (cons e es) = rw (e, anyPasses) (none-any es)
 
   -- all pass
   pub every-each : (xs : List A) → every p xs ≡ true → Each (λ x. p x ≡ true) xs

@@ -13,14 +13,14 @@ use borrow.Author.Tests.{eqb-true, eqb-false, leb-false, ltb-false, not-false}
 use Rattle.rules.specs.declared.Counts.{Counts}
 use Rattle.rules.specs.declared.Request.{Request}
 use Rattle.rules.specs.declared.Refusal.{Refusal}
-use Rattle.rules.specs.Basics.{any, nth, counting, upTo, bit, Each, nil, cons}
+use Rattle.rules.specs.Basics.{anyPasses, nth, counting, upTo, bit, Each, nil, cons}
 use Rattle.rules.specs.Limits.{mostPrice, mostRows, mostSchedules}
 use Rattle.rules.specs.Verdicts.{accepted, refused}
 use Rattle.rules.specs.Books.{Part, Book, noRow, operatorCount, countsOf}
 use Rattle.rules.specs.Requests.{Kind, register, confirm, withdraw, guarantee, openBatch, undo, keep, closeGate, schedule, settle, kindNumber, kindOf, isKind, wantedMap, wantedLength, mapOf, fieldIn, requestOf, unreadable, readChecks, fieldCount, bits, inRange, faultyField, faultyBit, sameAccounts}
 use Rattle.rules.specs.Registration.{alike, confirms, withdraws, mirrors, brokenHour, covered}
 use Rattle.rules.specs.Settlement.{priceCount, pricesIn}
-use Rattle.rules.specs.Calls.{Call, requestIn, kindIn, next, given, confirmedNumber, _∈_, phaseOf, weighsOn, inputChecks, stateChecks, checks, refusal, answer, step}
+use Rattle.rules.specs.Calls.{Call, requestIn, kindIn, next, given, confirmedNumber, _oneOf_, phaseOf, weighsOn, inputChecks, stateChecks, checks, refusal, answer, step}
 use Rattle.rules.proofs.Basics.Tests.{within-true, or-neither, and-spared}
 use Rattle.rules.proofs.Basics.Searches.{some-of, none-of, counted-has, find-none}
 use Rattle.rules.proofs.Checks.Clearing.{never-both, Clear, clear, clear-split, clear-at, spared, spared↑, spared-for, spared↑-for}
@@ -87,7 +87,7 @@ module _ (b : Book) (c : Call) (q : Request) where
   passed-6 k h = spared↑ _ _ (clear-at 1 (inputChecks b c k q) h)
 
   -- and every price
-  pub passed-6-prices : Clear (inputChecks b c settle q) → any (λ p. ltb mostPrice (p .0)) (pricesIn (b .setup) (c .prices)) ≡ false
+  pub passed-6-prices : Clear (inputChecks b c settle q) → anyPasses (λ p. ltb mostPrice (p .0)) (pricesIn (b .setup) (c .prices)) ≡ false
   unfolding inputChecks
   passed-6-prices h = spared _ _ (clear-at 2 (inputChecks b c settle q) h)
 
@@ -111,18 +111,18 @@ module _ (b : Book) (q : Request) where
   passed-11 k h = eqb-true _ _ (not-false _ (spared _ _ (clear-at 0 (stateChecks b k q) h)))
 
   -- no batch is open
-  pub passed-12 : (k : Kind) → k ∈ (openBatch ∷ closeGate ∷ []) ≡ true → Clear (stateChecks b k q) → b .saved ≡ none
+  pub passed-12 : (k : Kind) → k oneOf (openBatch ∷ closeGate ∷ []) ≡ true → Clear (stateChecks b k q) → b .saved ≡ none
   unfolding stateChecks
   passed-12 k e h = none-of (b .saved) (spared-for _ _ _ e (clear-at 1 (stateChecks b k q) h))
 
   -- a batch is open
-  pub passed-13 : (k : Kind) → k ∈ (undo ∷ keep ∷ []) ≡ true → Clear (stateChecks b k q)
+  pub passed-13 : (k : Kind) → k oneOf (undo ∷ keep ∷ []) ≡ true → Clear (stateChecks b k q)
       → (part : Part) × (b .saved ≡ some part)
   unfolding stateChecks
   passed-13 k e h = some-of (b .saved) (not-false _ (spared-for _ _ _ e (clear-at 2 (stateChecks b k q) h)))
 
   -- no pending row is alike
-  pub passed-14 : Clear (stateChecks b register q) → any (alike (q .account) (q .other) (q .code)) (b .part .rows) ≡ false
+  pub passed-14 : Clear (stateChecks b register q) → anyPasses (alike (q .account) (q .other) (q .code)) (b .part .rows) ≡ false
   unfolding stateChecks
   passed-14 h = spared _ _ (clear-at 3 (stateChecks b register q) h)
 
@@ -146,13 +146,13 @@ module _ (b : Book) (q : Request) where
   passed-17 h = not-false _ (spared _ _ (clear-at 7 (stateChecks b confirm q) h))
 
   -- no margin of the calling account is broken on the book as it will be
-  pub passed-18 : (k : Kind) → k ∈ (register ∷ confirm ∷ []) ≡ true → Clear (stateChecks b k q)
+  pub passed-18 : (k : Kind) → k oneOf (register ∷ confirm ∷ []) ≡ true → Clear (stateChecks b k q)
       → brokenHour (b .setup) (next k b q .part .rows) (q .account) ≡ none
   unfolding stateChecks
   passed-18 k e h = spared↑-for _ _ _ e (clear-at 8 (stateChecks b k q) h)
 
   -- exposure is covered on the book as it will be
-  pub passed-19 : (k : Kind) → k ∈ (register ∷ confirm ∷ guarantee ∷ []) ≡ true → Clear (stateChecks b k q)
+  pub passed-19 : (k : Kind) → k oneOf (register ∷ confirm ∷ guarantee ∷ []) ≡ true → Clear (stateChecks b k q)
       → covered (b .setup) (next k b q .part) (weighsOn k (b .setup) q) ≡ true
   unfolding stateChecks
   passed-19 k e h = not-false _ (spared-for _ _ _ e (clear-at 9 (stateChecks b k q) h))

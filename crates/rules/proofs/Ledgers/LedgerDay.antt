@@ -17,7 +17,7 @@ use Rattle.rules.specs.Requests.{settle}
 use Rattle.rules.specs.Registration.{netOf, available}
 use Rattle.rules.specs.Readings.{position, netReading, exposureReading}
 use Rattle.rules.specs.Settlement.{pricesIn, results, balances, registeredTotal, balanceFigure}
-use Rattle.rules.specs.Calls.{Call, drawnUp, Settled, kindIn, _∈_, workedOut, settles, refusal, step, settlement}
+use Rattle.rules.specs.Calls.{Call, drawnUp, Settled, kindIn, _oneOf_, workedOut, settles, refusal, step, settlement}
 use Rattle.rules.specs.Lists.{after, heard}
 use Rattle.rules.specs.Ledger.{Ledger, newLedger, feed, fed, fedAll, ledgerNet, ledgerExposure, ledgerAvailable, ledgerAfter}
 use Rattle.rules.proofs.Ledgers.Ranged.{Ranged, opened-ranged, last-ranged}
@@ -58,7 +58,7 @@ module _ (b : Book) (c : Call) (l : Ledger) (w : Settled) (owned : Owned (b .set
   worked-go : (o : Option Refusal) → workedOut b c o ≡ some w → SettledBy l c w
   unfolding workedOut settles
   worked-go (some x) h = absurd (never w h)
-  worked-go none h = settles-go (kindIn c ∈ (settle ∷ [])) h
+  worked-go none h = settles-go (kindIn c oneOf (settle ∷ [])) h
 
   pub settled-by : settlement b c ≡ some w → SettledBy l c w
   unfolding settlement

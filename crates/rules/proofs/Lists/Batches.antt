@@ -15,7 +15,7 @@ use Rattle.rules.specs.Basics.{if_then_else_, total, every}
 use Rattle.rules.specs.Verdicts.{accepted}
 use Rattle.rules.specs.Books.{Part, Book, withPart, withSaved}
 use Rattle.rules.specs.Requests.{Kind, register, confirm, withdraw, guarantee, openBatch, undo, keep, closeGate, schedule, settle}
-use Rattle.rules.specs.Calls.{Call, requestIn, kindIn, restored, confirmedNumber, next, given, _∈_, stateChecks, step, apply, restorePart}
+use Rattle.rules.specs.Calls.{Call, requestIn, kindIn, restored, confirmedNumber, next, given, _oneOf_, stateChecks, step, apply, restorePart}
 use Rattle.rules.specs.Lists.{after, acceptsAs, rowsRegistered, endsNoBatch, UndoneBatch, CutOut, runs}
 use Rattle.rules.proofs.Basics.Tests.{and-both, and-spared}
 use Rattle.rules.proofs.Checks.Clearing.{Clear}
@@ -27,7 +27,7 @@ use Rattle.rules.proofs.Lists.CallLists.{after-append, cut-out, kept-re
 -- ---- kinds
 
 -- a kind that is among one kind is that one
-pub the-kind : (k j : Kind) → k ∈ (j ∷ []) ≡ true → k ≡ j
+pub the-kind : (k j : Kind) → k oneOf (j ∷ []) ≡ true → k ≡ j
 the-kind k j h = same-kind k j (sym (or-false _) ∙ h)
 
 passed-as : (b : Book) (c : Call) (k : Kind) → acceptsAs step (k ∷ []) b c ≡ true → Passed b c × (kindIn c ≡ k)
@@ -44,7 +44,7 @@ record Within (o : Book) (n : ℕ) (b : Book) : Type 0 where
 
 -- the rows that an accepted call of a kind registers
 abbrev registers : Kind → ℕ
-registers k = if k ∈ (register ∷ []) then 1 else 0
+registers k = if k oneOf (register ∷ []) then 1 else 0
 
 module _ {o b : Book} {n : ℕ} (w : Within o n b) (q : Request) where
   here : b .part ≡ w .part
@@ -67,7 +67,7 @@ module _ {o b : Book} {n : ℕ} (w : Within o n b) (q : Request) where
   saved-never : b .saved ≡ none → ⊥
   saved-never e = let s = ap (λ (x : Book). x .saved) (w .book) in let z : _≡_ {A = ℕ} 0 1 = cc in omega arith
 
-  within-next : (k : Kind) → k ∈ (undo ∷ keep ∷ []) ≡ false → Clear (stateChecks b k q) → Within o (registers k + n) (next k b q)
+  within-next : (k : Kind) → k oneOf (undo ∷ keep ∷ []) ≡ false → Clear (stateChecks b k q) → Within o (registers k + n) (next k b q)
   unfolding apply
   within-next register e h = with-part 1 _ (length-append (b .part .rows) _ ∙ omega arith)
   within-next confirm e h = with-part 0 _ (length-mark (confirmedNumber b q) 2 (b .part .rows) ∙ sym (zero-add _))

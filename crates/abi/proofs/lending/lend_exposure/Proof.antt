@@ -1,5 +1,6 @@
 -- By cases on the reading.
-use mathlib.Core.Path.{refl}
+use mathlib.Core.Path.{refl, ap}
+use Rattle.rules.specs.Verdicts.{numbers}
 use borrow.Author.Needs.{needs}
 use Rattle.abi.proofs.lending.lend_exposure.Statement.{statement}
 use Rattle.abi.proofs.lending.lend_exposure.Tie as tie
@@ -26,7 +27,7 @@ same-length : tie.Need-same-length
 same-length c = search needs
 
 returns-2 : tie.Need-returns-2
-returns-2 c = rw (c .before .before .before .before .before .before .before .reading2 .given .1, ← c .before .before .before .before .before .word-bytes .ensures) (c .before .before .lend .ensures)
+returns-2 c = rw (c .before .before .before .before .before .before .before .reading2 .given .1, ← c .before .before .before .before .before .word-bytes .ensures) (ap numbers (c .before .before .lend .ensures .0), c .before .before .lend .ensures .1)
 
 pub lend-exposure-spec : {M : Type 1} → statement M
 lend-exposure-spec =

@@ -1,5 +1,6 @@
 -- By cases on the reading.
-use mathlib.Core.Path.{refl, _∙_}
+use mathlib.Core.Path.{refl, ap, _∙_}
+use Rattle.rules.specs.Verdicts.{numbers}
 use borrow.Author.Needs.{needs}
 use Rattle.abi.proofs.lending.lend_net.Statement.{statement}
 use Rattle.abi.proofs.lending.lend_net.Tie as tie
@@ -29,7 +30,7 @@ same-length : tie.Need-same-length
 same-length c = search needs
 
 returns-2 : tie.Need-returns-2
-returns-2 c = rw (c .before .before .before .before .before .before .before .before .reading2 .given .1, ← (c .before .before .before .before .before .word-bytes .ensures ∙ c .before .before .before .before .before .before .position-word .ensures)) (c .before .before .lend .ensures)
+returns-2 c = rw (c .before .before .before .before .before .before .before .before .reading2 .given .1, ← (c .before .before .before .before .before .word-bytes .ensures ∙ c .before .before .before .before .before .before .position-word .ensures)) (ap numbers (c .before .before .lend .ensures .0), c .before .before .lend .ensures .1)
 
 pub lend-net-spec : {M : Type 1} → statement M
 lend-net-spec =

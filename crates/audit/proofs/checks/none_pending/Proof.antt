@@ -5,7 +5,7 @@ use mathlib.Core.Bool.{not, _&&_}
 use native.Mathlib.Omega.{arith}
 use lib.ListN.{length}
 use borrow.Author.Needs.{needs}
-use Rattle.rules.specs.Basics.{any, every}
+use Rattle.rules.specs.Basics.{anyPasses, every}
 use Rattle.rules.specs.Registration.{pending}
 use Rattle.image.specs.Image.{rowIn}
 use Rattle.image.specs.Cells.{rowsFrom}
@@ -17,7 +17,7 @@ use Rattle.audit.proofs.checks.none_pending.Tie as tie
 abbrev Inv-loop : tie.InvT-loop
 Inv-loop s at n ok₀ k₀ left₀ ok k left =
     (k + rowWidth * left ≤ length s)
-    × (not (any pending (rowsFrom s at n)) ≡ (ok && every (λ r. not (pending r)) (rowsFrom s k left)))
+    × (not (anyPasses pending (rowsFrom s at n)) ≡ (ok && every (λ r. not (pending r)) (rowsFrom s k left)))
 
 abbrev μ-loop : tie.MeasureT-loop
 μ-loop s at n ok₀ k₀ left₀ ok k left = left

@@ -6,7 +6,7 @@ use mathlib.Core.Bool.{_||_}
 use native.Mathlib.Omega.{arith}
 use lib.ListN.{length, drop}
 use borrow.Author.Needs.{needs}
-use Rattle.rules.specs.Basics.{any}
+use Rattle.rules.specs.Basics.{anyPasses}
 use Rattle.rules.specs.Limits.{mostEnergy, mostRows}
 use Rattle.rules.specs.Registration.{alike}
 use Rattle.image.specs.Valid.{bookIn}
@@ -24,7 +24,7 @@ Inv-loop table₀ book account counterparty code n found₀ number₀ table foun
     × (number ≤ n + 1)
     × (length table ≡ waitsSize)
     × Waiting account rows (drop (number - 1) rows) table ((number - 1) * mostEnergy)
-    × (found || any (alike account counterparty code) (drop (number - 1) rows) ≡ any (alike account counterparty code) rows)
+    × (found || anyPasses (alike account counterparty code) (drop (number - 1) rows) ≡ anyPasses (alike account counterparty code) rows)
 
 abbrev μ-loop : tie.MeasureT-loop
 μ-loop table₀ book account counterparty code n found₀ number₀ table found number = n + 1 - number
