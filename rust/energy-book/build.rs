@@ -1,9 +1,10 @@
-//! Links the static libraries of the crates `abi` and `abi_inner`. `rt staticlib` proves and builds them, unless ENERGY_BOOK_LIB_DIR names
-//! a folder that has libabi.a and libabi_inner.a already.
+//! Links the static libraries of the crates `abi` and `abi_inner`: those in the folder that ENERGY_BOOK_LIB_DIR names, or else those that
+//! `rt staticlib` proved and built, which is called where an archive is missing or older than something under `crates/`.
 
 use std::path::{Path, PathBuf};
 use std::process::Command;
-use std::{env, fs};
+use std::time::SystemTime;
+use std::{env, fs, io};
 
 const LIBRARIES: [&str; 2] = ["abi", "abi_inner"];
 
@@ -29,27 +30,47 @@ fn archive(name: &str) -> String {
     format!("lib{name}.a")
 }
 
-/// Builds the archives, and keeps copies beside what cargo builds, since `rt ci` removes its own.
+/// Builds the archives that are missing or old, and keeps copies beside what cargo builds, since `rt ci` removes its own.
 fn built() -> PathBuf {
     let root = Path::new(&env::var_os("CARGO_MANIFEST_DIR").unwrap()).join("../..");
-    println!("cargo:rerun-if-changed={}", root.join("crates").display());
-    println!("cargo:rerun-if-changed={}", root.join("crates.txt").display());
+    let sources = [root.join("crates"), root.join("crates.txt")];
+    for path in &sources {
+        println!("cargo:rerun-if-changed={}", path.display());
+    }
+    let changed = sources.iter().map(|path| newest(path).expect("the sources can be read")).max().unwrap();
     let folder = PathBuf::from(env::var_os("OUT_DIR").unwrap());
     for name in LIBRARIES {
-        let run = Command::new("rt")
-            .args(["staticlib", name])
-            .current_dir(&root)
-            .output()
-            .expect("`rt` is on the PATH; or set ENERGY_BOOK_LIB_DIR to a folder that has both archives");
-        if !run.status.success() {
-            panic!(
-                "`rt staticlib {name}` failed:\n{}{}",
-                String::from_utf8_lossy(&run.stdout),
-                String::from_utf8_lossy(&run.stderr)
-            );
+        let stands = root.join("target/staticlib").join(archive(name));
+        if !modified(&stands).is_ok_and(|time| time >= changed) {
+            prove(&root, name);
         }
-        fs::copy(root.join("target/staticlib").join(archive(name)), folder.join(archive(name)))
-            .expect("the archive that rt wrote");
+        fs::copy(stands, folder.join(archive(name))).expect("the archive that rt wrote");
     }
     folder
+}
+
+fn modified(path: &Path) -> io::Result<SystemTime> {
+    fs::metadata(path)?.modified()
+}
+
+/// When the last change was made of a file, or of a folder or anything in it.
+fn newest(path: &Path) -> io::Result<SystemTime> {
+    let mut last = modified(path)?;
+    if path.is_dir() {
+        for entry in fs::read_dir(path)? {
+            last = last.max(newest(&entry?.path())?);
+        }
+    }
+    Ok(last)
+}
+
+fn prove(root: &Path, name: &str) {
+    let run = Command::new("rt")
+        .args(["staticlib", name])
+        .current_dir(root)
+        .output()
+        .expect("`rt` is on the PATH; or set ENERGY_BOOK_LIB_DIR to a folder that has both archives");
+    if !run.status.success() {
+        panic!("`rt staticlib {name}` failed:\n{}{}", String::from_utf8_lossy(&run.stdout), String::from_utf8_lossy(&run.stderr));
+    }
 }
