@@ -10,7 +10,13 @@ use Rattle.rules.specs.Replay.{replay, text}
 use Rattle.rules.proofs.Basics.Tests.{and-spared}
 use Rattle.walk.specs.declared.Gathered.{Gathered}
 use Rattle.walk.specs.Gathering.{Progress, Follows, soFar, firstGathered, allGathered, linesIn, toCome, wholeText}
-use Rattle.printing.specs.Rounds.{Led, Replayed, emptied, firstRound, afterRounds, linesOfRounds}
+use Rattle.printing.specs.Rounds.{Replayed, emptied, firstRound, afterRounds, linesOfRounds}
+
+-- some rounds lead from one to the other; their lines and the text to come make the whole
+pub record Led (stream : List ℕ) (before after : Progress) : Type 0 where
+  pub rounds : ℕ
+  pub left : after ≡ afterRounds rounds stream before
+  pub text : linesOfRounds rounds stream before ++ toCome stream after ≡ wholeText stream before
 
 -- no round yet
 pub led-none : (s : List ℕ) (p : Progress) → Led s p p

@@ -4,7 +4,7 @@ use mathlib.Core.Path.{_≡_}
 use mathlib.Core.List.{List, _++_}
 use mathlib.Core.Bool.{Bool, true, false}
 use Rattle.rules.specs.Replay.{replay, text}
-use Rattle.walk.specs.Gathering.{Progress, soFar, firstGathered, allGathered, linesIn, toCome, wholeText}
+use Rattle.walk.specs.Gathering.{Progress, soFar, firstGathered, allGathered, linesIn}
 
 -- the lines have been written: the next ones are gathered from the front
 abbrev pub emptied : Progress → Progress
@@ -25,12 +25,6 @@ afterRounds (suc n) stream p = allGathered stream (emptied (afterRounds n stream
 unfoldable pub linesOfRounds : ℕ → List ℕ → Progress → List ℕ
 linesOfRounds zero stream p = linesIn p
 linesOfRounds (suc n) stream p = linesOfRounds n stream p ++ linesIn (afterRounds (suc n) stream p)
-
--- some rounds lead from one to the other; their lines and the text to come make the whole
-pub record Led (stream : List ℕ) (before after : Progress) : Type 0 where
-  pub rounds : ℕ
-  pub left : after ≡ afterRounds rounds stream before
-  pub text : linesOfRounds rounds stream before ++ toCome stream after ≡ wholeText stream before
 
 -- a replay that ended after some rounds: the book and the buffer are as the last one left them; where all was written, the walk has ended, and
 -- the lines of the rounds are the text of the replay

@@ -10,7 +10,6 @@ use Rattle.wire.specs.Regions.{splice}
 use Rattle.rules.specs.Basics.{if_then_else_}
 use Rattle.rules.specs.Replay.{text}
 use Rattle.image.specs.Valid.{isBook, bookIn}
-use Rattle.walk.specs.declared.Walked.{Walked}
 use Rattle.walk.specs.declared.Gathered.{Gathered}
 use Rattle.walk.specs.Walk.{Step, beginning, stepAt, linesFrom}
 use Rattle.walk.specs.Lent.{stepRoom, walked, bookOn, printed}
@@ -49,12 +48,13 @@ itemGathered stream p =
 unfoldable pub takesAnother : Progress → Bool
 takesAnother p = p .gathered .«goes_on» && leb (p .gathered .end + stepRoom) (length (p .out))
 
--- so many items are gathered, or as many as there are and have room
+-- at most so many items are gathered, while the walk goes on and the buffer has room
 unfoldable pub itemsGathered : ℕ → List ℕ → Progress → Progress
 itemsGathered zero stream p = p
 itemsGathered (suc n) stream p = if takesAnother p then itemsGathered n stream (itemGathered stream p) else p
 
--- all items are gathered that are still to come and have room; an item has 2 bytes or more, so that no number is above the bytes and 2
+-- items are gathered until the walk ends or the buffer has no room for another step; since an item has 2 bytes or more, so many steps are
+-- enough
 unfoldable pub allGathered : List ℕ → Progress → Progress
 allGathered stream p = itemsGathered (length stream + 2 - p .gathered .number) stream p
 

@@ -6,8 +6,7 @@ use lib.ListN.{length}
 use Rattle.rules.proofs.Basics.Tests.{and-both}
 use Rattle.walk.specs.Lent.{stepRoom}
 use Rattle.walk.specs.Gathering.{Underway, soFar}
-use Rattle.printing.specs.Rounds.{Led}
-use Rattle.printing.proofs.RoundLaws.{led-none, led-on, replayed}
+use Rattle.printing.proofs.RoundLaws.{Led, led-none, led-on, replayed}
 use borrow.Author.Needs.{needs}
 use Rattle.printing.proofs.replay_day.Statement.{statement}
 use Rattle.printing.proofs.replay_day.Tie as tie
