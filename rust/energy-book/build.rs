@@ -1,6 +1,7 @@
 //! Links the static libraries of the crates `abi` and `abi_inner`: those in the folder that ENERGY_BOOK_LIB_DIR names, or else those that
-//! `rt staticlib` proved and built, which is called where an archive is missing or older than something under `crates/`.
+//! `rt staticlib` proved and built, which is called where an archive is missing or older than something under `crates/` or `crates.txt`.
 
+use std::fs::File;
 use std::path::{Path, PathBuf};
 use std::process::Command;
 use std::time::SystemTime;
@@ -42,7 +43,14 @@ fn built() -> PathBuf {
     for name in LIBRARIES {
         let stands = root.join("target/staticlib").join(archive(name));
         if !modified(&stands).is_ok_and(|time| time >= changed) {
+            let before = SystemTime::now();
             prove(&root, name);
+            // It has the time before the proof, so that what is edited meanwhile is newer.
+            File::options()
+                .write(true)
+                .open(&stands)
+                .and_then(|file| file.set_modified(before))
+                .expect("the archive that rt wrote");
         }
         fs::copy(stands, folder.join(archive(name))).expect("the archive that rt wrote");
     }

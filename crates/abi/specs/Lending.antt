@@ -31,9 +31,9 @@ abbrev pub lentNumbers : {A : Type 0} → (A → List ℕ) → ReadOut A → Lis
 lentNumbers say (n, none) buffer = n
 lentNumbers say (n, some x) buffer = numbers (lentOutcome (say x) buffer)
 
-abbrev pub lentFilled : {A : Type 0} → (A → List ℕ) → ReadOut A → List ℕ → List ℕ
-lentFilled say (n, none) buffer = buffer
-lentFilled say (n, some x) buffer = lentBytes (say x) buffer
+abbrev pub lentInto : {A : Type 0} → (A → List ℕ) → ReadOut A → List ℕ → List ℕ
+lentInto say (n, none) buffer = buffer
+lentInto say (n, some x) buffer = lentBytes (say x) buffer
 
 -- a net position: its figure in 8 bytes, signed
 abbrev pub netBytes : ℤ → List ℕ

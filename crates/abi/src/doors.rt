@@ -8,7 +8,7 @@ ghost use Rattle.image.specs.Valid.{isBook};
 ghost use Rattle.book.specs.Doors.{openBytes, netAnswer, exposureAnswer};
 ghost use Rattle.day.specs.Doors.{callAnswer, callWith};
 ghost use Rattle.abi.specs.Packing.{packed, unpacked};
-ghost use Rattle.abi.specs.Lending.{lentNumbers, lentFilled, netBytes, exposureBytes};
+ghost use Rattle.abi.specs.Lending.{lentNumbers, lentInto, netBytes, exposureBytes};
 ghost use Rattle.abi.specs.Fields.{requestBytes, fieldsOutcome, fieldsWritten};
 use crate::fields::FIELDS_SIZE;
 use crate::fields::request_in;
@@ -61,7 +61,7 @@ pub extern "C" fn energy_book_call(
 pub extern "C" fn energy_book_net(book: &[u8], account: u8, hour: u8, figure: &mut [u8]) -> u64
     ensures answer { λ r. ⌜ r ≡ packed (lentNumbers netBytes (netReadOut (netAnswer (now (book .entry)) account hour)) (now (figure .entry))) ⌝ }
     ensures apart { λ r. ⌜ unpacked r ≡ lentNumbers netBytes (netReadOut (netAnswer (now (book .entry)) account hour)) (now (figure .entry)) ⌝ }
-    ensures filled { λ _. ⌜ now (figure .exit) ≡ lentFilled netBytes (netReadOut (netAnswer (now (book .entry)) account hour)) (now (figure .entry)) ⌝ }
+    ensures filled { λ _. ⌜ now (figure .exit) ≡ lentInto netBytes (netReadOut (netAnswer (now (book .entry)) account hour)) (now (figure .entry)) ⌝ }
 {
     let reading = day::doors::net(book, account, hour);
     pack(lend_net(reading, figure))
@@ -72,7 +72,7 @@ pub extern "C" fn energy_book_net(book: &[u8], account: u8, hour: u8, figure: &m
 pub extern "C" fn energy_book_exposure(book: &[u8], operator: u8, figure: &mut [u8]) -> u64
     ensures answer { λ r. ⌜ r ≡ packed (lentNumbers exposureBytes (exposureReadOut (exposureAnswer (now (book .entry)) operator)) (now (figure .entry))) ⌝ }
     ensures apart { λ r. ⌜ unpacked r ≡ lentNumbers exposureBytes (exposureReadOut (exposureAnswer (now (book .entry)) operator)) (now (figure .entry)) ⌝ }
-    ensures filled { λ _. ⌜ now (figure .exit) ≡ lentFilled exposureBytes (exposureReadOut (exposureAnswer (now (book .entry)) operator)) (now (figure .entry)) ⌝ }
+    ensures filled { λ _. ⌜ now (figure .exit) ≡ lentInto exposureBytes (exposureReadOut (exposureAnswer (now (book .entry)) operator)) (now (figure .entry)) ⌝ }
 {
     let reading = day::doors::exposure(book, operator);
     pack(lend_exposure(reading, figure))
@@ -83,7 +83,7 @@ pub extern "C" fn energy_book_exposure(book: &[u8], operator: u8, figure: &mut [
 pub extern "C" fn energy_book_read(bytes: &[u8], fields: &mut [u8]) -> u64
     ensures answer { λ r. ⌜ r ≡ packed (lentNumbers requestBytes (requestReadOut (reading (now (bytes .entry)))) (now (fields .entry))) ⌝ }
     ensures apart { λ r. ⌜ unpacked r ≡ lentNumbers requestBytes (requestReadOut (reading (now (bytes .entry)))) (now (fields .entry)) ⌝ }
-    ensures filled { λ _. ⌜ now (fields .exit) ≡ lentFilled requestBytes (requestReadOut (reading (now (bytes .entry)))) (now (fields .entry)) ⌝ }
+    ensures filled { λ _. ⌜ now (fields .exit) ≡ lentInto requestBytes (requestReadOut (reading (now (bytes .entry)))) (now (fields .entry)) ⌝ }
 {
     let said = day::doors::read(bytes);
     pack(lend_request(said, fields))

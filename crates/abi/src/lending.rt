@@ -6,7 +6,7 @@ ghost use Rattle.rules.specs.Verdicts.{numbers};
 ghost use Rattle.rules.specs.Requests.{requestReadOut};
 ghost use Rattle.rules.specs.Readings.{positionFigure, netReadOut, exposureReadOut};
 ghost use Rattle.abi.specs.Fields.{requestBytes};
-ghost use Rattle.abi.specs.Lending.{lentOutcome, lentBytes, lentNumbers, lentFilled, netBytes, exposureBytes};
+ghost use Rattle.abi.specs.Lending.{lentOutcome, lentBytes, lentNumbers, lentInto, netBytes, exposureBytes};
 use crate::fields::request_bytes;
 use rules::ExposureReading;
 use rules::NetReading;
@@ -73,7 +73,7 @@ fn position_word(p: Position) -> u64
 // A net position: 8 bytes, signed.
 pub fn lend_net(reading: NetReading, figure: &mut [u8]) -> Outcome
     ensures answer { λ o. ⌜ numbers o ≡ lentNumbers netBytes (netReadOut reading) (now (figure .entry)) ⌝ }
-    ensures filled { λ _. ⌜ now (figure .exit) ≡ lentFilled netBytes (netReadOut reading) (now (figure .entry)) ⌝ }
+    ensures filled { λ _. ⌜ now (figure .exit) ≡ lentInto netBytes (netReadOut reading) (now (figure .entry)) ⌝ }
 {
     match reading {
         NetReading::Unread(r) => Outcome {
@@ -89,7 +89,7 @@ pub fn lend_net(reading: NetReading, figure: &mut [u8]) -> Outcome
 // An exposure: 8 bytes.
 pub fn lend_exposure(reading: ExposureReading, figure: &mut [u8]) -> Outcome
     ensures answer { λ o. ⌜ numbers o ≡ lentNumbers exposureBytes (exposureReadOut reading) (now (figure .entry)) ⌝ }
-    ensures filled { λ _. ⌜ now (figure .exit) ≡ lentFilled exposureBytes (exposureReadOut reading) (now (figure .entry)) ⌝ }
+    ensures filled { λ _. ⌜ now (figure .exit) ≡ lentInto exposureBytes (exposureReadOut reading) (now (figure .entry)) ⌝ }
 {
     match reading {
         ExposureReading::Unread(r) => Outcome {
@@ -105,7 +105,7 @@ pub fn lend_exposure(reading: ExposureReading, figure: &mut [u8]) -> Outcome
 // A request: its fields in 34 bytes.
 pub fn lend_request(reading: Reading, fields: &mut [u8]) -> Outcome
     ensures answer { λ o. ⌜ numbers o ≡ lentNumbers requestBytes (requestReadOut reading) (now (fields .entry)) ⌝ }
-    ensures filled { λ _. ⌜ now (fields .exit) ≡ lentFilled requestBytes (requestReadOut reading) (now (fields .entry)) ⌝ }
+    ensures filled { λ _. ⌜ now (fields .exit) ≡ lentInto requestBytes (requestReadOut reading) (now (fields .entry)) ⌝ }
 {
     match reading {
         Reading::Unread(r) => Outcome {

@@ -8,7 +8,7 @@ ghost use Rattle.rules.specs.Readings.{netReading, netReadOut, exposureReading,
 ghost use Rattle.image.specs.Valid.{isBook, bookIn};
 ghost use Rattle.day.specs.Doors.{callAnswer, callWith};
 ghost use Rattle.abi.specs.Packing.{packed, unpacked};
-ghost use Rattle.abi.specs.Lending.{lentNumbers, lentFilled, netBytes, exposureBytes};
+ghost use Rattle.abi.specs.Lending.{lentNumbers, lentInto, netBytes, exposureBytes};
 use abi::lending::lend_exposure;
 use abi::lending::lend_net;
 use abi::packing::pack;
@@ -39,7 +39,7 @@ pub extern "C" fn energy_book_net_in(book: &[u8], account: u8, hour: u8, figure:
     requires { ⌜ isBook (now book) ≡ true ⌝ }
     ensures answer { λ r. ⌜ r ≡ packed (lentNumbers netBytes (netReadOut (netReading (bookIn (now (book .entry))) account hour)) (now (figure .entry))) ⌝ }
     ensures apart { λ r. ⌜ unpacked r ≡ lentNumbers netBytes (netReadOut (netReading (bookIn (now (book .entry))) account hour)) (now (figure .entry)) ⌝ }
-    ensures filled { λ _. ⌜ now (figure .exit) ≡ lentFilled netBytes (netReadOut (netReading (bookIn (now (book .entry))) account hour)) (now (figure .entry)) ⌝ }
+    ensures filled { λ _. ⌜ now (figure .exit) ≡ lentInto netBytes (netReadOut (netReading (bookIn (now (book .entry))) account hour)) (now (figure .entry)) ⌝ }
 {
     let reading = day::doors::net_in(book, account, hour);
     pack(lend_net(reading, figure))
@@ -51,7 +51,7 @@ pub extern "C" fn energy_book_exposure_in(book: &[u8], operator: u8, figure: &mu
     requires { ⌜ isBook (now book) ≡ true ⌝ }
     ensures answer { λ r. ⌜ r ≡ packed (lentNumbers exposureBytes (exposureReadOut (exposureReading (bookIn (now (book .entry))) operator)) (now (figure .entry))) ⌝ }
     ensures apart { λ r. ⌜ unpacked r ≡ lentNumbers exposureBytes (exposureReadOut (exposureReading (bookIn (now (book .entry))) operator)) (now (figure .entry)) ⌝ }
-    ensures filled { λ _. ⌜ now (figure .exit) ≡ lentFilled exposureBytes (exposureReadOut (exposureReading (bookIn (now (book .entry))) operator)) (now (figure .entry)) ⌝ }
+    ensures filled { λ _. ⌜ now (figure .exit) ≡ lentInto exposureBytes (exposureReadOut (exposureReading (bookIn (now (book .entry))) operator)) (now (figure .entry)) ⌝ }
 {
     let reading = day::doors::exposure_in(book, operator);
     pack(lend_exposure(reading, figure))
