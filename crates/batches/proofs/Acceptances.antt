@@ -1,20 +1,23 @@
 -- What an accepted call of each kind writes: the bytes are the image of the book, so that the write laws of images apply, and the
 -- checks that it passed keep the book sound.
 use Prim.Native.Nat.{ℕ, _+_, _-_}
-use mathlib.Core.Path.{_≡_, refl, ap, _∙_}
+use mathlib.Core.Path.{_≡_, refl, sym, ap, _∙_}
 use mathlib.Core.List.{List}
-use mathlib.Core.Option.{none}
-use mathlib.Core.Bool.{true}
+use mathlib.Core.Option.{none, some}
+use mathlib.Core.Bool.{Bool, true}
 use native.Mathlib.Omega.{arith}
 use lib.ListN.{length, drop}
 use Rattle.wire.specs.Numbers.{le}
 use Rattle.wire.specs.Regions.{splice, pasted}
 use Rattle.wire.specs.Parts.{zeros, sweep}
 use Rattle.rules.specs.declared.Request.{Request}
+use Rattle.rules.specs.declared.Checked.{Checked}
+use Rattle.rules.specs.declared.Checked.the-variants.{Clear, Fails}
 use Rattle.rules.specs.Limits.{mostHours, bookSize}
-use Rattle.rules.specs.Verdicts.{accepted}
+use Rattle.rules.specs.Verdicts.{accepted, checked}
 use Rattle.rules.specs.Requests.{openBatch, undo, keep, closeGate}
 use Rattle.rules.specs.Calls.{restored, given, savePart, restorePart, dropSaved, shutGate}
+use Rattle.rules.proofs.Checks.Clearing.{checked-same}
 use Rattle.rules.proofs.Checks.Passed.{passed-11, passed-12, passed-13}
 use Rattle.image.specs.Layout.{rowWidth, partSize, phaseAt, flagAt, presentAt, savedAt, rowAt}
 use Rattle.image.specs.Valid.{isBook, bookIn}
@@ -24,7 +27,8 @@ use Rattle.image.proofs.Writing.BookWrites.{write-saved, write-restored, write-
 use Rattle.image.proofs.Keeping.KeepsChanges.{apply-keeps}
 use Rattle.book.specs.Kinds.{decided}
 use Rattle.book.proofs.StateLaws.{book-image, book-fits, book-is-sound}
-use Rattle.book.proofs.Answers.{decided-clear, AnsweredAll, accepted-answered, answered-all}
+use Rattle.book.proofs.Answers.{decided-clear, AnsweredAll, accepted-answered, answered-all, refused-all}
+use Rattle.batches.specs.Saving.{isClear, answerTo, savedIf}
 
 module _ (s t : List ℕ) (h : isBook s ≡ true) where
   -- 5: the present part copied over the saved one, and the flag
@@ -38,6 +42,14 @@ module _ (s t : List ℕ) (h : isBook s ≡ true) where
       ∙ ap (λ (x : List ℕ). splice (pasted x (savedAt mostHours) (drop presentAt x) (partSize mostHours)) flagAt (le 1 1)) (book-image s h)
       ∙ write-saved mostHours bookSize (bookIn s) (book-fits s h) (omega arith))
       (apply-keeps savePart (bookIn s) (book-is-sound s h) (passed-11 (bookIn s) q openBatch (decided-clear openBatch (bookIn s) q (d q)))))
+
+  -- by what is wrong with it
+  pub opening-answered : (fault : Checked) → ((q : Request) → fault ≡ checked (decided openBatch (bookIn s) q))
+      → {clear : Bool} → clear ≡ isClear fault → t ≡ savedIf clear s → AnsweredAll openBatch s (answerTo fault) t
+  opening-answered Clear d f e = opened-answered (λ q. checked-same _ none (sym (d q))) (rw f at e)
+  opening-answered (Fails r) d f e =
+      let same : t ≡ s = (rw f at e) in
+      rw same (refused-all openBatch s r h (λ q. checked-same _ (some r) (sym (d q))))
 
   -- 6: the saved part copied over the present one and cleared, and the flag
   pub undone-answered : (n : ℕ) → ((q : Request) → decided undo (bookIn s) q ≡ none)

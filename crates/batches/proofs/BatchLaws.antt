@@ -3,7 +3,7 @@ use Prim.Native.Nat.{ℕ, _+_, _-_, _*_, _≤_}
 use mathlib.Core.Path.{_≡_, refl, sym, ap, _∙_}
 use mathlib.Core.List.{List, _++_, append-assoc}
 use mathlib.Core.Logic.{_⊎_, ⊎-elim, inl, inr}
-use mathlib.Core.Option.{none, some}
+use mathlib.Core.Option.{Option, none, some}
 use mathlib.Core.Bool.{true}
 use native.Mathlib.Omega.{arith}
 use lib.ListN.{length, take, drop, length-append, length-drop, take-append-drop}
@@ -171,7 +171,7 @@ module _ (s : List ℕ) (h : isBook s ≡ true) where
       ∙ present-read mostHours bookSize b (book-fits s h) (rowAt n) (gap n) (presentAt + rowAt n) (omega (arith, row-count-high s h)) refl
       ∙ rw e (part-rest (b .part) (book-fits s h .part-fits))
 
-  pub none-saved-rows : bookIn s .saved ≡ none → (n : ℕ) → n ≤ mostRows → NoRowsPast s (savedAt mostHours) n
+  none-saved-rows : bookIn s .saved ≡ none → (n : ℕ) → n ≤ mostRows → NoRowsPast s (savedAt mostHours) n
   unfolding NoRowsPast
   none-saved-rows o n few =
       ap (λ (t : List ℕ). take (gap n) (drop (savedAt mostHours + rowAt n) t)) (book-image s h)
@@ -201,6 +201,14 @@ module _ (s : List ℕ) (h : isBook s ≡ true) where
     -- the present rows are no fewer
     pub saved-past-present : (n : ℕ) → n ≡ length (bookIn s .part .rows) → NoRowsPast s (savedAt mostHours) n
     saved-past-present n e = saved-past n (omega (arith, saved-rows-fewer s h batch)) (omega (arith, row-count-high s h))
+
+  -- with a batch or without
+  pub saved-past-rows : (n : ℕ) → n ≡ length (bookIn s .part .rows) → NoRowsPast s (savedAt mostHours) n
+  saved-past-rows n e = go (bookIn s .saved) refl
+    where
+      go : (o : Option Part) → bookIn s .saved ≡ o → NoRowsPast s (savedAt mostHours) n
+      go none f = none-saved-rows f n (omega (arith, row-count-high s h))
+      go (some p) f = saved-past-present (rw f) n e
 
 -- a copy over the present part leaves the saved one
 pub saved-room-left : (s x : List ℕ) (n : ℕ) → length s ≡ bookSize → n ≤ mostRows → NoRowsPast s (savedAt mostHours) n

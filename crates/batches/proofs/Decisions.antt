@@ -15,7 +15,7 @@ use Rattle.rules.specs.Books.{Book}
 use Rattle.rules.specs.Requests.{Kind, openBatch, undo, keep, closeGate, kindNumber}
 use Rattle.rules.specs.Calls.{_oneOf_, phaseOf, stateChecks}
 use Rattle.rules.proofs.Checks.KindTables.{same-kind}
-use Rattle.rules.proofs.Checks.Passed.{passed-12, passed-13}
+use Rattle.rules.proofs.Checks.Passed.{passed-13}
 use Rattle.book.specs.Kinds.{decided}
 use Rattle.book.proofs.Answers.{decided-clear}
 
@@ -65,9 +65,6 @@ phase-outside k m = of-two (λ i. phaseOf i ≡ 1) openBatch closeGate k m refl 
 pub phase-inside : (k : Kind) → k oneOf (undo ∷ keep ∷ []) ≡ true → phaseOf k ≡ 1
 phase-inside k m = of-two (λ i. phaseOf i ≡ 1) undo keep k m refl refl
 
--- what opening a batch accepts has none open, what undo and keep accept has one
-pub opening-finds-none : (b : Book) (q : Request) → decided openBatch b q ≡ none → b .saved ≡ none
-opening-finds-none b q d = passed-12 b q openBatch refl (decided-clear openBatch b q d)
-
+-- what undo and keep accept has a batch open
 pub ending-finds-batch : (k : Kind) (b : Book) (q : Request) → k oneOf (undo ∷ keep ∷ []) ≡ true → decided k b q ≡ none → isSome (b .saved) ≡ true
 ending-finds-batch k b q m d = let (p, e) = passed-13 b q k m (decided-clear k b q d) in rw e

@@ -16,6 +16,7 @@ ghost use Rattle.image.specs.Layout.{flagAt, savedAt, partSize};
 ghost use Rattle.image.specs.Valid.{isBook, bookIn, bookBytes};
 ghost use Rattle.book.specs.Kinds.{decided, outcomeOn, bookAfter};
 ghost use Rattle.batches.specs.Rooms.{NoRowsPast};
+ghost use Rattle.batches.specs.Saving.{isClear, answerTo, savedIf};
 use book::state::REGISTRATION;
 use book::state::batch_open;
 use book::state::phase;
@@ -94,6 +95,42 @@ fn end_batch(book: &mut [u8], n: u16)
     put_u8(book, FLAG_AT, 0);
 }
 
+// Whether nothing is wrong.
+fn is_clear(fault: Checked) -> bool
+    ensures { λ r. ⌜ r ≡ isClear fault ⌝ }
+{
+    match fault {
+        Checked::Clear => true,
+        Checked::Fails(_) => false,
+    }
+}
+
+// The answer of a call that gives no number.
+fn outcome_of(fault: Checked) -> Outcome
+    ensures { λ o. ⌜ o ≡ answerTo fault ⌝ }
+{
+    match fault {
+        Checked::Clear => Outcome {
+            verdict: Verdict::Accepted { number: 0 },
+        },
+        Checked::Fails(r) => Outcome {
+            verdict: Verdict::Refused(r),
+        },
+    }
+}
+
+// Saves the present part and sets the flag, if nothing is wrong.
+fn save_if(clear: bool, book: &mut [u8])
+    requires { ⌜ isBook (now book) ≡ true ⌝ }
+    ensures { λ _. ⌜ now (book .exit) ≡ savedIf clear (now (book .entry)) ⌝ }
+{
+    if clear {
+        let rows = row_count(book);
+        copy_part(book, PRESENT_AT, SAVED_AT, rows);
+        put_u8(book, FLAG_AT, 1);
+    }
+}
+
 // Kind 5: saves the present part.
 pub fn open_batch(book: &mut [u8]) -> Outcome
     requires { ⌜ isBook (now book) ≡ true ⌝ }
@@ -101,17 +138,10 @@ pub fn open_batch(book: &mut [u8]) -> Outcome
     ensures bytes { λ _. ⌜ ((q : Request) → now (book .exit) ≡ bookBytes (bookAfter openBatch (bookIn (now (book .entry))) q)) ⌝ }
     ensures still { λ _. ⌜ isBook (now (book .exit)) ≡ true ⌝ }
 {
-    if let Checked::Fails(r) = outside_batch(book) {
-        return Outcome {
-            verdict: Verdict::Refused(r),
-        };
-    }
-    let rows = row_count(book);
-    copy_part(book, PRESENT_AT, SAVED_AT, rows);
-    put_u8(book, FLAG_AT, 1);
-    Outcome {
-        verdict: Verdict::Accepted { number: 0 },
-    }
+    let fault = outside_batch(book);
+    let clear = is_clear(fault);
+    save_if(clear, book);
+    outcome_of(fault)
 }
 
 // Kind 6: puts back what the batch saved, guarantees and rows alike, and gives the number of rows registered since.

@@ -1,0 +1,41 @@
+-- Saved is the present part as it stands, whether a batch is open or not.
+use Prim.Native.Nat.{ℕ}
+use mathlib.Core.Path.{ap, _∙_}
+use mathlib.Core.List.{List}
+use mathlib.Core.Logic.{inl}
+use native.Mathlib.Omega.{arith}
+use Rattle.wire.specs.Numbers.{le}
+use Rattle.wire.specs.Regions.{splice}
+use Rattle.image.specs.Layout.{flagAt}
+use Rattle.book.proofs.StateLaws.{book-length}
+use Rattle.batches.proofs.BatchLaws.{present-rows-end, saved-past-rows}
+use borrow.Author.Needs.{needs}
+use Rattle.batches.proofs.saving.save_if.Statement.{statement}
+use Rattle.batches.proofs.saving.save_if.Tie as tie
+
+row-count-requires : tie.Need-row-count-requires
+row-count-requires c κs = search needs
+
+copy-part-requires : tie.Need-copy-part-requires
+copy-part-requires c κs =
+    let pre = c .before .before .before .before .before .pre in
+    let n = book-length _ pre in
+    let (count, few) = c .before .row-count .ensures in
+    ((omega arith, omega arith, inl (omega arith)), (few, present-rows-end _ pre _ count, saved-past-rows _ pre _ count))
+
+put-u8-requires : tie.Need-put-u8-requires
+put-u8-requires c κs = let n = book-length _ (c .before .before .before .before .before .before .before .before .before .pre) in omega arith
+
+same-length : tie.Need-same-length
+same-length c = search needs
+
+returns : tie.Need-returns
+returns c = rw (c .before .before .before .before .before .before .before .before .before .before .if1 .taken) (c .before .before .put-u8 .ensures ∙ ap (λ (x : List ℕ). splice x flagAt (le 1 1)) (c .before .before .before .before .before .before .copy-part .ensures))
+
+returns-2 : tie.Need-returns-2
+returns-2 c = search needs
+
+pub save-if-spec : {M : Type 1} → statement M
+save-if-spec =
+    tie.close
+    (tie.spec row-count-requires copy-part-requires put-u8-requires same-length returns returns-2)
