@@ -79,7 +79,7 @@ pub fn lend_net(reading: NetReading, figure: &mut [u8]) -> Outcome
         NetReading::Unread(r) => Outcome {
             verdict: Verdict::Refused(r),
         },
-        NetReading::Stands(p) => {
+        NetReading::Read(p) => {
             let said = word_bytes(position_word(p));
             lend(&said, figure)
         }
@@ -95,7 +95,7 @@ pub fn lend_exposure(reading: ExposureReading, figure: &mut [u8]) -> Outcome
         ExposureReading::Unread(r) => Outcome {
             verdict: Verdict::Refused(r),
         },
-        ExposureReading::Stands(x) => {
+        ExposureReading::Read(x) => {
             let said = word_bytes(x.0);
             lend(&said, figure)
         }

@@ -1,5 +1,5 @@
 // The book for programs in other languages: the doors of `day` on numbers and byte slices.
-pub mod doors;
+pub mod exports;
 mod fields;
 pub mod lending;
 pub mod packing;

@@ -23,7 +23,7 @@ use Rattle.rules.proofs.Basics.Searches.{each-at}
 use Rattle.rules.proofs.Setups.SetupEntries.{length-operators, counts-of-setup}
 use Rattle.setup.specs.Faults.{noOperator}
 use Rattle.image.specs.Cells.{guaranteesFrom}
-use Rattle.audit.specs.Stands.{partWith}
+use Rattle.audit.specs.Validity.{partWith}
 
 -- ---- guarantees
 
@@ -71,13 +71,13 @@ maintenance-small s (suc i) e l u =
 -- ---- covered
 
 -- an operator is covered where its exposure is at most what was read of its guarantee and maintenance
-pub covered-read : (s : List ℕ) (at : ℕ) (rows : List Row) (k owed guarantee money : ℕ) (owner : Operator) → 1 ≤ k → k ≤ countsIn s .operators
-    → owed ≡ exposure (setupOf s) rows k → owner ≡ nth (operatorsIn s) k noOperator → guarantee ≡ numberAt s (at + guaranteeWidth * (k - 1)) guaranteeWidth
-    → money ≡ guarantee * (thousand - owner .maintenance)
+pub covered-read : (s : List ℕ) (at : ℕ) (rows : List Row) (k owed guarantee money : ℕ) (entry : Operator) → 1 ≤ k → k ≤ countsIn s .operators
+    → owed ≡ exposure (setupOf s) rows k → entry ≡ nth (operatorsIn s) k noOperator → guarantee ≡ numberAt s (at + guaranteeWidth * (k - 1)) guaranteeWidth
+    → money ≡ guarantee * (thousand - entry .maintenance)
     → leb owed money ≡ covered (setupOf s) (partWith s at rows) k
 unfolding covered available
-covered-read s at rows k owed guarantee money owner l u e o g m =
+covered-read s at rows k owed guarantee money entry l u e o g m =
     let g1 : nth (guaranteesFrom s at (countsIn s .operators)) k (cents 0) .0 ≡ guarantee =
     ap (λ (x : Cents). x .0) (guarantee-read s at (countsIn s .operators) k l u) ∙ sym g in
-    let m1 : maintenanceAt (setupOf s) k ≡ owner .maintenance = maintenance-read s k l u ∙ ap (λ (x : Operator). x .maintenance) (sym o) in
+    let m1 : maintenanceAt (setupOf s) k ≡ entry .maintenance = maintenance-read s k l u ∙ ap (λ (x : Operator). x .maintenance) (sym o) in
     rw (e, m, g1, m1)

@@ -16,8 +16,8 @@ pub mod TwinLaws
 -- CoverLaws: what is available to an operator, read from bytes.
 pub mod CoverLaws
 -- StandLaws: the set-up's section as code tests it.
-pub mod StandLaws
+pub mod ValidityLaws
 -- PartStands: a part as code tests it.
-pub mod PartStands
+pub mod PartValidity
 -- BookStands: bytes are a book where each section stands.
-pub mod BookStands
+pub mod BookValidity

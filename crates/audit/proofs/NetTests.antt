@@ -22,12 +22,12 @@ use Rattle.rules.specs.Basics.{upTo}
 use Rattle.rules.specs.Limits.{mostAccounts}
 use Rattle.rules.specs.Registration.{bought, sold, netOf, figure}
 use Rattle.rules.proofs.Basics.Searches.{counting-length}
-use Rattle.image.specs.Layout.{accountWidth, netAt, netsAt, netWidth}
+use Rattle.image.specs.Layout.{accountWidth, netOffset, netsOffset, netWidth}
 use Rattle.image.specs.Image.{accountNets, netsBytes}
 use Rattle.image.proofs.Sound.Soundness.{every-upTo, upTo-every}
 use Rattle.image.proofs.Writing.Sizes.{length-account}
 use Rattle.image.proofs.Writing.Nets.{upTo-at}
-use Rattle.audit.specs.Plain.{netHeld, netsHeld}
+use Rattle.audit.specs.Exact.{netMatches, netsMatch}
 
 -- ---- one net
 
@@ -67,18 +67,18 @@ module _ (w m : ℕ) (f : ℕ → List ℕ) (wide : (k : ℕ) → length (f k) �
       let e : suc i - 1 ≡ i = omega arith in
       upTo-at f m i (omega arith) ∙ g (suc i) (omega arith) (omega arith) ∙ rw e)
 
-module _ (top : ℕ) (rows : List Row) (s : List ℕ) (at : ℕ) (b : Bytes s) (l : at + netsAt + mostAccounts * accountWidth top ≤ length s) where
+module _ (top : ℕ) (rows : List Row) (s : List ℕ) (at : ℕ) (b : Bytes s) (l : at + netsOffset + mostAccounts * accountWidth top ≤ length s) where
   abbrev stored : List ℕ
-  stored = take (mostAccounts * accountWidth top) (drop (at + netsAt) s)
+  stored = take (mostAccounts * accountWidth top) (drop (at + netsOffset) s)
 
   abbrev word : ℕ → ℕ → List ℕ
-  word a h = take netWidth (drop (at + netAt top a h) s)
+  word a h = take netWidth (drop (at + netOffset top a h) s)
 
   in-account : (a : ℕ) → 1 ≤ a → a ≤ mostAccounts → accountWidth top * (a - 1) + accountWidth top ≤ mostAccounts * accountWidth top
   in-account a low high = omega (arith, mul-le-mul-left {m = a - 1} {n = 31} (accountWidth top) (omega arith))
 
   length-nets-stored : length stored ≡ accountWidth top * mostAccounts
-  length-nets-stored = length-take-le (mostAccounts * accountWidth top) (drop (at + netsAt) s) (omega (arith, length-drop (at + netsAt) s)) ∙ omega arith
+  length-nets-stored = length-take-le (mostAccounts * accountWidth top) (drop (at + netsOffset) s) (omega (arith, length-drop (at + netsOffset) s)) ∙ omega arith
 
   module _ (a : ℕ) (low : 1 ≤ a) (high : a ≤ mostAccounts) where
     abbrev hours : List ℕ
@@ -93,30 +93,30 @@ module _ (top : ℕ) (rows : List Row) (s : List ℕ) (at : ℕ) (b : Bytes s) (
     word-at : (h : ℕ) → 1 ≤ h → h ≤ top → take netWidth (drop (netWidth * (h - 1)) hours) ≡ word a h
     word-at h hl hh =
         let i = in-account a low high in
-        let p : at + netsAt + (accountWidth top * (a - 1) + netWidth * (h - 1)) ≡ at + netAt top a h = omega arith in
+        let p : at + netsOffset + (accountWidth top * (a - 1) + netWidth * (h - 1)) ≡ at + netOffset top a h = omega arith in
         inner netWidth (netWidth * (h - 1)) (accountWidth top) (accountWidth top * (a - 1)) stored (omega arith)
-        ∙ inner netWidth (accountWidth top * (a - 1) + netWidth * (h - 1)) (mostAccounts * accountWidth top) (at + netsAt) s (omega arith)
+        ∙ inner netWidth (accountWidth top * (a - 1) + netWidth * (h - 1)) (mostAccounts * accountWidth top) (at + netsOffset) s (omega arith)
         ∙ rw p
 
   word-test : (a h : ℕ) → 1 ≤ a → a ≤ mostAccounts → 1 ≤ h → h ≤ top
-      → (signed netWidth (figure (netOf rows a h)) ≡ word a h) ↔ (netHeld rows a h (numberAt s (at + netAt top a h) netWidth) ≡ true)
+      → (signed netWidth (figure (netOf rows a h)) ≡ word a h) ↔ (netMatches rows a h (numberAt s (at + netOffset top a h) netWidth) ≡ true)
   unfolding numberAt
   word-test a h al ah hl hh =
       let i = in-account a al ah in
-      net-test (bought rows a h) (sold rows a h) (word a h) (bytes-take 4 (bytes-drop (at + netAt top a h) b))
-      (length-take-le 4 (drop (at + netAt top a h) s) (omega (arith, length-drop (at + netAt top a h) s)))
+      net-test (bought rows a h) (sold rows a h) (word a h) (bytes-take 4 (bytes-drop (at + netOffset top a h) b))
+      (length-take-le 4 (drop (at + netOffset top a h) s) (omega (arith, length-drop (at + netOffset top a h) s)))
 
-  pub nets-held : netsBytes top rows ≡ stored → netsHeld top rows s at ≡ true
-  unfolding netsBytes accountNets netsHeld
-  nets-held e =
+  pub nets-match : netsBytes top rows ≡ stored → netsMatch top rows s at ≡ true
+  unfolding netsBytes accountNets netsMatch
+  nets-match e =
       upTo-every _ mostAccounts (λ a al ah.
       let g = cells-at (accountWidth top) mostAccounts (accountNets top rows) (length-account top rows) stored length-nets-stored e a al ah in
       upTo-every _ top (λ h hl hh.
       word-test a h al ah hl hh .0
       (cells-at netWidth top (λ x. signed netWidth (figure (netOf rows a x))) (λ x. length-signed netWidth (figure (netOf rows a x))) (hours a al ah) (length-hours a al ah) g h hl hh ∙ word-at a al ah h hl hh)))
 
-  pub held-nets : netsHeld top rows s at ≡ true → netsBytes top rows ≡ stored
-  unfolding netsBytes accountNets netsHeld
+  pub held-nets : netsMatch top rows s at ≡ true → netsBytes top rows ≡ stored
+  unfolding netsBytes accountNets netsMatch
   held-nets t =
       at-cells (accountWidth top) mostAccounts (accountNets top rows) (length-account top rows) stored length-nets-stored (λ a al ah.
       at-cells netWidth top (λ x. signed netWidth (figure (netOf rows a x))) (λ x. length-signed netWidth (figure (netOf rows a x))) (hours a al ah) (length-hours a al ah) (λ h hl hh.

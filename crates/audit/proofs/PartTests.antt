@@ -20,13 +20,13 @@ use Rattle.rules.specs.Limits.{mostOperators, mostAccounts, mostRows}
 use Rattle.rules.specs.Books.{Part}
 use Rattle.rules.proofs.Basics.Tests.{Holds, _and_, no-more, all-holds, holds-all}
 use Rattle.rules.specs.Opening.{guaranteeWidth}
-use Rattle.image.specs.Layout.{rowWidth, accountWidth, partWidths, partSize, rowCountAt, rowAt, netsAt, rowCountSection, netsSection}
+use Rattle.image.specs.Layout.{rowWidth, accountWidth, partWidths, partSize, rowCountOffset, rowOffset, netsOffset, rowCountSection, netsSection}
 use Rattle.image.specs.Image.{rowBytes, partSections, partBytes, rowIn, partOf, partIn}
 use Rattle.image.specs.Cells.{partAt}
 use Rattle.image.proofs.Writing.Sizes.{PartFits, length-row, length-guarantee, wide-part}
 use Rattle.image.proofs.Round.{row-again, guarantee-again}
-use Rattle.audit.specs.Plain.{partPlainTests, partPlain}
-use Rattle.audit.proofs.NetTests.{nets-held, held-nets}
+use Rattle.audit.specs.Exact.{partExactTests, partExact}
+use Rattle.audit.proofs.NetTests.{nets-match, held-nets}
 
 -- ---- cells past those that are used
 
@@ -78,15 +78,15 @@ module _ (top ops : ℕ) (s : List ℕ) (at : ℕ) (b : Bytes s) (l : at + partS
   wide-c : Wide ws c
   wide-c = wide-cut ws x (omega (arith, length-x))
 
-  count : number (getD c 1 []) ≡ numberAt s (at + rowCountAt) 2
+  count : number (getD c 1 []) ≡ numberAt s (at + rowCountOffset) 2
   unfolding numberAt
-  count = ap number (cut-at ws x rowCountSection ∙ inner 2 rowCountAt (partSize top) at s (omega arith))
+  count = ap number (cut-at ws x rowCountSection ∙ inner 2 rowCountOffset (partSize top) at s (omega arith))
 
-  length-rows : length (p .rows) ≡ numberAt s (at + rowCountAt) 2
+  length-rows : length (p .rows) ≡ numberAt s (at + rowCountOffset) 2
   unfolding partIn partOf
   length-rows = length-map (chunks rowWidth (number (getD c 1 [])) (getD c 2 [])) rowIn ∙ length-chunks rowWidth (number (getD c 1 [])) (getD c 2 []) ∙ count
 
-  few : numberAt s (at + rowCountAt) 2 ≤ mostRows
+  few : numberAt s (at + rowCountOffset) 2 ≤ mostRows
   few = omega (arith, length-rows)
 
   part-fits : PartFits p
@@ -95,8 +95,8 @@ module _ (top ops : ℕ) (s : List ℕ) (at : ℕ) (b : Bytes s) (l : at + partS
       let g : length (p .guarantees) ≡ ops = length-map (chunks guaranteeWidth ops (getD c 0 [])) (λ y. cents (number y)) ∙ length-chunks guaranteeWidth ops (getD c 0 []) in
       record { guarantees-fit = omega arith; rows-fit = r }
 
-  nets-place : getD c 3 [] ≡ take (mostAccounts * accountWidth top) (drop (at + netsAt) s)
-  nets-place = cut-at ws x netsSection ∙ inner (mostAccounts * accountWidth top) netsAt (partSize top) at s (omega arith)
+  nets-place : getD c 3 [] ≡ take (mostAccounts * accountWidth top) (drop (at + netsOffset) s)
+  nets-place = cut-at ws x netsSection ∙ inner (mostAccounts * accountWidth top) netsOffset (partSize top) at s (omega arith)
 
   rows-count : length (p .rows) ≡ number (getD c 1 [])
   rows-count = length-rows ∙ sym count
@@ -107,27 +107,27 @@ module _ (top ops : ℕ) (s : List ℕ) (at : ℕ) (b : Bytes s) (l : at + partS
   abbrev dec : List ℕ → Cents
   dec y = cents (number y)
 
-  pub part-plain : partBytes top p ≡ x → partPlain top ops s at ≡ true
-  unfolding partPlain partBytes partSections partIn partOf
-  part-plain e =
-      let n : ℕ = numberAt s (at + rowCountAt) 2 in
+  pub part-exact : partBytes top p ≡ x → partExact top ops s at ≡ true
+  unfolding partExact partBytes partSections partIn partOf
+  part-exact e =
+      let n : ℕ = numberAt s (at + rowCountOffset) 2 in
       let m = few in
       let sec : partSections top p ≡ c = sym (cut-flat ws (partSections top p) (wide-part top p part-fits)) ∙ ap (cut ws) e in
       let z0 = slots-zero guaranteeWidth mostOperators enc length-guarantee dec ops (getD c 0 []) (ap (λ (y : List (List ℕ)). getD y 0 []) sec) in
       let z2 : drop (rowWidth * n) (getD c 2 []) ≡ zeros (rowWidth * mostRows - rowWidth * n) =
       rw count at (slots-zero rowWidth mostRows rowBytes length-row rowIn (number (getD c 1 [])) (getD c 2 []) (ap (λ (y : List (List ℕ)). getD y 2 []) sec)) in
       let t0 = stretch-tested ws s at (partSize top) 0 (guaranteeWidth * ops) (at + guaranteeWidth * ops) (omega arith) (omega arith) l (omega arith) z0 in
-      let t2 = stretch-tested ws s at (partSize top) 2 (rowWidth * n) (at + rowAt n) (omega arith) (omega arith) l (omega arith) z2 in
-      let t3 = nets-held top (p .rows) s at b (omega arith) (ap (λ (y : List (List ℕ)). getD y 3 []) sec ∙ nets-place) in
-      holds-all (partPlainTests top ops s at) (t0 and t2 and t3 and no-more)
+      let t2 = stretch-tested ws s at (partSize top) 2 (rowWidth * n) (at + rowOffset n) (omega arith) (omega arith) l (omega arith) z2 in
+      let t3 = nets-match top (p .rows) s at b (omega arith) (ap (λ (y : List (List ℕ)). getD y 3 []) sec ∙ nets-place) in
+      holds-all (partExactTests top ops s at) (t0 and t2 and t3 and no-more)
 
-  plain-by : Holds (partPlainTests top ops s at) → partBytes top p ≡ x
+  exact-by : Holds (partExactTests top ops s at) → partBytes top p ≡ x
   unfolding partBytes partSections partIn partOf cut
-  plain-by (guarantees and rows and nets and _) =
-      let n : ℕ = numberAt s (at + rowCountAt) 2 in
+  exact-by (guarantees and rows and nets and _) =
+      let n : ℕ = numberAt s (at + rowCountOffset) 2 in
       let m = few in
       let z0 = stretch-read ws s at (partSize top) 0 (guaranteeWidth * ops) (at + guaranteeWidth * ops) (omega arith) (omega arith) l (omega arith) guarantees in
-      let z2 = stretch-read ws s at (partSize top) 2 (rowWidth * n) (at + rowAt n) (omega arith) (omega arith) l (omega arith) rows in
+      let z2 = stretch-read ws s at (partSize top) 2 (rowWidth * n) (at + rowOffset n) (omega arith) (omega arith) l (omega arith) rows in
       let a0 = slots-again guaranteeWidth enc dec guarantee-again mostOperators ops (bytes-c 0) (wide-at ws c 0 wide-c) o z0 in
       let a1 : le 2 (length (p .rows)) ≡ getD c 1 [] = ap (le 2) rows-count ∙ le-number-wide (bytes-c 1) 2 (wide-at ws c 1 wide-c) in
       let a2 : slots rowWidth mostRows rowBytes (p .rows) ≡ getD c 2 [] =
@@ -139,6 +139,6 @@ module _ (top ops : ℕ) (s : List ℕ) (at : ℕ) (b : Bytes s) (l : at + partS
       side-by-side : {c c′ e e′ o o′ a a′ : List ℕ} → c ≡ c′ → e ≡ e′ → o ≡ o′ → a ≡ a′ → flat (c ∷ e ∷ o ∷ a ∷ []) ≡ flat (c′ ∷ e′ ∷ o′ ∷ a′ ∷ [])
       side-by-side hc he ho ha = rw (hc, he, ho, ha)
 
-  pub plain-part : partPlain top ops s at ≡ true → partBytes top p ≡ x
-  unfolding partPlain
-  plain-part t = plain-by (all-holds (partPlainTests top ops s at) t)
+  pub exact-part : partExact top ops s at ≡ true → partBytes top p ≡ x
+  unfolding partExact
+  exact-part t = exact-by (all-holds (partExactTests top ops s at) t)

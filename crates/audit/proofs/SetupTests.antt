@@ -21,7 +21,7 @@ use Rattle.units.specs.Units.{cents}
 use Rattle.rules.specs.declared.Counts.{Counts}
 use Rattle.rules.specs.Basics.{entries}
 use Rattle.rules.specs.Books.{Setup}
-use Rattle.rules.specs.Opening.{setupRefusal, countsIn, operatorsFrom, setupLength, operatorIn, operatorsIn, setupOf, guaranteesOf, operatorEntry, guaranteeWidth}
+use Rattle.rules.specs.Opening.{setupRefusal, countsIn, operatorsOffset, setupLength, operatorIn, operatorsIn, setupOf, guaranteesOf, operatorEntry, guaranteeWidth}
 use Rattle.rules.proofs.Basics.Tests.{and-both}
 use Rattle.rules.proofs.Setups.SetupEntries.{counts-of-setup, operator-at}
 use Rattle.image.specs.Layout.{setupRoom}
@@ -32,7 +32,7 @@ use Rattle.image.proofs.Writing.Sizes.{length-stored, sound-short}
 use Rattle.image.proofs.Setups.StoredSetup.{guarantees-back}
 use Rattle.image.proofs.Setups.SetupAgain.{NoGuarantees, setup-again, entries-first, counts-first-bytes, setup-short, accepted-sound, front-sound, front-accepted}
 use Rattle.image.proofs.Reading.Places.{counts-at}
-use Rattle.audit.specs.Plain.{noneLodged}
+use Rattle.audit.specs.Exact.{noGuarantees}
 
 -- ---- no guarantee in the set-up
 
@@ -48,16 +48,16 @@ lodged-none s at b l =
       (λ (g : cents (number x) ≡ cents 0). zeros-tested guaranteeWidth s at (omega arith) (sym e ∙ ap (λ (y : Cents). le guaranteeWidth (y .0)) g ∙ le-zero guaranteeWidth)),
     )
 
-none-lodged : (n : ℕ) (s : List ℕ) (at : ℕ) → Bytes s → at + operatorEntry * n ≤ length s
-    → (noneLodged s at n ≡ true) ↔ (map (λ x. x .guarantee) (entries operatorEntry operatorIn n (drop at s)) ≡ replicate n (cents 0))
-unfolding noneLodged entries
-none-lodged zero s at b l = ((λ t. refl), (λ e. refl))
-none-lodged (suc n) s at b l =
+no-guarantees : (n : ℕ) (s : List ℕ) (at : ℕ) → Bytes s → at + operatorEntry * n ≤ length s
+    → (noGuarantees s at n ≡ true) ↔ (map (λ x. x .guarantee) (entries operatorEntry operatorIn n (drop at s)) ≡ replicate n (cents 0))
+unfolding noGuarantees entries
+no-guarantees zero s at b l = ((λ t. refl), (λ e. refl))
+no-guarantees (suc n) s at b l =
     let one = lodged-none s at b (omega arith) in
-    let more = none-lodged n s (at + operatorEntry) b (omega arith) in
-    let both = and-both (zerosFrom s at guaranteeWidth) (noneLodged s (at + operatorEntry) n) in
+    let more = no-guarantees n s (at + operatorEntry) b (omega arith) in
+    let both = and-both (zerosFrom s at guaranteeWidth) (noGuarantees s (at + operatorEntry) n) in
     rw (drop-drop operatorEntry at s) (
-      (λ (t : zerosFrom s at guaranteeWidth && noneLodged s (at + operatorEntry) n ≡ true). let w = both .0 t in rw (one .0 (w .0), more .0 (w .1))),
+      (λ (t : zerosFrom s at guaranteeWidth && noGuarantees s (at + operatorEntry) n ≡ true). let w = both .0 t in rw (one .0 (w .0), more .0 (w .1))),
       (λ (e : operatorIn (take operatorEntry (drop at s)) .guarantee ∷ map (λ x. x .guarantee) (entries operatorEntry operatorIn n (drop (at + operatorEntry) s)) ≡ cents 0 ∷ replicate n (cents 0)).
           both .1 (one .1 (ap (λ (y : List Cents). getD y 0 (cents 0)) e), more .1 (ap (drop 1) e))),
     )
@@ -86,18 +86,18 @@ module _ (s : List ℕ) (b : Bytes s) (l : setupRoom ≤ length s) (k : SoundSet
   inside : setupLength n ≤ setupRoom
   inside = setup-short s k
 
-  guarantees-at : guaranteesOf first ≡ map (λ x. x .guarantee) (entries operatorEntry operatorIn (n .operators) (drop (operatorsFrom n) s))
+  guarantees-at : guaranteesOf first ≡ map (λ x. x .guarantee) (entries operatorEntry operatorIn (n .operators) (drop (operatorsOffset n) s))
   unfolding guaranteesOf operatorsIn
   guarantees-at =
       let i = inside in
-      ap (λ (c : Counts). map (λ x. x .guarantee) (entries operatorEntry operatorIn (c .operators) (drop (operatorsFrom c) first))) counts
-      ∙ ap (map (λ x. x .guarantee)) (entries-first operatorEntry operatorIn (n .operators) (operatorsFrom n) setupRoom s (omega arith))
+      ap (λ (c : Counts). map (λ x. x .guarantee) (entries operatorEntry operatorIn (c .operators) (drop (operatorsOffset c) first))) counts
+      ∙ ap (map (λ x. x .guarantee)) (entries-first operatorEntry operatorIn (n .operators) (operatorsOffset n) setupRoom s (omega arith))
 
-  lodged-test : (noneLodged s (operatorsFrom n) (n .operators) ≡ true) ↔ (map (λ x. x .guarantee) (entries operatorEntry operatorIn (n .operators) (drop (operatorsFrom n) s)) ≡ replicate (n .operators) (cents 0))
-  lodged-test = let i = inside in none-lodged (n .operators) s (operatorsFrom n) b (omega arith)
+  no-guarantees-test : (noGuarantees s (operatorsOffset n) (n .operators) ≡ true) ↔ (map (λ x. x .guarantee) (entries operatorEntry operatorIn (n .operators) (drop (operatorsOffset n) s)) ≡ replicate (n .operators) (cents 0))
+  no-guarantees-test = let i = inside in no-guarantees (n .operators) s (operatorsOffset n) b (omega arith)
 
-  lodged-here : noneLodged s (operatorsFrom n) (n .operators) ≡ true → NoGuarantees first
-  lodged-here g = guarantees-at ∙ lodged-test .0 g ∙ ap (λ (c : Counts). replicate (c .operators) (cents 0)) (sym counts)
+  lodged-here : noGuarantees s (operatorsOffset n) (n .operators) ≡ true → NoGuarantees first
+  lodged-here g = guarantees-at ∙ no-guarantees-test .0 g ∙ ap (λ (c : Counts). replicate (c .operators) (cents 0)) (sym counts)
 
   rest-place : drop (setupLength n) first ≡ take (setupRoom - setupLength n) (drop (setupLength n) s)
   rest-place =
@@ -106,21 +106,21 @@ module _ (s : List ℕ) (b : Bytes s) (l : setupRoom ≤ length s) (k : SoundSet
       ∙ inner (setupRoom - setupLength n) (setupLength n) setupRoom 0 s (omega arith)
       ∙ rw (zero-add (setupLength n))
 
-  pub setup-plain : padded setupRoom (storedSetup u) ≡ first
-      → (zerosFrom s (setupLength n) (setupRoom - setupLength n) ≡ true) × (noneLodged s (operatorsFrom n) (n .operators) ≡ true)
+  pub setup-exact : padded setupRoom (storedSetup u) ≡ first
+      → (zerosFrom s (setupLength n) (setupRoom - setupLength n) ≡ true) × (noGuarantees s (operatorsOffset n) (n .operators) ≡ true)
   unfolding padded
-  setup-plain e =
+  setup-exact e =
       let i = inside in
       let z : drop (setupLength n) first ≡ zeros (setupRoom - setupLength n) =
       ap (drop (setupLength n)) (sym e) ∙ drop-at (storedSetup u) _ (setupLength n) stored-length ∙ rw stored-length in
       let g : guaranteesOf first ≡ replicate (n .operators) (cents 0) =
       ap guaranteesOf (sym e) ∙ guarantees-back u k ∙ ap (λ (m : ℕ). replicate m (cents 0)) (counts-at s) in
-      (zeros-tested (setupRoom - setupLength n) s (setupLength n) (omega arith) (sym rest-place ∙ z), lodged-test .1 (sym guarantees-at ∙ g))
+      (zeros-tested (setupRoom - setupLength n) s (setupLength n) (omega arith) (sym rest-place ∙ z), no-guarantees-test .1 (sym guarantees-at ∙ g))
 
-  pub plain-setup : zerosFrom s (setupLength n) (setupRoom - setupLength n) ≡ true → noneLodged s (operatorsFrom n) (n .operators) ≡ true
+  pub exact-setup : zerosFrom s (setupLength n) (setupRoom - setupLength n) ≡ true → noGuarantees s (operatorsOffset n) (n .operators) ≡ true
       → padded setupRoom (storedSetup u) ≡ first
   unfolding padded
-  plain-setup t g =
+  exact-setup t g =
       let i = inside in
       let z = rest-place ∙ zeros-read (setupRoom - setupLength n) s (setupLength n) (omega arith) t in
       let none-there = lodged-here g in
@@ -147,7 +147,7 @@ module _ (s : List ℕ) (b : Bytes s) (l : setupRoom ≤ length s) where
       let short : setupLength (countsIn s) ≤ setupRoom = omega (arith, e, sound-short (setupOf whole) k) in
       front-sound (take setupRoom s) (ap setupRefusal (sym (again short)) ∙ h)
 
-  pub setup-accepted-in : noneLodged s (operatorsFrom (countsIn s)) (countsIn s .operators) ≡ true → setupOk (setupOf (take setupRoom s)) ≡ true
+  pub setup-accepted-in : noGuarantees s (operatorsOffset (countsIn s)) (countsIn s .operators) ≡ true → setupOk (setupOf (take setupRoom s)) ≡ true
       → setupRefusal whole ≡ none
   setup-accepted-in g h =
       let k = sound-setup (setupOf (take setupRoom s)) h in

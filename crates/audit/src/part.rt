@@ -8,48 +8,48 @@ ghost use Rattle.rules.specs.Basics.{Each};
 ghost use Rattle.rules.specs.Limits.{mostGuarantee, mostRows, mostOperators};
 ghost use Rattle.rules.specs.Opening.{countsIn, setupOf};
 ghost use Rattle.rules.specs.Registration.{covered};
-ghost use Rattle.image.specs.Valid.{guaranteesKept};
+ghost use Rattle.image.specs.Valid.{operatorsCovered};
 ghost use Rattle.image.specs.Cells.{rowsFrom, guaranteesFrom};
 ghost use Rattle.image.specs.Tables.{Tabled, tableSize};
-ghost use Rattle.image.specs.Layout.{partSize, rowCountAt, rowsAt, netsAt, mostPeriods};
+ghost use Rattle.image.specs.Layout.{partSize, rowCountOffset, rowsOffset, netsOffset, mostPeriods};
 ghost use Rattle.tables.specs.Sums.{SumsOf, NoSums};
-ghost use Rattle.audit.specs.Stands.{SetupKnown, partWith, guaranteesStand, rowsStand, sumsStand, partStands};
+ghost use Rattle.audit.specs.Validity.{SetupKnown, partWith, guaranteesValid, rowsValid, sumsValid, partValid};
 use crate::checks::guarantees_ok;
 use crate::checks::rows_ok;
 use crate::twins::no_twins;
 use image::layout::MOST_ROWS;
-use image::layout::NETS_IN;
-use image::layout::ROW_COUNT_IN;
+use image::layout::NETS_OFFSET;
+use image::layout::ROW_COUNT_OFFSET;
 use image::layout::ROW_WIDTH;
-use image::layout::ROWS_IN;
+use image::layout::ROWS_OFFSET;
 use setup::counts::GUARANTEE_WIDTH;
 use setup::counts::counts;
 use setup::entries::operator;
 use tables::exposure::exposure_of;
 use tables::margins::margins_kept;
 use tables::sums::fill;
-use tables::sums::nets_kept;
+use tables::sums::nets_match;
 use units::Cents;
 use wire::numbers::get_u16;
 use wire::numbers::get_u64;
 use wire::regions::all_zero;
 
 // None of the guarantees is too great, and zeros stand behind them.
-fn guarantees_stand(book: &[u8], at: usize, operators: usize) -> bool
-    requires { ⌜ (at + rowCountAt ≤ length (now book)) × (operators ≤ mostOperators) ⌝ }
-    ensures { λ r. ⌜ r ≡ guaranteesStand (now (book .entry)) at operators ⌝ }
+fn guarantees_valid(book: &[u8], at: usize, operators: usize) -> bool
+    requires { ⌜ (at + rowCountOffset ≤ length (now book)) × (operators ≤ mostOperators) ⌝ }
+    ensures { λ r. ⌜ r ≡ guaranteesValid (now (book .entry)) at operators ⌝ }
 {
     let used = GUARANTEE_WIDTH * operators;
-    guarantees_ok(book, at, operators) & all_zero(book, at + used, ROW_COUNT_IN - used)
+    guarantees_ok(book, at, operators) & all_zero(book, at + used, ROW_COUNT_OFFSET - used)
 }
 
 // The rows are in range, no two pending ones are alike, and zeros stand behind them.
-fn rows_stand(book: &[u8], at: usize, n: usize) -> bool
-    requires { ⌜ (at + netsAt ≤ length (now book)) × (n ≤ mostRows) ⌝ }
-    ensures { λ r. ⌜ r ≡ rowsStand (now (book .entry)) at n ⌝ }
+fn rows_valid(book: &[u8], at: usize, n: usize) -> bool
+    requires { ⌜ (at + netsOffset ≤ length (now book)) × (n ≤ mostRows) ⌝ }
+    ensures { λ r. ⌜ r ≡ rowsValid (now (book .entry)) at n ⌝ }
 {
     let c = counts(book);
-    let rows = at + ROWS_IN;
+    let rows = at + ROWS_OFFSET;
     let used = ROW_WIDTH * n;
     rows_ok(book, rows, n, c.accounts, c.hours)
         & all_zero(book, rows + used, ROW_WIDTH * MOST_ROWS - used)
@@ -58,19 +58,19 @@ fn rows_stand(book: &[u8], at: usize, n: usize) -> bool
 
 // The exposure of the operator is at most what is available of its guarantee in the part at `at`.
 fn operator_covered(book: &[u8], at: usize, table: &[u32], top: usize, number: u8) -> bool
-    requires { ⌜ SetupKnown top (now book) × (at + rowCountAt ≤ length (now book)) × Each (λ g. g .0 ≤ mostGuarantee) (guaranteesFrom (now book) at (countsIn (now book) .operators)) × (tableSize top ≤ length (now table)) × (top ≤ mostPeriods) × (1 ≤ number) × (number ≤ countsIn (now book) .operators) ⌝ }
+    requires { ⌜ SetupKnown top (now book) × (at + rowCountOffset ≤ length (now book)) × Each (λ g. g .0 ≤ mostGuarantee) (guaranteesFrom (now book) at (countsIn (now book) .operators)) × (tableSize top ≤ length (now table)) × (top ≤ mostPeriods) × (1 ≤ number) × (number ≤ countsIn (now book) .operators) ⌝ }
     ensures { λ r. ⌜ ((rows : List Row) → SumsOf top rows (now (table .entry)) → r ≡ covered (setupOf (now (book .entry))) (partWith (now (book .entry)) at rows) number) ⌝ }
 {
     let exposed = exposure_of(book, table, top, number);
-    let owner = operator(book, number);
+    let entry = operator(book, number);
     let guarantee = Cents(get_u64(book, at + GUARANTEE_WIDTH * (number as usize - 1)));
-    exposed.at_most(guarantee.available(owner.maintenance))
+    exposed.at_most(guarantee.available(entry.maintenance))
 }
 
 // Whether that is so of every operator.
-fn guarantees_cover(book: &[u8], at: usize, table: &[u32], top: usize) -> bool
-    requires { ⌜ SetupKnown top (now book) × (at + rowCountAt ≤ length (now book)) × Each (λ g. g .0 ≤ mostGuarantee) (guaranteesFrom (now book) at (countsIn (now book) .operators)) × (tableSize top ≤ length (now table)) × (top ≤ mostPeriods) ⌝ }
-    ensures { λ r. ⌜ ((rows : List Row) → SumsOf top rows (now (table .entry)) → r ≡ guaranteesKept (setupOf (now (book .entry))) (partWith (now (book .entry)) at rows)) ⌝ }
+fn operators_covered(book: &[u8], at: usize, table: &[u32], top: usize) -> bool
+    requires { ⌜ SetupKnown top (now book) × (at + rowCountOffset ≤ length (now book)) × Each (λ g. g .0 ≤ mostGuarantee) (guaranteesFrom (now book) at (countsIn (now book) .operators)) × (tableSize top ≤ length (now table)) × (top ≤ mostPeriods) ⌝ }
+    ensures { λ r. ⌜ ((rows : List Row) → SumsOf top rows (now (table .entry)) → r ≡ operatorsCovered (setupOf (now (book .entry))) (partWith (now (book .entry)) at rows)) ⌝ }
 {
     let n = counts(book);
     let mut number: u8 = 1;
@@ -86,33 +86,33 @@ fn guarantees_cover(book: &[u8], at: usize, table: &[u32], top: usize) -> bool
 
 // What follows of the sums of the rows: the nets are theirs, margins are kept, and every exposure is covered. The sums are taken into the
 // table of no rows that is lent.
-fn sums_stand(book: &[u8], at: usize, top: usize, n: usize, table: &mut [u32]) -> bool
-    requires { ⌜ SetupKnown top (now book) × (at + partSize top ≤ length (now book)) × (n ≤ mostRows) × Each (Tabled top) (rowsFrom (now book) (at + rowsAt) n) × Each (λ g. g .0 ≤ mostGuarantee) (guaranteesFrom (now book) at (countsIn (now book) .operators)) ⌝ }
+fn sums_valid(book: &[u8], at: usize, top: usize, n: usize, table: &mut [u32]) -> bool
+    requires { ⌜ SetupKnown top (now book) × (at + partSize top ≤ length (now book)) × (n ≤ mostRows) × Each (Tabled top) (rowsFrom (now book) (at + rowsOffset) n) × Each (λ g. g .0 ≤ mostGuarantee) (guaranteesFrom (now book) at (countsIn (now book) .operators)) ⌝ }
     requires { ⌜ NoSums top (now table) × (top ≤ mostPeriods) ⌝ }
-    ensures { λ r. ⌜ r ≡ sumsStand top (now (book .entry)) at (rowsFrom (now (book .entry)) (at + rowsAt) n) ⌝ }
+    ensures { λ r. ⌜ r ≡ sumsValid top (now (book .entry)) at (rowsFrom (now (book .entry)) (at + rowsOffset) n) ⌝ }
 {
-    fill(table, top, book, at + ROWS_IN, n);
-    nets_kept(book, at + NETS_IN, table, top)
+    fill(table, top, book, at + ROWS_OFFSET, n);
+    nets_match(book, at + NETS_OFFSET, table, top)
         & margins_kept(book, table, top)
-        & guarantees_cover(book, at, table, top)
+        & operators_covered(book, at, table, top)
 }
 
 // The part that begins at `at` is valid, and nothing else stands in its bytes. It is lent a table of no rows.
-pub fn part_stands(book: &[u8], at: usize, top: usize, table: &mut [u32]) -> bool
+pub fn part_valid(book: &[u8], at: usize, top: usize, table: &mut [u32]) -> bool
     requires { ⌜ SetupKnown top (now book) × (at + partSize top ≤ length (now book)) ⌝ }
     requires { ⌜ NoSums top (now table) × (top ≤ mostPeriods) ⌝ }
-    ensures { λ r. ⌜ r ≡ partStands top (now (book .entry)) at ⌝ }
+    ensures { λ r. ⌜ r ≡ partValid top (now (book .entry)) at ⌝ }
 {
     let c = counts(book);
-    let rows = get_u16(book, at + ROW_COUNT_IN) as usize;
+    let rows = get_u16(book, at + ROW_COUNT_OFFSET) as usize;
     if MOST_ROWS < rows {
         return false;
     }
-    if !guarantees_stand(book, at, c.operators as usize) {
+    if !guarantees_valid(book, at, c.operators as usize) {
         return false;
     }
-    if !rows_stand(book, at, rows) {
+    if !rows_valid(book, at, rows) {
         return false;
     }
-    sums_stand(book, at, top, rows, table)
+    sums_valid(book, at, top, rows, table)
 }

@@ -19,7 +19,7 @@ use Rattle.rules.specs.Requests.{openBatch, undo, keep, closeGate}
 use Rattle.rules.specs.Calls.{restored, given, savePart, restorePart, dropSaved, shutGate}
 use Rattle.rules.proofs.Checks.Clearing.{checked-same}
 use Rattle.rules.proofs.Checks.Passed.{passed-11, passed-12, passed-13}
-use Rattle.image.specs.Layout.{rowWidth, partSize, phaseAt, flagAt, presentAt, savedAt, rowAt}
+use Rattle.image.specs.Layout.{rowWidth, partSize, phaseOffset, flagOffset, presentOffset, savedOffset, rowOffset}
 use Rattle.image.specs.Valid.{isBook, bookIn}
 use Rattle.image.specs.Changes.{ended}
 use Rattle.image.proofs.Writing.Sizes.{statuses-small}
@@ -33,13 +33,13 @@ use Rattle.batches.specs.Saving.{isClear, answerTo, savedIf}
 module _ (s t : List ℕ) (h : isBook s ≡ true) where
   -- 5: the present part copied over the saved one, and the flag
   pub opened-answered : ((q : Request) → decided openBatch (bookIn s) q ≡ none)
-      → t ≡ splice (pasted s (savedAt mostHours) (drop presentAt s) (partSize mostHours)) flagAt (le 1 1)
+      → t ≡ splice (pasted s (savedOffset mostHours) (drop presentOffset s) (partSize mostHours)) flagOffset (le 1 1)
       → AnsweredAll openBatch s (accepted 0) t
   unfolding given
   opened-answered d e =
       answered-all openBatch s (accepted 0) t (λ q. accepted-answered openBatch s q h t 0 (d q) refl
       (e
-      ∙ ap (λ (x : List ℕ). splice (pasted x (savedAt mostHours) (drop presentAt x) (partSize mostHours)) flagAt (le 1 1)) (book-image s h)
+      ∙ ap (λ (x : List ℕ). splice (pasted x (savedOffset mostHours) (drop presentOffset x) (partSize mostHours)) flagOffset (le 1 1)) (book-image s h)
       ∙ write-saved mostHours bookSize (bookIn s) (book-fits s h) (omega arith))
       (apply-keeps savePart (bookIn s) (book-is-sound s h) (passed-11 (bookIn s) q openBatch (decided-clear openBatch (bookIn s) q (d q)))))
 
@@ -54,7 +54,7 @@ module _ (s t : List ℕ) (h : isBook s ≡ true) where
   -- 6: the saved part copied over the present one and cleared, and the flag
   pub undone-answered : (n : ℕ) → ((q : Request) → decided undo (bookIn s) q ≡ none)
       → n ≡ length (bookIn s .part .rows) - length (restored (bookIn s .saved) (bookIn s .part) .rows)
-      → t ≡ splice (splice (pasted s presentAt (drop (savedAt mostHours) s) (partSize mostHours)) (savedAt mostHours) (zeros (partSize mostHours))) flagAt (le 1 0)
+      → t ≡ splice (splice (pasted s presentOffset (drop (savedOffset mostHours) s) (partSize mostHours)) (savedOffset mostHours) (zeros (partSize mostHours))) flagOffset (le 1 0)
       → AnsweredAll undo s (accepted n) t
   unfolding given
   undone-answered n d g e =
@@ -63,31 +63,31 @@ module _ (s t : List ℕ) (h : isBook s ≡ true) where
       let (p, saved) = passed-13 (bookIn s) q undo refl clear in
       accepted-answered undo s q h t n (d q) g
       (e
-      ∙ ap (λ (x : List ℕ). splice (splice (pasted x presentAt (drop (savedAt mostHours) x) (partSize mostHours)) (savedAt mostHours) (zeros (partSize mostHours))) flagAt (le 1 0)) (book-image s h)
+      ∙ ap (λ (x : List ℕ). splice (splice (pasted x presentOffset (drop (savedOffset mostHours) x) (partSize mostHours)) (savedOffset mostHours) (zeros (partSize mostHours))) flagOffset (le 1 0)) (book-image s h)
       ∙ write-restored mostHours bookSize (bookIn s) (book-fits s h) p (omega arith) saved)
       (apply-keeps restorePart (bookIn s) (book-is-sound s h) (passed-11 (bookIn s) q undo clear)))
 
   -- 7: the saved part cleared, and the flag
   pub kept-answered : ((q : Request) → decided keep (bookIn s) q ≡ none)
-      → t ≡ splice (splice s (savedAt mostHours) (zeros (partSize mostHours))) flagAt (le 1 0)
+      → t ≡ splice (splice s (savedOffset mostHours) (zeros (partSize mostHours))) flagOffset (le 1 0)
       → AnsweredAll keep s (accepted 0) t
   unfolding given
   kept-answered d e =
       answered-all keep s (accepted 0) t (λ q. accepted-answered keep s q h t 0 (d q) refl
       (e
-      ∙ ap (λ (x : List ℕ). splice (splice x (savedAt mostHours) (zeros (partSize mostHours))) flagAt (le 1 0)) (book-image s h)
+      ∙ ap (λ (x : List ℕ). splice (splice x (savedOffset mostHours) (zeros (partSize mostHours))) flagOffset (le 1 0)) (book-image s h)
       ∙ write-dropped mostHours bookSize (bookIn s) (book-fits s h))
       (apply-keeps dropSaved (bookIn s) (book-is-sound s h) (passed-11 (bookIn s) q keep (decided-clear keep (bookIn s) q (d q)))))
 
   -- 8: a loop over the rows, and the phase
   pub closed-answered : (n : ℕ) → ((q : Request) → decided closeGate (bookIn s) q ≡ none) → n ≡ length (bookIn s .part .rows)
-      → t ≡ splice (sweep ended rowWidth s (presentAt + rowAt 0) n) phaseAt (le 1 2)
+      → t ≡ splice (sweep ended rowWidth s (presentOffset + rowOffset 0) n) phaseOffset (le 1 2)
       → AnsweredAll closeGate s (accepted 0) t
   unfolding given
   closed-answered n d count e =
       answered-all closeGate s (accepted 0) t (λ q. accepted-answered closeGate s q h t 0 (d q) refl
       (e
-      ∙ ap (λ (x : List ℕ). splice (sweep ended rowWidth x (presentAt + rowAt 0) n) phaseAt (le 1 2)) (book-image s h)
-      ∙ write-closed mostHours bookSize (bookIn s) (book-fits s h) n (presentAt + rowAt 0) count
+      ∙ ap (λ (x : List ℕ). splice (sweep ended rowWidth x (presentOffset + rowOffset 0) n) phaseOffset (le 1 2)) (book-image s h)
+      ∙ write-closed mostHours bookSize (bookIn s) (book-fits s h) n (presentOffset + rowOffset 0) count
       (statuses-small (book-is-sound s h .part-sound .rows-sound)) refl)
       (apply-keeps shutGate (bookIn s) (book-is-sound s h) (passed-12 (bookIn s) q closeGate refl (decided-clear closeGate (bookIn s) q (d q)))))

@@ -11,7 +11,7 @@ use Rattle.rules.specs.declared.Checked.the-variants.{Clear, Fails}
 use Rattle.rules.specs.Basics.{if_then_else_}
 use Rattle.rules.specs.Limits.{mostHours}
 use Rattle.rules.specs.Verdicts.{accepted, refused}
-use Rattle.image.specs.Layout.{flagAt, presentAt, savedAt, partSize}
+use Rattle.image.specs.Layout.{flagOffset, presentOffset, savedOffset, partSize}
 
 -- nothing is wrong
 abbrev pub isClear : Checked → Bool
@@ -26,4 +26,4 @@ answerTo (Fails r) = refused r
 -- the present part copied over the saved one, and the flag set; or the bytes as they were
 abbrev pub savedIf : Bool → List ℕ → List ℕ
 savedIf clear s =
-    if clear then splice (pasted s (savedAt mostHours) (drop presentAt s) (partSize mostHours)) flagAt (le 1 1) else s
+    if clear then splice (pasted s (savedOffset mostHours) (drop presentOffset s) (partSize mostHours)) flagOffset (le 1 1) else s

@@ -16,11 +16,11 @@ use book::state::PENDING;
 use book::state::SCHEDULES;
 use book::state::WITHDRAWN;
 use book::state::row_count;
-use image::layout::PHASE_AT;
-use image::layout::PRESENT_AT;
+use image::layout::PHASE_OFFSET;
+use image::layout::PRESENT_OFFSET;
 use image::layout::ROW_WIDTH;
-use image::layout::ROWS_IN;
-use image::rows::STATUS_IN;
+use image::layout::ROWS_OFFSET;
+use image::rows::STATUS_OFFSET;
 use rules::Checked;
 use rules::Outcome;
 use rules::Verdict;
@@ -32,8 +32,8 @@ fn end_row(s: &mut [u8], at: usize)
     requires { ⌜ at + rowWidth ≤ length (now s) ⌝ }
     ensures { λ _. ⌜ now (s .exit) ≡ splice (now (s .entry)) at (ended (take rowWidth (drop at (now (s .entry))))) ⌝ }
 {
-    if get_u8(s, at + STATUS_IN) == PENDING {
-        put_u8(s, at + STATUS_IN, WITHDRAWN);
+    if get_u8(s, at + STATUS_OFFSET) == PENDING {
+        put_u8(s, at + STATUS_OFFSET, WITHDRAWN);
     }
 }
 
@@ -64,8 +64,8 @@ pub fn close_gate(book: &mut [u8]) -> Outcome
         };
     }
     let n = row_count(book);
-    end_rows(book, PRESENT_AT + ROWS_IN, n);
-    put_u8(book, PHASE_AT, SCHEDULES);
+    end_rows(book, PRESENT_OFFSET + ROWS_OFFSET, n);
+    put_u8(book, PHASE_OFFSET, SCHEDULES);
     Outcome {
         verdict: Verdict::Accepted { number: 0 },
     }

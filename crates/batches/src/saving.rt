@@ -12,7 +12,7 @@ ghost use Rattle.rules.specs.Limits.{mostHours, mostRows, bookSize};
 ghost use Rattle.rules.specs.Verdicts.{checked};
 ghost use Rattle.rules.specs.Requests.{Kind, openBatch, undo, keep, closeGate};
 ghost use Rattle.rules.specs.Calls.{_oneOf_};
-ghost use Rattle.image.specs.Layout.{flagAt, savedAt, partSize};
+ghost use Rattle.image.specs.Layout.{flagOffset, savedOffset, partSize};
 ghost use Rattle.image.specs.Valid.{isBook, bookIn, bookBytes};
 ghost use Rattle.book.specs.Kinds.{decided, outcomeOn, bookAfter};
 ghost use Rattle.batches.specs.Rooms.{NoRowsPast};
@@ -22,13 +22,13 @@ use book::state::batch_open;
 use book::state::phase;
 use book::state::row_count;
 use book::state::saved_row_count;
-use image::layout::FLAG_AT;
-use image::layout::NETS_IN;
+use image::layout::FLAG_OFFSET;
+use image::layout::NETS_OFFSET;
 use image::layout::PART_SIZE;
-use image::layout::PRESENT_AT;
+use image::layout::PRESENT_OFFSET;
 use image::layout::ROW_WIDTH;
-use image::layout::ROWS_IN;
-use image::layout::SAVED_AT;
+use image::layout::ROWS_OFFSET;
+use image::layout::SAVED_OFFSET;
 use rules::Checked;
 use rules::Outcome;
 use rules::Refusal;
@@ -71,8 +71,13 @@ fn copy_part(book: &mut [u8], from: usize, to: usize, n: u16)
     requires { ⌜ (n ≤ mostRows) × NoRowsPast (now book) from n × NoRowsPast (now book) to n ⌝ }
     ensures { λ _. ⌜ now (book .exit) ≡ pasted (now (book .entry)) to (drop from (now (book .entry))) (partSize mostHours) ⌝ }
 {
-    copy_within(book, from, to, ROWS_IN + ROW_WIDTH * (n as usize));
-    copy_within(book, from + NETS_IN, to + NETS_IN, PART_SIZE - NETS_IN);
+    copy_within(book, from, to, ROWS_OFFSET + ROW_WIDTH * (n as usize));
+    copy_within(
+        book,
+        from + NETS_OFFSET,
+        to + NETS_OFFSET,
+        PART_SIZE - NETS_OFFSET,
+    );
 }
 
 // Clears a part that has no more than n rows.
@@ -81,18 +86,18 @@ fn clear_part(book: &mut [u8], at: usize, n: u16)
     requires { ⌜ (n ≤ mostRows) × NoRowsPast (now book) at n ⌝ }
     ensures { λ _. ⌜ now (book .exit) ≡ splice (now (book .entry)) at (zeros (partSize mostHours)) ⌝ }
 {
-    clear_at(book, at, ROWS_IN + ROW_WIDTH * (n as usize));
-    clear_at(book, at + NETS_IN, PART_SIZE - NETS_IN);
+    clear_at(book, at, ROWS_OFFSET + ROW_WIDTH * (n as usize));
+    clear_at(book, at + NETS_OFFSET, PART_SIZE - NETS_OFFSET);
 }
 
 // Clears what the batch saved, no more than n rows, and the flag.
 fn end_batch(book: &mut [u8], n: u16)
     requires { ⌜ length (now book) ≡ bookSize ⌝ }
-    requires { ⌜ (n ≤ mostRows) × NoRowsPast (now book) (savedAt mostHours) n ⌝ }
-    ensures { λ _. ⌜ now (book .exit) ≡ splice (splice (now (book .entry)) (savedAt mostHours) (zeros (partSize mostHours))) flagAt (le 1 0) ⌝ }
+    requires { ⌜ (n ≤ mostRows) × NoRowsPast (now book) (savedOffset mostHours) n ⌝ }
+    ensures { λ _. ⌜ now (book .exit) ≡ splice (splice (now (book .entry)) (savedOffset mostHours) (zeros (partSize mostHours))) flagOffset (le 1 0) ⌝ }
 {
-    clear_part(book, SAVED_AT, n);
-    put_u8(book, FLAG_AT, 0);
+    clear_part(book, SAVED_OFFSET, n);
+    put_u8(book, FLAG_OFFSET, 0);
 }
 
 // Whether nothing is wrong.
@@ -126,8 +131,8 @@ fn save_if(clear: bool, book: &mut [u8])
 {
     if clear {
         let rows = row_count(book);
-        copy_part(book, PRESENT_AT, SAVED_AT, rows);
-        put_u8(book, FLAG_AT, 1);
+        copy_part(book, PRESENT_OFFSET, SAVED_OFFSET, rows);
+        put_u8(book, FLAG_OFFSET, 1);
     }
 }
 
@@ -159,7 +164,7 @@ pub fn undo(book: &mut [u8]) -> Outcome
     let rows = row_count(book);
     let saved = saved_row_count(book);
     let since = rows - saved;
-    copy_part(book, SAVED_AT, PRESENT_AT, rows);
+    copy_part(book, SAVED_OFFSET, PRESENT_OFFSET, rows);
     end_batch(book, saved);
     Outcome {
         verdict: Verdict::Accepted { number: since },

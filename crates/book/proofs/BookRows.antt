@@ -18,10 +18,10 @@ use Rattle.rules.specs.declared.Row.{Row}
 use Rattle.rules.specs.Basics.{nth, Each}
 use Rattle.rules.specs.Limits.{mostPrice, mostRows, mostHours, mostAccounts, bookSize}
 use Rattle.rules.specs.Books.{Setup, Book, noAccount, noRow, accountAt, operatorOf, countsOf, operatorCount, accountCount, periods, marginsOf}
-use Rattle.rules.specs.Opening.{countsIn, accountsIn, accountFrom, estimatesIn, setupOf, operatorsOf}
+use Rattle.rules.specs.Opening.{countsIn, accountsIn, accountOffset, estimatesIn, setupOf, operatorsOf}
 use Rattle.rules.proofs.Basics.Searches.{each-map, each-nth, each-at}
 use Rattle.rules.proofs.Setups.SetupEntries.{account-at, account-wide, account-inside, account-numbered, counts-of-setup}
-use Rattle.image.specs.Layout.{setupRoom, rowWidth, partWidths, partSize, presentAt, rowCountAt, rowsAt, rowCountSection, rowsSection}
+use Rattle.image.specs.Layout.{setupRoom, rowWidth, partWidths, partSize, presentOffset, rowCountOffset, rowsOffset, rowCountSection, rowsSection}
 use Rattle.image.specs.Image.{partOf, partIn}
 use Rattle.image.specs.Valid.{isBook, bookIn}
 use Rattle.image.specs.Cells.{partAt, rowsFrom}
@@ -36,16 +36,16 @@ use Rattle.book.proofs.StateLaws.{book-length, book-is-sound, row-count
 -- ---- a part
 
 -- the rows of a part stand side by side from its place for rows on
-pub part-rows : (top operators : ℕ) (s : List ℕ) (at n : ℕ) → n ≡ numberAt s (at + rowCountAt) 2 → n ≤ mostRows
-    → partAt top operators s at .rows ≡ rowsFrom s (at + rowsAt) n
+pub part-rows : (top operators : ℕ) (s : List ℕ) (at n : ℕ) → n ≡ numberAt s (at + rowCountOffset) 2 → n ≤ mostRows
+    → partAt top operators s at .rows ≡ rowsFrom s (at + rowsOffset) n
 unfolding partIn partOf rowsFrom numberAt
 part-rows top operators s at n e l =
     let ws : List ℕ = partWidths top in
     let x : List ℕ = take (partSize top) (drop at s) in
-    let count : number (getD (cut ws x) rowCountSection []) ≡ n = ap number (cut-at ws x rowCountSection ∙ inner 2 rowCountAt (partSize top) at s (omega arith)) ∙ sym e in
-    let place : getD (cut ws x) rowsSection [] ≡ take (rowWidth * mostRows) (drop (at + rowsAt) s) =
-    cut-at ws x rowsSection ∙ inner (rowWidth * mostRows) rowsAt (partSize top) at s (omega arith) in
-    rw (count, place, chunks-front rowWidth n (rowWidth * mostRows) (drop (at + rowsAt) s) (omega arith))
+    let count : number (getD (cut ws x) rowCountSection []) ≡ n = ap number (cut-at ws x rowCountSection ∙ inner 2 rowCountOffset (partSize top) at s (omega arith)) ∙ sym e in
+    let place : getD (cut ws x) rowsSection [] ≡ take (rowWidth * mostRows) (drop (at + rowsOffset) s) =
+    cut-at ws x rowsSection ∙ inner (rowWidth * mostRows) rowsOffset (partSize top) at s (omega arith) in
+    rw (count, place, chunks-front rowWidth n (rowWidth * mostRows) (drop (at + rowsOffset) s) (omega arith))
 
 -- the table of sums has room for a sound row
 pub sound-tabled : (u : Setup) → SoundSetup u → (r : Row) → SoundRow u r → Tabled mostHours r
@@ -123,15 +123,15 @@ module _ (s : List ℕ) (h : isBook s ≡ true) where
     within : a ≤ countsIn s .accounts
     within = omega (arith, ap (λ (m : Counts). m .accounts) counts-in)
 
-    place : from + width * (a - 1) ≡ accountFrom (countsIn s) a
+    place : from + width * (a - 1) ≡ accountOffset (countsIn s) a
     place = rw (places .0, places .1)
 
-    pub owner-inside : from + width * (a - 1) < length s
-    owner-inside = omega (arith, place, account-inside (countsIn s) a low within, account-wide (countsIn s), setup-tabled .whole)
+    pub entry-inside : from + width * (a - 1) < length s
+    entry-inside = omega (arith, place, account-inside (countsIn s) a low within, account-wide (countsIn s), setup-tabled .whole)
 
-    pub owner-stands : numberAt s (from + width * (a - 1)) 1 ≡ operatorOf (bookIn s .setup) a
+    pub entry-operator-is : numberAt s (from + width * (a - 1)) 1 ≡ operatorOf (bookIn s .setup) a
     unfolding setupOf
-    owner-stands =
+    entry-operator-is =
         let entry = account-numbered s (countsIn s) refl a place (sym (account-at s (from + width * (a - 1)) (countsIn s))) low within in
         ap (λ (x : Account). x .operator) entry ∙ sym (ap (λ (u : Setup). operatorOf u a) setup-in)
 
@@ -147,13 +147,13 @@ module _ (s : List ℕ) (h : isBook s ≡ true) where
     few = omega (arith, book-is-sound s h .part-sound .rows-high)
 
     -- the rows stand side by side
-    pub rows-in : bookIn s .part .rows ≡ rowsFrom s (presentAt + rowsAt) n
+    pub rows-in : bookIn s .part .rows ≡ rowsFrom s (presentOffset + rowsOffset) n
     rows-in =
         ap (λ (b : Book). b .part .rows) (decode-places mostHours bookSize s)
-        ∙ part-rows mostHours (countsIn s .operators) s presentAt n (e ∙ sym (row-count-stands s h)) few
+        ∙ part-rows mostHours (countsIn s .operators) s presentOffset n (e ∙ sym (row-count-stands s h)) few
 
     -- what the sums ask of them
-    pub rows-summable : (presentAt + rowsAt + rowWidth * n ≤ length s) × (n ≤ mostRows) × Each (Tabled mostHours) (rowsFrom s (presentAt + rowsAt) n)
+    pub rows-summable : (presentOffset + rowsOffset + rowWidth * n ≤ length s) × (n ≤ mostRows) × Each (Tabled mostHours) (rowsFrom s (presentOffset + rowsOffset) n)
     rows-summable = (omega (arith, book-length s h, few), few, rw rows-in at rows-tabled)
 
 -- ---- the operator of a calling account

@@ -24,18 +24,18 @@ use Rattle.rules.specs.declared.Operator.{Operator}
 use Rattle.rules.specs.Basics.{total, counting, entries, joined}
 use Rattle.rules.specs.Limits.{mostOperators, mostAccounts, mostRows, mostSchedules}
 use Rattle.rules.specs.Books.{Setup, operatorCount, accountCount, pointCount, countsOf}
-use Rattle.rules.specs.Opening.{countsIn, operatorsFrom, setupLength, operatorIn, operatorsIn, setupOf, guaranteesOf, operatorBytes, accountBytes, pointBytes, operatorsOf, setupBytes, setupRefusal, opened, operatorEntry, guaranteeWidth}
+use Rattle.rules.specs.Opening.{countsIn, operatorsOffset, setupLength, operatorIn, operatorsIn, setupOf, guaranteesOf, operatorBytes, accountBytes, pointBytes, operatorsOf, setupBytes, setupRefusal, opened, operatorEntry, guaranteeWidth}
 use Rattle.rules.specs.Registration.{moved}
 use Rattle.rules.proofs.Setups.SetupEntries.{operator-at, counts-of-setup}
 use Rattle.rules.proofs.Setups.SetupShape.{accepted-shape}
-use Rattle.image.specs.Layout.{setupRoom, rowWidth, scheduleWidth, accountWidth, partWidths, partSize, usedSize, bookWidths, phaseAt, presentAt, setupSection, phaseSection, presentSection, guaranteesSection}
+use Rattle.image.specs.Layout.{setupRoom, rowWidth, scheduleWidth, accountWidth, partWidths, partSize, usedSize, bookWidths, phaseOffset, presentOffset, setupSection, phaseSection, presentSection, guaranteesSection}
 use Rattle.image.specs.Image.{rowBytes, scheduleBytes, accountNets, netsBytes, partSections, partBytes, savedBytes, storedSetup, sectionsWith, sections, image}
 use Rattle.image.proofs.Sound.Soundness.{sound-setup}
 use Rattle.image.proofs.Sound.SoundBooks.{sound}
 use Rattle.image.proofs.Writing.Sizes.{Fits, fits, length-row, length-schedule, length-guarantee, length-joined, length-operator-bytes, length-operators, length-stored}
 use Rattle.image.proofs.Keeping.Opened.{opened-valid}
 use Rattle.image.proofs.Setups.SetupAgain.{bytes-again, length-guarantees, accepted-sound}
-use Rattle.book.specs.Fresh.{unlodged, lodged}
+use Rattle.book.specs.Fresh.{guaranteesCleared, guaranteesPut}
 
 -- ---- the two loops over operators
 
@@ -67,8 +67,8 @@ pub length-guarantees-bytes : (gs : List Cents) → length (guaranteesBytes gs) 
 length-guarantees-bytes gs = length-uniform 8 (map (λ g. le guaranteeWidth (g .0)) gs) (uniform-map 8 (λ g. le guaranteeWidth (g .0)) gs length-guarantee) ∙ rw length-map
 
 copied : (n : ℕ) (d : List ℕ) (at : ℕ) (s : List ℕ) (from : ℕ) → Bytes s → from + operatorEntry * n ≤ length s → at + guaranteeWidth * n ≤ length d
-    → lodged d at s from n ≡ splice d at (guaranteesBytes (map (λ x. x .guarantee) (entries operatorEntry operatorIn n (drop from s))))
-unfolding lodged entries flat
+    → guaranteesPut d at s from n ≡ splice d at (guaranteesBytes (map (λ x. x .guarantee) (entries operatorEntry operatorIn n (drop from s))))
+unfolding guaranteesPut entries flat
 copied zero d at s from b l h = sym (splice-take-drop d at [] ∙ rw (add-zero at) (take-append-drop at d))
 copied (suc n) d at s from b l h =
     let x : List ℕ = take guaranteeWidth (drop from s) in
@@ -79,10 +79,10 @@ copied (suc n) d at s from b l h =
     ∙ rw (guarantee-bytes s from b (omega arith), drop-drop operatorEntry from s)
 
 -- the guarantees of a set-up copied one by one are copied
-pub lodged-guarantees : (d : List ℕ) (at : ℕ) (s : List ℕ) → Bytes s → setupLength (countsIn s) ≤ length s → at + guaranteeWidth * countsIn s .operators ≤ length d
-    → lodged d at s (operatorsFrom (countsIn s)) (countsIn s .operators) ≡ splice d at (guaranteesBytes (guaranteesOf s))
+pub guarantees-put-guarantees : (d : List ℕ) (at : ℕ) (s : List ℕ) → Bytes s → setupLength (countsIn s) ≤ length s → at + guaranteeWidth * countsIn s .operators ≤ length d
+    → guaranteesPut d at s (operatorsOffset (countsIn s)) (countsIn s .operators) ≡ splice d at (guaranteesBytes (guaranteesOf s))
 unfolding guaranteesOf operatorsIn
-lodged-guarantees d at s b l h = copied (countsIn s .operators) d at s (operatorsFrom (countsIn s)) b (omega arith) h
+guarantees-put-guarantees d at s b l h = copied (countsIn s .operators) d at s (operatorsOffset (countsIn s)) b (omega arith) h
 
 -- an operator with no guarantee
 abbrev emptied : Operator → Operator
@@ -99,8 +99,8 @@ operator-emptied : (x : Operator) → splice (operatorBytes x) 0 (zeros guarante
 operator-emptied x = rw (← (le-zero guaranteeWidth)) (write-number (8 ∷ 2 ∷ []) (x .guarantee .0 ∷ x .maintenance ∷ []) 0 0 0 refl (omega arith) refl)
 
 emptied-entries : (os : List Operator) (a rest : List ℕ) (at : ℕ) → at ≡ length a
-    → unlodged (a ++ (joined operatorBytes os ++ rest)) at (length os) ≡ a ++ (joined operatorBytes (map emptied os) ++ rest)
-unfolding unlodged joined
+    → guaranteesCleared (a ++ (joined operatorBytes os ++ rest)) at (length os) ≡ a ++ (joined operatorBytes (map emptied os) ++ rest)
+unfolding guaranteesCleared joined
 emptied-entries [] a rest at e = refl
 emptied-entries (x ∷ os) a rest at e =
     let y : List ℕ = operatorBytes (emptied x) in
@@ -110,25 +110,25 @@ emptied-entries (x ∷ os) a rest at e =
     ∙ splice-right a (operatorBytes x ++ t) at 0 (zeros guaranteeWidth) (omega arith)
     ∙ ap (λ (l : List ℕ). a ++ l) (splice-left (operatorBytes x) t 0 (zeros guaranteeWidth) (omega (arith, length-operator-bytes x, length-zeros guaranteeWidth)))
     ∙ rw (operator-emptied x) (sym (append-assoc a y t)) in
-    ap (λ (l : List ℕ). unlodged l (at + operatorEntry) (length os)) one
+    ap (λ (l : List ℕ). guaranteesCleared l (at + operatorEntry) (length os)) one
     ∙ emptied-entries os (a ++ y) rest (at + operatorEntry) (omega (arith, length-append a y, length-operator-bytes (emptied x)))
     ∙ simp append-assoc
 
 -- the guarantees in the bytes of a set-up made zero one by one leave the stored set-up
-unlodged-setup : (u : Setup) (gs : List Cents) (rest : List ℕ) → length gs ≡ operatorCount u → length (u .estimates) ≡ u .hours
-    → unlodged (setupBytes u gs ++ rest) (operatorsFrom (countsOf u)) (operatorCount u) ≡ storedSetup u ++ rest
+guarantees-cleared-setup : (u : Setup) (gs : List Cents) (rest : List ℕ) → length gs ≡ operatorCount u → length (u .estimates) ≡ u .hours
+    → guaranteesCleared (setupBytes u gs ++ rest) (operatorsOffset (countsOf u)) (operatorCount u) ≡ storedSetup u ++ rest
 unfolding setupBytes storedSetup
-unlodged-setup u gs rest g e =
+guarantees-cleared-setup u gs rest g e =
     let c : List ℕ = u .hours ∷ operatorCount u ∷ accountCount u ∷ pointCount u ∷ u .zones ∷ [] in
     let prices : List ℕ = joined (λ p. le 4 (p .0)) (u .estimates) in
-    let l : length (c ++ prices) ≡ operatorsFrom (countsOf u) =
+    let l : length (c ++ prices) ≡ operatorsOffset (countsOf u) =
     length-append c prices ∙ omega (arith, length-joined 4 (λ p. le 4 (p .0)) (u .estimates) (λ p. length-le 4 (p .0))) in
     let os : List Operator = operatorsOf gs (u .maintenance) in
     let accounts : List ℕ = joined accountBytes (u .accounts) in
     let points : List ℕ = joined pointBytes (u .points) in
-    let at : ℕ = operatorsFrom (countsOf u) in
-    ap (λ (x : List ℕ). unlodged x at (operatorCount u)) (apart (c ++ prices) (joined operatorBytes os) accounts points rest)
-    ∙ ap (unlodged ((c ++ prices) ++ (joined operatorBytes os ++ (accounts ++ (points ++ rest)))) at) (sym (length-operators gs (u .maintenance) g))
+    let at : ℕ = operatorsOffset (countsOf u) in
+    ap (λ (x : List ℕ). guaranteesCleared x at (operatorCount u)) (apart (c ++ prices) (joined operatorBytes os) accounts points rest)
+    ∙ ap (guaranteesCleared ((c ++ prices) ++ (joined operatorBytes os ++ (accounts ++ (points ++ rest)))) at) (sym (length-operators gs (u .maintenance) g))
     ∙ emptied-entries os (c ++ prices) (accounts ++ (points ++ rest)) at (sym l)
     ∙ rw (operators-emptied gs (u .maintenance) g) (sym (apart (c ++ prices) _ accounts points rest))
   where
@@ -152,17 +152,17 @@ module _ (s : List ℕ) (b : Bytes s) (h : setupRefusal s ≡ none) where
       ∙ ap setupLength (counts-of-setup s) ∙ sym (accepted-shape s h .exact)
 
   -- the set-up at the front of zeros, its guarantees made zero
-  pub unlodged-opened : (size : ℕ) → length s ≤ size
-      → unlodged (splice (zeros size) 0 s) (operatorsFrom (countsIn s)) (countsIn s .operators) ≡ splice (zeros size) 0 (storedSetup (setupOf s))
+  pub guarantees-cleared-opened : (size : ℕ) → length s ≤ size
+      → guaranteesCleared (splice (zeros size) 0 s) (operatorsOffset (countsIn s)) (countsIn s .operators) ≡ splice (zeros size) 0 (storedSetup (setupOf s))
   unfolding padded
-  unlodged-opened size l =
+  guarantees-cleared-opened size l =
       let u : Setup = setupOf s in
       let gs : List Cents = guaranteesOf s in
       let r : List ℕ = zeros (size - length s) in
       let g : length gs ≡ operatorCount u = length-guarantees s ∙ sym (ap (λ (c : Counts). c .operators) (counts-of-setup s)) in
-      ap (λ (x : List ℕ). unlodged x (operatorsFrom (countsIn s)) (countsIn s .operators)) (splice-zeros size s l ∙ ap (λ (x : List ℕ). x ++ r) (sym whole))
-      ∙ ap (λ (c : Counts). unlodged (setupBytes u gs ++ r) (operatorsFrom c) (c .operators)) (sym (counts-of-setup s))
-      ∙ unlodged-setup u gs r g (sound-setup u (accepted-sound s h) .estimates-all)
+      ap (λ (x : List ℕ). guaranteesCleared x (operatorsOffset (countsIn s)) (countsIn s .operators)) (splice-zeros size s l ∙ ap (λ (x : List ℕ). x ++ r) (sym whole))
+      ∙ ap (λ (c : Counts). guaranteesCleared (setupBytes u gs ++ r) (operatorsOffset c) (c .operators)) (sym (counts-of-setup s))
+      ∙ guarantees-cleared-setup u gs r g (sound-setup u (accepted-sound s h) .estimates-all)
       ∙ sym (splice-zeros size (storedSetup u) (omega (arith, length-stored-opened))
       ∙ ap (λ (k : ℕ). storedSetup u ++ zeros (size - k)) length-stored-opened)
 
@@ -197,7 +197,7 @@ part-fresh top gs h =
 
 -- zeros, the set-up with no guarantees, phase 1, and the guarantees in the present part
 pub image-opened : (top size : ℕ) (s : List ℕ) → Bytes s → setupRefusal s ≡ none → usedSize top ≤ size
-    → splice (splice (splice (zeros size) 0 (storedSetup (setupOf s))) phaseAt (le 1 1)) presentAt (guaranteesBytes (guaranteesOf s)) ≡ image top size (opened s)
+    → splice (splice (splice (zeros size) 0 (storedSetup (setupOf s))) phaseOffset (le 1 1)) presentOffset (guaranteesBytes (guaranteesOf s)) ≡ image top size (opened s)
 unfolding image sections sectionsWith savedBytes opened
 image-opened top size s b h g =
     let f = fit s b h in
@@ -215,15 +215,15 @@ image-opened top size s b h g =
     let a0 : zeros size ≡ flat s0 = ap zeros sz ∙ sym (flat-zeros ws) in
     let a1 : splice (flat s0) 0 t ≡ flat (set s0 setupSection y) = write-part ws s0 w0 setupSection 0 0 t (omega arith) (omega arith) (omega arith) ∙ rw (splice-zeros setupRoom t lt) in
     let w1 = wide-set ws s0 setupSection y w0 ly in
-    let a2 = write-whole ws (set s0 setupSection y) w1 phaseSection phaseAt (le 1 1) (omega arith) (length-le 1 1) (omega arith) in
+    let a2 = write-whole ws (set s0 setupSection y) w1 phaseSection phaseOffset (le 1 1) (omega arith) (length-le 1 1) (omega arith) in
     let w2 = wide-set ws (set s0 setupSection y) phaseSection (le 1 1) w1 (length-le 1 1) in
-    let a3 = write-part ws (set (set s0 setupSection y) phaseSection (le 1 1)) w2 presentSection 0 presentAt x (omega arith) (omega arith) (omega arith) in
+    let a3 = write-part ws (set (set s0 setupSection y) phaseSection (le 1 1)) w2 presentSection 0 presentOffset x (omega arith) (omega arith) (omega arith) in
     rw (a0, a1, a2, a3, part-fresh top (guaranteesOf s) lg, le-zero 1, le-zero 2, slots-none scheduleWidth mostSchedules scheduleBytes length-schedule)
 
 -- the same, as it is written: the set-up copied, its guarantees made zero, the phase, and the guarantees copied one by one
 pub opening-writes : (top size : ℕ) (s : List ℕ) → Bytes s → setupRefusal s ≡ none → usedSize top ≤ size
-    → lodged (splice (unlodged (splice (zeros size) 0 s) (operatorsFrom (countsIn s)) (countsIn s .operators)) phaseAt (le 1 1))
-    presentAt s (operatorsFrom (countsIn s)) (countsIn s .operators)
+    → guaranteesPut (splice (guaranteesCleared (splice (zeros size) 0 s) (operatorsOffset (countsIn s)) (countsIn s .operators)) phaseOffset (le 1 1))
+    presentOffset s (operatorsOffset (countsIn s)) (countsIn s .operators)
     ≡ image top size (opened s)
 unfolding opened
 opening-writes top size s b h g =
@@ -234,8 +234,8 @@ opening-writes top size s b h g =
     let lg : length (guaranteesOf s) ≤ mostOperators = f .part-fits .guarantees-fit in
     let lo = length-guarantees s in
     let l = accepted-shape s h .exact in
-    let d : List ℕ = splice (splice (zeros size) 0 t) phaseAt (le 1 1) in
+    let d : List ℕ = splice (splice (zeros size) 0 t) phaseOffset (le 1 1) in
     let l0 = length-zeros size in
     let l1 = length-splice (zeros size) 0 t (omega arith) in
-    let ld = length-splice (splice (zeros size) 0 t) phaseAt (le 1 1) (omega (arith, length-le 1 1)) in
-    rw (unlodged-opened s b h size (omega arith)) (lodged-guarantees d presentAt s b (omega arith) (omega arith) ∙ image-opened top size s b h g)
+    let ld = length-splice (splice (zeros size) 0 t) phaseOffset (le 1 1) (omega (arith, length-le 1 1)) in
+    rw (guarantees-cleared-opened s b h size (omega arith)) (guarantees-put-guarantees d presentOffset s b (omega arith) (omega arith) ∙ image-opened top size s b h g)

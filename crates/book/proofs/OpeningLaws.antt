@@ -19,17 +19,17 @@ use Rattle.rules.specs.declared.Refusal.{Refusal}
 use Rattle.rules.specs.declared.Refusal.the-variants.{NotABook}
 use Rattle.rules.specs.Limits.{bookSize, mostOperators}
 use Rattle.rules.specs.Verdicts.{firstToApply, accepted, refused}
-use Rattle.rules.specs.Opening.{countsIn, operatorsFrom, setupRefusal, openRefusal, openOutcome, opened, guaranteeWidth, operatorEntry}
+use Rattle.rules.specs.Opening.{countsIn, operatorsOffset, setupRefusal, openRefusal, openOutcome, opened, guaranteeWidth, operatorEntry}
 use Rattle.rules.proofs.Checks.Clearing.{clear, clear-applies}
 use Rattle.rules.proofs.Setups.SetupShape.{accepted-shape}
-use Rattle.image.specs.Layout.{setupRoom, phaseAt, presentAt}
+use Rattle.image.specs.Layout.{setupRoom, phaseOffset, presentOffset}
 use Rattle.image.specs.Valid.{isBook, bookBytes}
 use Rattle.image.proofs.Sound.SoundBooks.{sound}
 use Rattle.image.proofs.Writing.Sizes.{Fits, fits}
 use Rattle.image.proofs.Setups.SetupAgain.{length-guarantees}
 use Rattle.image.proofs.Keeping.Opened.{opened-valid, opened-is-book}
-use Rattle.book.specs.Fresh.{unlodged, lodged}
-use Rattle.book.specs.Doors.{openBytes}
+use Rattle.book.specs.Fresh.{guaranteesCleared, guaranteesPut}
+use Rattle.book.specs.Answers.{openBytes}
 use Rattle.book.proofs.OpenedBytes.{length-stored-opened, opening-writes}
 
 -- ---- bytes cleared
@@ -45,33 +45,33 @@ module _ (s : List ℕ) where
 -- ---- the guarantees made zero
 
 module _ (s : List ℕ) (at : ℕ) where
-  pub unlodged-done : (n : ℕ) → n ≤ 0 → unlodged s at n ≡ s
-  unfolding unlodged
-  unlodged-done zero h = refl
-  unlodged-done (suc n) h = absurd (omega arith)
+  pub guarantees-cleared-done : (n : ℕ) → n ≤ 0 → guaranteesCleared s at n ≡ s
+  unfolding guaranteesCleared
+  guarantees-cleared-done zero h = refl
+  guarantees-cleared-done (suc n) h = absurd (omega arith)
 
-  pub unlodged-step : (n m : ℕ) → n ≡ m + 1 → unlodged s at n ≡ unlodged (splice s at (le guaranteeWidth 0)) (at + operatorEntry) m
-  unfolding unlodged
-  unlodged-step n m e = rw (e, add-one m, le-zero guaranteeWidth)
+  pub guarantees-cleared-step : (n m : ℕ) → n ≡ m + 1 → guaranteesCleared s at n ≡ guaranteesCleared (splice s at (le guaranteeWidth 0)) (at + operatorEntry) m
+  unfolding guaranteesCleared
+  guarantees-cleared-step n m e = rw (e, add-one m, le-zero guaranteeWidth)
 
 -- ---- the guarantees put into the book
 
 module _ (d : List ℕ) (at : ℕ) (s : List ℕ) (from : ℕ) where
-  pub lodged-done : (n : ℕ) → n ≤ 0 → lodged d at s from n ≡ d
-  unfolding lodged
-  lodged-done zero h = refl
-  lodged-done (suc n) h = absurd (omega arith)
+  pub guarantees-put-done : (n : ℕ) → n ≤ 0 → guaranteesPut d at s from n ≡ d
+  unfolding guaranteesPut
+  guarantees-put-done zero h = refl
+  guarantees-put-done (suc n) h = absurd (omega arith)
 
-  pub lodged-step : (n m w : ℕ) → n ≡ m + 1 → w ≡ guaranteeWidth → lodged d at s from n ≡ lodged (splice d at (take w (drop from s))) (at + guaranteeWidth) s (from + operatorEntry) m
-  unfolding lodged
-  lodged-step n m w e k = rw (e, add-one m, k)
+  pub guarantees-put-step : (n m w : ℕ) → n ≡ m + 1 → w ≡ guaranteeWidth → guaranteesPut d at s from n ≡ guaranteesPut (splice d at (take w (drop from s))) (at + guaranteeWidth) s (from + operatorEntry) m
+  unfolding guaranteesPut
+  guarantees-put-step n m w e k = rw (e, add-one m, k)
 
 -- ---- an accepted set-up
 
 -- the counts and the operators stand in it, and it fits its room
 pub record Openable (n : Counts) (s : List ℕ) : Type 0 where
   pub long : 5 ≤ length s
-  pub whole : operatorsFrom n + operatorEntry * n .operators ≤ length s
+  pub whole : operatorsOffset n + operatorEntry * n .operators ≤ length s
   pub short : length s ≤ setupRoom
   pub few : n .operators ≤ mostOperators
 
@@ -93,10 +93,10 @@ module _ (s : List ℕ) (b : Bytes s) (h : setupRefusal s ≡ none) where
       }
 
   -- what is written, write by write, is the fresh book
-  pub written-fresh : {n : Counts} → n ≡ countsIn s → {from size : ℕ} → from ≡ operatorsFrom n → size ≡ bookSize → {x y z : List ℕ}
-      → x ≡ unlodged (splice (zeros size) 0 s) from (n .operators)
-      → y ≡ splice x phaseAt (le 1 1)
-      → z ≡ lodged y presentAt s from (n .operators)
+  pub written-fresh : {n : Counts} → n ≡ countsIn s → {from size : ℕ} → from ≡ operatorsOffset n → size ≡ bookSize → {x y z : List ℕ}
+      → x ≡ guaranteesCleared (splice (zeros size) 0 s) from (n .operators)
+      → y ≡ splice x phaseOffset (le 1 1)
+      → z ≡ guaranteesPut y presentOffset s from (n .operators)
       → z ≡ bookBytes (opened s)
   written-fresh en ef es ex ey ez = rw (ez, ey, ex, ef, en, es) (opening-writes _ bookSize s b h (omega arith))
 

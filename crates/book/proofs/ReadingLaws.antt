@@ -31,7 +31,7 @@ use Rattle.rules.specs.Readings.{position, netChecks, netReadingOf, netReading,
 use Rattle.rules.proofs.Basics.Tests.{and-both, within-true}
 use Rattle.rules.proofs.Basics.Searches.{each-at}
 use Rattle.rules.proofs.Checks.Clearing.{clear-applies}
-use Rattle.image.specs.Layout.{presentAt, netAt, netWidth}
+use Rattle.image.specs.Layout.{presentOffset, netOffset, netWidth}
 use Rattle.image.specs.Valid.{isBook, bookIn}
 use Rattle.image.specs.Tables.{InTable}
 use Rattle.image.proofs.Writing.Sizes.{fits}
@@ -110,11 +110,11 @@ module _ (s : List ℕ) (h : isBook s ≡ true) (a t : ℕ) (i : (1 ≤ a) × (a
         }
 
     -- where 4 bytes hold it
-    pub net-stored : (v : ℕ) → v ≡ numberAt s (presentAt + netAt mostHours a t) 4
+    pub net-stored : (v : ℕ) → v ≡ numberAt s (presentOffset + netOffset mostHours a t) 4
         → v ≡ (bought (bookIn s .part .rows) a t + (256 ^ netWidth - 1) * sold (bookIn s .part .rows) a t) % 256 ^ netWidth
     net-stored v q =
         let k = net-has-place in
-        let at : ℕ = presentAt + netAt mostHours a t in
+        let at : ℕ = presentOffset + netOffset mostHours a t in
         q
         ∙ ap (λ (z : List ℕ). numberAt z at 4) (book-is-image mostHours bookSize s h .0)
         ∙ net-read mostHours bookSize (bookIn s) (fits (bookIn s) (book-is-sound s h)) a t at (k .account-low) (k .account-high) (k .hour-low) (k .hour-high) refl
@@ -162,14 +162,14 @@ module _ (s : List ℕ) (h : isBook s ≡ true) (n : Counts) (e : n ≡ countsIn
       pub net-in-table : InTable mostHours a t
       net-in-table = net-has-place s h a t account-inside hour-inside
 
-      pub net-stands : (v : ℕ) → v ≡ numberAt s (presentAt + netAt mostHours a t) 4
-          → netReading (bookIn s) a t ≡ NetReading.Stands (if ltb v (2 ^ 31) then Long (kwh v) else Short (kwh (2 ^ 32 - v)))
+      pub net-stands : (v : ℕ) → v ≡ numberAt s (presentOffset + netOffset mostHours a t) 4
+          → netReading (bookIn s) a t ≡ NetReading.Read (if ltb v (2 ^ 31) then Long (kwh v) else Short (kwh (2 ^ 32 - v)))
       unfolding netReading
       net-stands v q =
           let near = net-near s h a t account-inside hour-inside in
           let stored = net-stored s h a t account-inside hour-inside v q in
           ap (λ (o : Option Refusal). netReadingOf o net) (clear-applies (netChecks (bookIn s) a t) (rw (by-account x), (rw (by-hour y), tt)))
-          ∙ ap NetReading.Stands (stored-position _ _ v stored (near .0) (near .1))
+          ∙ ap NetReading.Read (stored-position _ _ v stored (near .0) (near .1))
 
   module _ (o : ℕ) where
     by-operator : {x : Bool} → not (within 1 o (n .operators)) ≡ x → not (within 1 o (operatorCount u)) ≡ x
@@ -181,8 +181,8 @@ module _ (s : List ℕ) (h : isBook s ≡ true) (n : Counts) (e : n ≡ countsIn
         ap (λ (y : Option Refusal). exposureReadingOf y (exposure u (bookIn s .part .rows) o)) (applies-here _ _ _ (by-operator x))
 
     pub exposure-stands : (m : MilliCents) → not (within 1 o (n .operators)) ≡ false → m .0 ≡ exposure (setupOf s) (bookIn s .part .rows) o
-        → exposureReading (bookIn s) o ≡ ExposureReading.Stands m
+        → exposureReading (bookIn s) o ≡ ExposureReading.Read m
     unfolding exposureReading
     exposure-stands m x y =
         ap (λ (z : Option Refusal). exposureReadingOf z (exposure u (bookIn s .part .rows) o)) (clear-applies (exposureChecks (bookIn s) o) (rw (by-operator x), tt))
-        ∙ ap (λ (z : ℕ). ExposureReading.Stands (milliCents z)) (ap (λ (z : Setup). exposure z (bookIn s .part .rows) o) (setup-in s h) ∙ sym y)
+        ∙ ap (λ (z : ℕ). ExposureReading.Read (milliCents z)) (ap (λ (z : Setup). exposure z (bookIn s .part .rows) o) (setup-in s h) ∙ sym y)

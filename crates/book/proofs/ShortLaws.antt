@@ -13,12 +13,12 @@ use Rattle.rules.specs.declared.Net.{Net}
 use Rattle.rules.specs.Basics.{if_then_else_, total, counting}
 use Rattle.rules.specs.Limits.{mostEnergy, mostPrice}
 use Rattle.rules.specs.Books.{Setup, estimateAt, operatorOf, accountCount, periods}
-use Rattle.rules.specs.Registration.{confirmed, covers, seller, netOf, takes, ofOperator}
+use Rattle.rules.specs.Registration.{confirmed, includesHour, seller, netOf, afterTrade, ofOperator}
 use Rattle.rules.proofs.Basics.Tests.{or-neither}
 use Rattle.image.specs.Valid.{isBook, bookIn}
 use Rattle.image.proofs.Tables.MoneyLaws.{where-most}
 use Rattle.book.specs.Netted.{netted}
-use Rattle.book.specs.Worth.{shortTaken, shortWorth, accountShort, shortShare, netWith}
+use Rattle.book.specs.Worth.{shortAfter, shortWorth, accountShort, shortShare, netWith}
 use Rattle.book.proofs.ReadingLaws.{net-near}
 
 -- ---- an hour
@@ -56,23 +56,23 @@ module _ (s : List ℕ) (k : isBook s ≡ true) (a h : ℕ) (i : (1 ≤ a) × (a
         (omega arith, omega arith)
 
     -- and where a trade is
-    pub short-one : (trade : Row) → trade .quantity .0 ≤ mostEnergy → r ≡ shortTaken net trade a h
+    pub short-one : (trade : Row) → trade .quantity .0 ≤ mostEnergy → r ≡ shortAfter net trade a h
         → (r ≡ netWith (bookIn s .part .rows) (trade ∷ []) a h .sold .0 - netWith (bookIn s .part .rows) (trade ∷ []) a h .bought .0) × (r ≤ 2 * mostEnergy)
-    unfolding netted takes shortTaken
+    unfolding netted afterTrade shortAfter
     short-one trade small d =
         let b = ap (λ (n : Net). n .bought .0) e in
         let o = ap (λ (n : Net). n .sold .0) e in
         let near = net-small in
-        let m = where-most (trade .quantity .0) mostEnergy (confirmed trade && covers h trade && eqb (seller trade) a) small in
+        let m = where-most (trade .quantity .0) mostEnergy (confirmed trade && includesHour h trade && eqb (seller trade) a) small in
         (omega arith, omega arith)
 
 -- a trade that moves nothing of the account
-pub short-still : (net : Net) (trade : Row) (a h r : ℕ) → moves a trade ≡ false → r ≡ net .sold .0 - net .bought .0 → r ≡ shortTaken net trade a h
-unfolding takes shortTaken
+pub short-still : (net : Net) (trade : Row) (a h r : ℕ) → moves a trade ≡ false → r ≡ net .sold .0 - net .bought .0 → r ≡ shortAfter net trade a h
+unfolding afterTrade shortAfter
 short-still net trade a h r idle d =
     let none = neither (confirmed trade) (eqb (trade .proposer) a) (eqb (trade .counterparty) a) idle in
-    let buys = idle-share (confirmed trade) (covers h trade) (eqb (trade .side) 1) (trade .counterparty) (trade .proposer) a (trade .quantity .0) (λ x. (none x .1, none x .0)) in
-    let sells = idle-share (confirmed trade) (covers h trade) (eqb (trade .side) 1) (trade .proposer) (trade .counterparty) a (trade .quantity .0) none in
+    let buys = idle-share (confirmed trade) (includesHour h trade) (eqb (trade .side) 1) (trade .counterparty) (trade .proposer) a (trade .quantity .0) (λ x. (none x .1, none x .0)) in
+    let sells = idle-share (confirmed trade) (includesHour h trade) (eqb (trade .side) 1) (trade .proposer) (trade .counterparty) a (trade .quantity .0) none in
     omega arith
 
 -- at the hour's price

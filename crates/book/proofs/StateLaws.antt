@@ -15,7 +15,7 @@ use Rattle.rules.specs.Limits.{mostHours, mostRows, mostSchedules, bookSize}
 use Rattle.rules.specs.Books.{Part, Book, noRow}
 use Rattle.rules.specs.Calls.{restored}
 use Rattle.rules.proofs.Basics.Searches.{some-of, each-at}
-use Rattle.image.specs.Layout.{rowWidths, rowWidth, phaseAt, flagAt, scheduleCountAt, presentAt, savedAt, rowCountAt, rowAt}
+use Rattle.image.specs.Layout.{rowWidths, rowWidth, phaseOffset, flagOffset, scheduleCountOffset, presentOffset, savedOffset, rowCountOffset, rowOffset}
 use Rattle.image.specs.Image.{rowValues, rowBytes, rowIn, flag}
 use Rattle.image.specs.Valid.{valid, follows, isBook, bookIn, bookBytes}
 use Rattle.image.proofs.Sound.SoundBooks.{SoundBook, sound}
@@ -59,33 +59,33 @@ module _ (s : List ℕ) (h : isBook s ≡ true) where
   pub number-in-book : (at width : ℕ) → numberAt s at width ≡ numberAt (bookBytes (bookIn s)) at width
   number-in-book at width = ap (λ (t : List ℕ). numberAt t at width) book-image
 
-  pub phase-stands : numberAt s phaseAt 1 ≡ bookIn s .phase
+  pub phase-stands : numberAt s phaseOffset 1 ≡ bookIn s .phase
   phase-stands =
       let high = book-is-sound .phase-high in
-      number-in-book phaseAt 1 ∙ phase-read mostHours bookSize (bookIn s) book-fits (omega arith)
+      number-in-book phaseOffset 1 ∙ phase-read mostHours bookSize (bookIn s) book-fits (omega arith)
 
-  pub flag-stands : eqb (numberAt s flagAt 1) 1 ≡ isSome (bookIn s .saved)
+  pub flag-stands : eqb (numberAt s flagOffset 1) 1 ≡ isSome (bookIn s .saved)
   flag-stands =
-      ap (λ (n : ℕ). eqb n 1) (number-in-book flagAt 1 ∙ flag-read mostHours bookSize (bookIn s) book-fits) ∙ flag-open (bookIn s .saved)
+      ap (λ (n : ℕ). eqb n 1) (number-in-book flagOffset 1 ∙ flag-read mostHours bookSize (bookIn s) book-fits) ∙ flag-open (bookIn s .saved)
 
-  pub row-count-stands : numberAt s (presentAt + rowCountAt) 2 ≡ length (bookIn s .part .rows)
-  row-count-stands = number-in-book (presentAt + rowCountAt) 2 ∙ row-count-read mostHours bookSize (bookIn s) book-fits
+  pub row-count-stands : numberAt s (presentOffset + rowCountOffset) 2 ≡ length (bookIn s .part .rows)
+  row-count-stands = number-in-book (presentOffset + rowCountOffset) 2 ∙ row-count-read mostHours bookSize (bookIn s) book-fits
 
   pub row-count-high : length (bookIn s .part .rows) ≤ mostRows
   row-count-high = book-is-sound .part-sound .rows-high
 
-  pub schedule-count-stands : numberAt s scheduleCountAt 2 ≡ length (bookIn s .schedules)
-  schedule-count-stands = number-in-book scheduleCountAt 2 ∙ schedule-count-read mostHours bookSize (bookIn s) book-fits
+  pub schedule-count-stands : numberAt s scheduleCountOffset 2 ≡ length (bookIn s .schedules)
+  schedule-count-stands = number-in-book scheduleCountOffset 2 ∙ schedule-count-read mostHours bookSize (bookIn s) book-fits
 
   pub schedule-count-high : length (bookIn s .schedules) ≤ mostSchedules
   schedule-count-high = book-is-sound .schedules-high
 
   -- while a batch is open: how many rows undo restores, which are no more than there are
   pub saved-row-count-stands : isSome (bookIn s .saved) ≡ true
-      → numberAt s (savedAt mostHours + rowCountAt) 2 ≡ length (restored (bookIn s .saved) (bookIn s .part) .rows)
+      → numberAt s (savedOffset mostHours + rowCountOffset) 2 ≡ length (restored (bookIn s .saved) (bookIn s .part) .rows)
   saved-row-count-stands batch =
       let (p, e) = some-of (bookIn s .saved) batch in
-      number-in-book (savedAt mostHours + rowCountAt) 2
+      number-in-book (savedOffset mostHours + rowCountOffset) 2
       ∙ saved-row-count-read mostHours bookSize (bookIn s) book-fits p e
       ∙ ap (λ (o : Option Part). length (restored o (bookIn s .part) .rows)) (sym e)
 
@@ -96,7 +96,7 @@ module _ (s : List ℕ) (h : isBook s ≡ true) where
       rw e (follows-longer (p .rows) (bookIn s .part .rows) (batch-follows (bookIn s) p book-valid e))
 
   -- value k of the row that has i before it
-  pub row-value-stands : (i k at : ℕ) → i < length (bookIn s .part .rows) → at ≡ presentAt + rowAt i + startOf rowWidths k
+  pub row-value-stands : (i k at : ℕ) → i < length (bookIn s .part .rows) → at ≡ presentOffset + rowOffset i + startOf rowWidths k
       → numberAt s at (getD rowWidths k 0) ≡ getD (rowValues (getD (bookIn s .part .rows) i noRow)) k 0
   row-value-stands i k at l e =
       let b : Book = bookIn s in
@@ -104,13 +104,13 @@ module _ (s : List ℕ) (h : isBook s ≡ true) where
       number-in-book at (getD rowWidths k 0) ∙ row-value-read mostHours bookSize b book-fits i k at l small e
 
   -- the same of the row of a number
-  pub numbered-value-stands : (n k at : ℕ) → 1 ≤ n → n ≤ length (bookIn s .part .rows) → at ≡ presentAt + rowAt (n - 1) + startOf rowWidths k
+  pub numbered-value-stands : (n k at : ℕ) → 1 ≤ n → n ≤ length (bookIn s .part .rows) → at ≡ presentOffset + rowOffset (n - 1) + startOf rowWidths k
       → numberAt s at (getD rowWidths k 0) ≡ getD (rowValues (nth (bookIn s .part .rows) n noRow)) k 0
   numbered-value-stands zero k at low high e = absurd (omega arith)
   numbered-value-stands (suc i) k at low high e = row-value-stands i k at (omega arith) (omega arith)
 
   -- the whole row of a number
-  pub numbered-row-stands : (n at : ℕ) → 1 ≤ n → n ≤ length (bookIn s .part .rows) → at ≡ presentAt + rowAt (n - 1)
+  pub numbered-row-stands : (n at : ℕ) → 1 ≤ n → n ≤ length (bookIn s .part .rows) → at ≡ presentOffset + rowOffset (n - 1)
       → rowIn (take rowWidth (drop at s)) ≡ nth (bookIn s .part .rows) n noRow
   numbered-row-stands zero at low high e = absurd (omega arith)
   numbered-row-stands (suc i) at low high e =

@@ -14,27 +14,27 @@ use Rattle.rules.specs.declared.Row.{Row}
 use Rattle.rules.specs.Basics.{if_then_else_, total, anyPasses, nth}
 use Rattle.rules.specs.Limits.{mostEnergy, mostHours}
 use Rattle.rules.specs.Books.{noRow, periods}
-use Rattle.rules.specs.Registration.{pending, covers, alike, waiting}
-use Rattle.image.specs.Layout.{presentAt, rowAt}
+use Rattle.rules.specs.Registration.{pending, includesHour, alike, waiting}
+use Rattle.image.specs.Layout.{presentOffset, rowOffset}
 use Rattle.image.specs.Valid.{isBook, bookIn}
 use Rattle.image.specs.Tables.{cellOf, InTable, Tabled, Raised}
 use Rattle.image.proofs.Tables.SumLaws.{raised-cell, raised-most, zero-at}
 use Rattle.image.proofs.Reading.RowBytes.{row-at}
-use Rattle.book.specs.Waits.{waitCell, Waits, WaitsOf, noWaits, WaitTaken, waitsSize}
+use Rattle.book.specs.Waits.{waitCell, Waits, WaitsOf, noWaits, WaitAdded, waitsSize}
 use Rattle.book.proofs.StateLaws.{book-is-sound, numbered-row-stands}
 
 -- ---- one row
 
 -- an own pending row waits in its hours, on its side
 waits-own : (r : Row) (a side h : ℕ) → r .status ≡ 1 → r .proposer ≡ a
-    → waiting side (r ∷ []) a h ≡ (if covers h r && eqb (r .side) side then r .quantity .0 else 0)
+    → waiting side (r ∷ []) a h ≡ (if includesHour h r && eqb (r .side) side then r .quantity .0 else 0)
 unfolding waiting total
 waits-own r a side h e d = rw (e, eq-eqb (r .proposer) a d, and-true) (add-zero _)
 
 -- another row does not
 waits-none : (r : Row) (a side h : ℕ) → pending r && eqb (r .proposer) a ≡ false → waiting side (r ∷ []) a h ≡ 0
 unfolding waiting total
-waits-none r a side h e = go (pending r) (covers h r) (eqb (r .proposer) a) (eqb (r .side) side) e
+waits-none r a side h e = go (pending r) (includesHour h r) (eqb (r .proposer) a) (eqb (r .side) side) e
   where
     go : (p c o s : Bool) → p && o ≡ false → (if p && c && o && s then r .quantity .0 else 0) + 0 ≡ 0
     go true true true s z = let y : _≡_ {A = ℕ} 0 1 = cc in absurd (omega arith)
@@ -47,9 +47,9 @@ side-cell : (side h : ℕ) → cellOf mostHours 0 side h ≡ waitCell side h
 side-cell side h = omega arith
 
 -- the row's hours raised on its side
-pub taken-own : (before after : List ℕ) (r : Row) (a : ℕ) → Tabled mostHours r → 1 ≤ r .side → r .side ≤ 2 → r .status ≡ 1 → r .proposer ≡ a
-    → Raised before after (waitCell (r .side) (r .first)) (r .last - r .first + 1) (r .quantity .0) → WaitTaken before after r a
-taken-own before after r a t sl sh e d w =
+pub added-own : (before after : List ℕ) (r : Row) (a : ℕ) → Tabled mostHours r → 1 ≤ r .side → r .side ≤ 2 → r .status ≡ 1 → r .proposer ≡ a
+    → Raised before after (waitCell (r .side) (r .first)) (r .last - r .first + 1) (r .quantity .0) → WaitAdded before after r a
+added-own before after r a t sl sh e d w =
     record {
       share = λ side h i.
           let low : InTable mostHours (r .side) (r .first) =
@@ -64,8 +64,8 @@ taken-own before after r a t sl sh e d w =
       grown = λ k. omega (arith, raised-most before after _ _ _ w k, t .quantity-high);
     }
 
-taken-none : (table : List ℕ) (r : Row) (a : ℕ) → pending r && eqb (r .proposer) a ≡ false → WaitTaken table table r a
-taken-none table r a e =
+added-none : (table : List ℕ) (r : Row) (a : ℕ) → pending r && eqb (r .proposer) a ≡ false → WaitAdded table table r a
+added-none table r a e =
     record { share = λ side h i. omega (arith, waits-none r a side h e); grown = λ k. omega arith }
 
 -- ---- row by row
@@ -92,7 +92,7 @@ unfolding noWaits
 waiting-first a rows table most e =
     rw e (record { sums = λ side h i. omega (arith, zero-at waitsSize (waitCell side h)); bounded = λ k. omega (arith, zero-at waitsSize k) })
 
-pub waiting-next : (a : ℕ) (rows : List Row) (n : ℕ) (before after : List ℕ) → 1 ≤ n → n ≤ length rows → WaitTaken before after (nth rows n noRow) a
+pub waiting-next : (a : ℕ) (rows : List Row) (n : ℕ) (before after : List ℕ) → 1 ≤ n → n ≤ length rows → WaitAdded before after (nth rows n noRow) a
     → Waiting a rows (drop (n - 1) rows) before ((n - 1) * mostEnergy) → Waiting a rows (drop (n + 1 - 1) rows) after ((n + 1 - 1) * mostEnergy)
 waiting-next a rows zero before after low high w f = absurd (omega arith)
 waiting-next a rows (suc i) before after low high w f =
@@ -118,18 +118,18 @@ waiting-last a rows k table e n f =
 -- ---- a book
 
 -- the proposer of the row of a number stands in its first byte, its status in its last
-pub own-stands : (s : List ℕ) (h : isBook s ≡ true) (n at : ℕ) → 1 ≤ n → n ≤ length (bookIn s .part .rows) → at ≡ presentAt + rowAt (n - 1)
+pub own-stands : (s : List ℕ) (h : isBook s ≡ true) (n at : ℕ) → 1 ≤ n → n ≤ length (bookIn s .part .rows) → at ≡ presentOffset + rowOffset (n - 1)
     → (numberAt s at 1 ≡ nth (bookIn s .part .rows) n noRow .proposer) × (numberAt s (at + 17) 1 ≡ nth (bookIn s .part .rows) n noRow .status)
 own-stands s h n at low high e =
     let r = sym (row-at s at) ∙ numbered-row-stands s h n at low high e in
     (ap (λ (x : Row). x .proposer) r, ap (λ (x : Row). x .status) r)
 
 -- nothing is taken of another's row, nor of one that does not wait
-pub taken-of-others : (table : List ℕ) (r : Row) (a x : ℕ) → x ≡ r .proposer → (x ≡ a → ⊥) → WaitTaken table table r a
-taken-of-others table r a x e n = taken-none table r a (rw (ne-eqb (r .proposer) a (λ d. n (e ∙ d))) (and-false (pending r)))
+pub added-of-others : (table : List ℕ) (r : Row) (a x : ℕ) → x ≡ r .proposer → (x ≡ a → ⊥) → WaitAdded table table r a
+added-of-others table r a x e n = added-none table r a (rw (ne-eqb (r .proposer) a (λ d. n (e ∙ d))) (and-false (pending r)))
 
-pub taken-of-ended : (table : List ℕ) (r : Row) (a x : ℕ) → x ≡ r .status → (x ≡ 1 → ⊥) → WaitTaken table table r a
-taken-of-ended table r a x e n = taken-none table r a (rw (ne-eqb (r .status) 1 (λ d. n (e ∙ d))))
+pub added-of-ended : (table : List ℕ) (r : Row) (a x : ℕ) → x ≡ r .status → (x ≡ 1 → ⊥) → WaitAdded table table r a
+added-of-ended table r a x e n = added-none table r a (rw (ne-eqb (r .status) 1 (λ d. n (e ∙ d))))
 
 -- ---- a row alike
 

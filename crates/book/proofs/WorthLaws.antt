@@ -13,7 +13,7 @@ use Rattle.rules.specs.declared.Row.{Row}
 use Rattle.rules.specs.declared.Net.{Net}
 use Rattle.rules.specs.Basics.{if_then_else_, total, nth, upTo, Each, nil, cons}
 use Rattle.rules.specs.Books.{Setup, noRow, estimateAt, operatorOf, accountCount, periods}
-use Rattle.rules.specs.Registration.{pending, covers, buyer, seller, counted, waiting, withStatus, mark, bought, sold, netOf, pendingSales, accountHour, takes, exposed, ofOperator, exposureOf, exposure, exposureWith}
+use Rattle.rules.specs.Registration.{pending, includesHour, buyer, seller, counted, waiting, withStatus, mark, bought, sold, netOf, pendingSales, accountHour, afterTrade, exposed, ofOperator, exposureOf, exposure, exposureWith}
 use Rattle.rules.proofs.Basics.Totals.{total-zero, total-append, total-add, total-times, total-cong, shared}
 use Rattle.rules.proofs.Basics.Searches.{each-append}
 use Rattle.rules.proofs.Rows.AccountHours.{moved-confirm, waiting-end, hour-takes-all, exposure-added}
@@ -92,7 +92,7 @@ module _ (u : Setup) (o : ℕ) where
 
   -- what a row waits with in the hour as a sale of the account
   abbrev saleShare : Row → ℕ → ℕ → ℕ
-  saleShare r a h = counted (λ r. pending r && covers h r && eqb (r .proposer) a && eqb (r .side) 1) r
+  saleShare r a h = counted (λ r. pending r && includesHour h r && eqb (r .proposer) a && eqb (r .side) 1) r
 
   -- over the hours of an account
   account-sale : (r : Row) (a : ℕ)
@@ -100,12 +100,12 @@ module _ (u : Setup) (o : ℕ) where
       ≡ (if pending r && eqb (r .side) 1 && eqb (r .proposer) a then r .quantity .0 * spanPrice u r else 0)
   unfolding spanPrice
   account-sale r a =
-      total-cong _ _ (upTo (periods u)) (λ h. at-price (estimateAt u h .0) (r .quantity .0) (pending r) (covers h r) (eqb (r .proposer) a) (eqb (r .side) 1))
+      total-cong _ _ (upTo (periods u)) (λ h. at-price (estimateAt u h .0) (r .quantity .0) (pending r) (includesHour h r) (eqb (r .proposer) a) (eqb (r .side) 1))
       ∙ go (pending r && eqb (r .side) 1 && eqb (r .proposer) a)
     where
-      go : (t : Bool) → total (λ h. if t then (if covers h r then estimateAt u h .0 else 0) * r .quantity .0 else 0) (upTo (periods u))
-          ≡ (if t then r .quantity .0 * total (λ h. if covers h r then estimateAt u h .0 else 0) (upTo (periods u)) else 0)
-      go true = total-times (λ h. if covers h r then estimateAt u h .0 else 0) (r .quantity .0) (upTo (periods u)) ∙ mul-comm _ (r .quantity .0)
+      go : (t : Bool) → total (λ h. if t then (if includesHour h r then estimateAt u h .0 else 0) * r .quantity .0 else 0) (upTo (periods u))
+          ≡ (if t then r .quantity .0 * total (λ h. if includesHour h r then estimateAt u h .0 else 0) (upTo (periods u)) else 0)
+      go true = total-times (λ h. if includesHour h r then estimateAt u h .0 else 0) (r .quantity .0) (upTo (periods u)) ∙ mul-comm _ (r .quantity .0)
       go false = total-zero (upTo (periods u))
 
   -- over the operator's accounts it is what the row weighs
@@ -147,8 +147,8 @@ module _ (u : Setup) (o : ℕ) where
 
   -- an hour that takes a pending row as one that is confirmed still has it waiting too
   confirmed-hour : (rows : List Row) (n a h : ℕ) → pending (nth rows n noRow) ≡ true
-      → exposed (takes a h (accountHour rows a h) (withStatus 2 (nth rows n noRow))) ≡ exposed (accountHour (mark n 2 rows) a h) + saleShare (nth rows n noRow) a h
-  unfolding takes
+      → exposed (afterTrade a h (accountHour rows a h) (withStatus 2 (nth rows n noRow))) ≡ exposed (accountHour (mark n 2 rows) a h) + saleShare (nth rows n noRow) a h
+  unfolding afterTrade
   confirmed-hour rows n a h e =
       rw e (omega (arith, moved-confirm buyer a h (λ status r. refl) rows n e, moved-confirm seller a h (λ status r. refl) rows n e, waiting-end 1 a h rows n 2 e refl))
 
@@ -157,7 +157,7 @@ module _ (u : Setup) (o : ℕ) where
       → exposureWith u rows (withStatus 2 row ∷ []) o ≡ exposure u (mark n 2 rows) o + saleWorth u o row
   unfolding exposureOf worthOf
   with-confirmed rows row n low high e p known =
-      worth-cong (λ a h. exposed (takes a h (accountHour rows a h) (withStatus 2 row))) (λ a h. exposed (accountHour (mark n 2 rows) a h) + saleShare row a h)
+      worth-cong (λ a h. exposed (afterTrade a h (accountHour rows a h) (withStatus 2 row))) (λ a h. exposed (accountHour (mark n 2 rows) a h) + saleShare row a h)
       (λ a h. rw e (confirmed-hour rows n a h (rw e at p)))
       ∙ worth-add (λ a h. exposed (accountHour (mark n 2 rows) a h)) (saleShare row)
       ∙ ap (λ (x : ℕ). exposure u (mark n 2 rows) o + x) (sale-worth row (λ q. known))

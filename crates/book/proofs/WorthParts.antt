@@ -26,7 +26,7 @@ use Rattle.rules.proofs.Basics.Differences.{lt-or-ge}
 use Rattle.image.specs.Valid.{isBook, bookIn}
 use Rattle.image.proofs.Sound.Soundness.{SoundRow}
 use Rattle.image.proofs.Tables.MoneyLaws.{price-most}
-use Rattle.book.specs.Worth.{shortWorth, spanPrice, saleWorth, PriceSums, Takeable, netWith, sumsSize}
+use Rattle.book.specs.Worth.{shortWorth, spanPrice, saleWorth, PriceSums, TradeInRange, netWith, sumsSize}
 use Rattle.book.proofs.BookRows.{counts-in, setup-in, estimates-in, values-in}
 use Rattle.book.proofs.StateLaws.{book-is-sound}
 use Rattle.book.proofs.WorthLaws.{exposure-split}
@@ -208,8 +208,8 @@ sale-priced u o sums r x m t small e d n f = (
 )
 
 -- a row of a book can be taken
-pub row-takeable : (u : Setup) (r : Row) → SoundRow u r → Takeable u r
-row-takeable u r s =
+pub row-trade-in-range : (u : Setup) (r : Row) → SoundRow u r → TradeInRange u r
+row-trade-in-range u r s =
     record {
       quantity-high = s .quantity-high;
       proposer-known = λ e. (s .proposer-low, s .proposer-high);
@@ -237,7 +237,7 @@ module _ (f : Row → ℕ) where
 -- ---- the exposure
 
 -- its three parts, added one after the other
-pub exposure-joined : (s : List ℕ) → isBook s ≡ true → (o : ℕ) (added : List Row) → Each (Takeable (bookIn s .setup)) added → (below waits own two three : ℕ)
+pub exposure-joined : (s : List ℕ) → isBook s ≡ true → (o : ℕ) (added : List Row) → Each (TradeInRange (bookIn s .setup)) added → (below waits own two three : ℕ)
     → below ≡ shortWorth (bookIn s .setup) (netWith (bookIn s .part .rows) added) o → waits ≡ total (saleWorth (bookIn s .setup) o) (bookIn s .part .rows)
     → own ≡ total (saleWorth (bookIn s .setup) o) added → two ≡ below + waits → three ≡ two + own
     → three ≡ exposureWith (bookIn s .setup) (bookIn s .part .rows) added o
@@ -249,8 +249,8 @@ exposure-joined s k o added t below waits own two three e d f g h =
     (each-map (λ r w. w .proposer-known) t)))
 
 -- what is added is no more than the greatest quantity
-pub takeable-slight : (u : Setup) {added : List Row} → Each (Takeable u) added → Each (λ r. r .quantity .0 ≤ mostEnergy) added
-takeable-slight u t = each-map (λ r w. w .quantity-high) t
+pub trade-quantity : (u : Setup) {added : List Row} → Each (TradeInRange u) added → Each (λ r. r .quantity .0 ≤ mostEnergy) added
+trade-quantity u t = each-map (λ r w. w .quantity-high) t
 
 -- the exposure at the set-up that the bytes say
 pub exposure-read : (s : List ℕ) → isBook s ≡ true → (o m : ℕ) → m ≡ exposure (bookIn s .setup) (bookIn s .part .rows) o

@@ -7,11 +7,11 @@ use Rattle.wire.specs.Parts.{zeros}
 use Rattle.rules.specs.Opening.{guaranteeWidth, operatorEntry}
 
 -- the guarantees of n operators, 10 bytes each from `at` on, made zero
-unfoldable pub unlodged : List ℕ → ℕ → ℕ → List ℕ
-unlodged s at zero = s
-unlodged s at (suc n) = unlodged (splice s at (zeros guaranteeWidth)) (at + operatorEntry) n
+unfoldable pub guaranteesCleared : List ℕ → ℕ → ℕ → List ℕ
+guaranteesCleared s at zero = s
+guaranteesCleared s at (suc n) = guaranteesCleared (splice s at (zeros guaranteeWidth)) (at + operatorEntry) n
 
 -- the guarantees of n operators, in the set-up `s` from `from` on, put into `d` from `at` on
-unfoldable pub lodged : List ℕ → ℕ → List ℕ → ℕ → ℕ → List ℕ
-lodged d at s from zero = d
-lodged d at s from (suc n) = lodged (splice d at (take guaranteeWidth (drop from s))) (at + guaranteeWidth) s (from + operatorEntry) n
+unfoldable pub guaranteesPut : List ℕ → ℕ → List ℕ → ℕ → ℕ → List ℕ
+guaranteesPut d at s from zero = d
+guaranteesPut d at s from (suc n) = guaranteesPut (splice d at (take guaranteeWidth (drop from s))) (at + guaranteeWidth) s (from + operatorEntry) n

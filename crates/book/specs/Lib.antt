@@ -6,7 +6,7 @@ pub mod Waits
 -- Worth: exposure in two parts, net positions and pending sales.
 pub mod Worth
 -- Doors: what opening and the two readings answer, on any bytes.
-pub mod Doors
+pub mod Answers
 -- Fresh: the loops by which opening writes a fresh book.
 pub mod Fresh
 -- Kinds: what a request that was read is answered on a book, and the book after it.

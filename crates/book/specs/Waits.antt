@@ -38,7 +38,7 @@ unfoldable pub noWaits : List ℕ
 noWaits = replicate waitsSize 0
 
 -- one row more: each cell has its share of what waits on the account, and no cell grows by more than the most energy
-pub record WaitTaken (before after : List ℕ) (r : Row) (a : ℕ) : Type 0 where
+pub record WaitAdded (before after : List ℕ) (r : Row) (a : ℕ) : Type 0 where
   pub share : (side h : ℕ) → Waits side h → getD after (waitCell side h) 0 ≡ getD before (waitCell side h) 0 + waiting side (r ∷ []) a h
   pub grown : (k : ℕ) → getD after k 0 ≤ getD before k 0 + mostEnergy
 

@@ -11,14 +11,14 @@ use Rattle.rules.specs.declared.Net.{Net}
 use Rattle.rules.specs.Basics.{if_then_else_, total, upTo, Each}
 use Rattle.rules.specs.Limits.{mostEnergy, mostHours}
 use Rattle.rules.specs.Books.{Setup, estimateAt, operatorOf, accountCount, periods}
-use Rattle.rules.specs.Opening.{countsIn, accountsFrom, accountEntry}
-use Rattle.rules.specs.Registration.{pending, covers, accountHour, takes, takesAll, ofOperator}
+use Rattle.rules.specs.Opening.{countsIn, accountsOffset, accountEntry}
+use Rattle.rules.specs.Registration.{pending, includesHour, accountHour, afterTrade, afterTrades, ofOperator}
 use Rattle.book.specs.declared.worth.Added.{Added}
 use Rattle.book.specs.declared.worth.Added.the-variants.{Nothing, One}
 
 -- the accounts of these bytes begin at `from`, with `width` bytes each
 abbrev pub AccountsAt : ℕ → ℕ → List ℕ → Type 0
-AccountsAt from width s = (from ≡ accountsFrom (countsIn s)) × (width ≡ accountEntry (countsIn s))
+AccountsAt from width s = (from ≡ accountsOffset (countsIn s)) × (width ≡ accountEntry (countsIn s))
 
 -- what is to be added, as rows
 abbrev pub addedRows : Added → List Row
@@ -26,8 +26,8 @@ addedRows Nothing = []
 addedRows (One r) = r ∷ []
 
 -- no row that is to be added is of more than the greatest quantity
-abbrev pub Slight : Added → Type 0
-Slight added = Each (λ r. r .quantity .0 ≤ mostEnergy) (addedRows added)
+abbrev pub QuantityInRange : Added → Type 0
+QuantityInRange added = Each (λ r. r .quantity .0 ≤ mostEnergy) (addedRows added)
 
 -- what lies below zero of an account's net positions, at estimated prices
 unfoldable pub accountShort : Setup → (ℕ → ℕ → Net) → ℕ → ℕ
@@ -43,16 +43,16 @@ shortShare u net o a = if eqb (operatorOf u a) o then accountShort u net a else 
 
 -- the net positions once the accounts took rows that are to be added
 abbrev pub netWith : List Row → List Row → ℕ → ℕ → Net
-netWith rows added a h = takesAll a h (accountHour rows a h) added .net
+netWith rows added a h = afterTrades a h (accountHour rows a h) added .net
 
 -- what of a net position lies below zero once the account took the trade
-unfoldable pub shortTaken : Net → Row → ℕ → ℕ → ℕ
-shortTaken net trade a h =
-    let x = takes a h (record { net = net; sales = kwh 0; purchases = kwh 0 }) trade in x .net .sold .0 - x .net .bought .0
+unfoldable pub shortAfter : Net → Row → ℕ → ℕ → ℕ
+shortAfter net trade a h =
+    let x = afterTrade a h (record { net = net; sales = kwh 0; purchases = kwh 0 }) trade in x .net .sold .0 - x .net .bought .0
 
 -- the estimated prices of a row's hours together
 unfoldable pub spanPrice : Setup → Row → ℕ
-spanPrice u r = total (λ h. if covers h r then estimateAt u h .0 else 0) (upTo (periods u))
+spanPrice u r = total (λ h. if includesHour h r then estimateAt u h .0 else 0) (upTo (periods u))
 
 -- the hours that a day can have, and none
 abbrev pub sumsSize : ℕ
@@ -68,7 +68,7 @@ unfoldable pub saleWorth : Setup → ℕ → Row → ℕ
 saleWorth u o r = if pending r && eqb (r .side) 1 && eqb (operatorOf u (r .proposer)) o then r .quantity .0 * spanPrice u r else 0
 
 -- a trade that can be taken: where it waits, its proposer and its hours are those of the set-up; its quantity is in range
-pub record Takeable (u : Setup) (trade : Row) : Type 0 where
+pub record TradeInRange (u : Setup) (trade : Row) : Type 0 where
   pub quantity-high : trade .quantity .0 ≤ mostEnergy
   pub proposer-known : pending trade ≡ true → (1 ≤ trade .proposer) × (trade .proposer ≤ accountCount u)
   pub hours-known : pending trade ≡ true → (1 ≤ trade .first) × (trade .first ≤ trade .last) × (trade .last ≤ periods u)

@@ -8,11 +8,11 @@ ghost use Rattle.wire.specs.Parts.{zeros};
 ghost use Rattle.rules.specs.Limits.{bookSize};
 ghost use Rattle.rules.specs.Opening.{setupRefusal, opened, openOutcome, guaranteeWidth, operatorEntry};
 ghost use Rattle.image.specs.Valid.{bookBytes};
-ghost use Rattle.book.specs.Fresh.{unlodged, lodged};
-ghost use Rattle.book.specs.Doors.{openBytes};
+ghost use Rattle.book.specs.Fresh.{guaranteesCleared, guaranteesPut};
+ghost use Rattle.book.specs.Answers.{openBytes};
 use image::layout::BOOK_SIZE;
-use image::layout::PHASE_AT;
-use image::layout::PRESENT_AT;
+use image::layout::PHASE_OFFSET;
+use image::layout::PRESENT_OFFSET;
 use rules::Checked;
 use rules::Outcome;
 use rules::Refusal;
@@ -20,7 +20,7 @@ use rules::Verdict;
 use setup::counts::GUARANTEE_WIDTH;
 use setup::counts::OPERATOR_ENTRY;
 use setup::counts::counts;
-use setup::counts::operators_from;
+use setup::counts::operators_offset;
 use setup::fault::fault;
 use wire::numbers::put_u8;
 use wire::numbers::put_u64;
@@ -38,9 +38,9 @@ fn clear(s: &mut [u8])
 }
 
 // Makes the guarantees of the `n` operators from `from` on zero.
-fn unlodge(s: &mut [u8], from: usize, n: u8)
+fn clear_guarantees(s: &mut [u8], from: usize, n: u8)
     requires { ⌜ from + operatorEntry * n ≤ length (now s) ⌝ }
-    ensures { λ _. ⌜ now (s .exit) ≡ unlodged (now (s .entry)) from n ⌝ }
+    ensures { λ _. ⌜ now (s .exit) ≡ guaranteesCleared (now (s .entry)) from n ⌝ }
 {
     let mut at = from;
     let mut standing = n;
@@ -52,9 +52,9 @@ fn unlodge(s: &mut [u8], from: usize, n: u8)
 }
 
 // Puts the guarantees of the `n` operators from `from` on in the set-up into `book`, from `to` on.
-fn lodge(book: &mut [u8], to: usize, setup: &[u8], from: usize, n: u8)
+fn put_guarantees(book: &mut [u8], to: usize, setup: &[u8], from: usize, n: u8)
     requires { ⌜ (from + operatorEntry * n ≤ length (now setup)) × (to + guaranteeWidth * n ≤ length (now book)) ⌝ }
-    ensures { λ _. ⌜ now (book .exit) ≡ lodged (now (book .entry)) to (now (setup .entry)) from n ⌝ }
+    ensures { λ _. ⌜ now (book .exit) ≡ guaranteesPut (now (book .entry)) to (now (setup .entry)) from n ⌝ }
 {
     let mut at = to;
     let mut next = from;
@@ -71,11 +71,11 @@ fn lodge(book: &mut [u8], to: usize, setup: &[u8], from: usize, n: u8)
 // Leaves in `book` the set-up with no guarantees, and zeros past it.
 fn put_setup(book: &mut [u8], setup: &[u8], from: usize, n: u8)
     requires { ⌜ (from + operatorEntry * n ≤ length (now setup)) × (length (now setup) ≤ length (now book)) ⌝ }
-    ensures { λ _. ⌜ now (book .exit) ≡ unlodged (splice (zeros (length (now (book .entry)))) 0 (now (setup .entry))) from n ⌝ }
+    ensures { λ _. ⌜ now (book .exit) ≡ guaranteesCleared (splice (zeros (length (now (book .entry)))) 0 (now (setup .entry))) from n ⌝ }
 {
     clear(book);
     copy_in(book, 0, setup);
-    unlodge(book, from, n);
+    clear_guarantees(book, from, n);
 }
 
 // Fills `book` with the fresh book of a set-up that has nothing wrong with it.
@@ -84,10 +84,10 @@ fn fill(setup: &[u8], book: &mut [u8])
     ensures { λ _. ⌜ now (book .exit) ≡ bookBytes (opened (now (setup .entry))) ⌝ }
 {
     let n = counts(setup);
-    let from = operators_from(n);
+    let from = operators_offset(n);
     put_setup(book, setup, from, n.operators);
-    put_u8(book, PHASE_AT, 1);
-    lodge(book, PRESENT_AT, setup, from, n.operators);
+    put_u8(book, PHASE_OFFSET, 1);
+    put_guarantees(book, PRESENT_OFFSET, setup, from, n.operators);
 }
 
 // Opens a book: a buffer of another size is refused (1), then the set-up for its shape (8) or its lowest value at fault (9).

@@ -7,10 +7,10 @@ ghost use Rattle.rules.specs.Limits.{mostHours};
 ghost use Rattle.rules.specs.Books.{accountCount, periods};
 ghost use Rattle.rules.specs.Registration.{netOf};
 ghost use Rattle.image.specs.Valid.{isBook, bookIn};
-ghost use Rattle.image.specs.Layout.{presentAt, netAt, netWidth};
+ghost use Rattle.image.specs.Layout.{presentOffset, netOffset, netWidth};
 ghost use Rattle.image.specs.Tables.{InTable};
 ghost use Rattle.book.specs.Netted.{netted};
-use crate::state::net_place;
+use crate::state::net_offset;
 use image::layout::MOST_IN_4;
 use image::layout::TURN;
 use rules::Net;
@@ -23,9 +23,9 @@ pub const HALF_TURN: u32 = (TURN / 2) as u32;
 // The 4 bytes that hold the net of an account in an hour.
 pub fn stored_net(book: &[u8], account: u8, hour: u8) -> u32
     requires { ⌜ (isBook (now book) ≡ true) × InTable mostHours account hour ⌝ }
-    ensures { λ r. ⌜ r ≡ numberAt (now (book .entry)) (presentAt + netAt mostHours account hour) netWidth ⌝ }
+    ensures { λ r. ⌜ r ≡ numberAt (now (book .entry)) (presentOffset + netOffset mostHours account hour) netWidth ⌝ }
 {
-    get_u32(book, net_place(account, hour))
+    get_u32(book, net_offset(account, hour))
 }
 
 // The net position of an account in an hour, both of the set-up: what was bought over what was sold, or the reverse.

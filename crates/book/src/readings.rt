@@ -49,7 +49,7 @@ pub fn net_in(book: &[u8], account: u8, hour: u8) -> NetReading
     if outside(hour, n.hours) {
         return NetReading::Unread(Refusal::OutOfRange { bit: 5 });
     }
-    NetReading::Stands(position_of(stored_net(book, account, hour)))
+    NetReading::Read(position_of(stored_net(book, account, hour)))
 }
 
 // The exposure of an operator.
@@ -61,5 +61,5 @@ pub fn exposure_in(book: &[u8], operator: u8) -> ExposureReading
     if outside(operator, n.operators) {
         return ExposureReading::Unread(Refusal::OutOfRange { bit: 9 });
     }
-    ExposureReading::Stands(exposure_with(book, operator, Added::Nothing))
+    ExposureReading::Read(exposure_with(book, operator, Added::Nothing))
 }

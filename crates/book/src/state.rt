@@ -7,20 +7,20 @@ ghost use Rattle.rules.specs.Basics.{isSome};
 ghost use Rattle.rules.specs.Limits.{mostRows, mostSchedules, mostHours, mostOperators};
 ghost use Rattle.rules.specs.Books.{operatorOf, operatorCount, accountCount};
 ghost use Rattle.rules.specs.Calls.{restored};
-ghost use Rattle.image.specs.Layout.{presentAt, rowAt, netAt};
+ghost use Rattle.image.specs.Layout.{presentOffset, rowOffset, netOffset};
 ghost use Rattle.image.specs.Valid.{isBook, bookIn};
 ghost use Rattle.image.specs.Tables.{InTable};
 use image::layout::ACCOUNT_NETS;
-use image::layout::FLAG_AT;
+use image::layout::FLAG_OFFSET;
 use image::layout::NET_WIDTH;
-use image::layout::NETS_IN;
-use image::layout::PHASE_AT;
-use image::layout::PRESENT_AT;
-use image::layout::ROW_COUNT_IN;
+use image::layout::NETS_OFFSET;
+use image::layout::PHASE_OFFSET;
+use image::layout::PRESENT_OFFSET;
+use image::layout::ROW_COUNT_OFFSET;
 use image::layout::ROW_WIDTH;
-use image::layout::ROWS_IN;
-use image::layout::SAVED_AT;
-use image::layout::SCHEDULE_COUNT_AT;
+use image::layout::ROWS_OFFSET;
+use image::layout::SAVED_OFFSET;
+use image::layout::SCHEDULE_COUNT_OFFSET;
 use setup::entries::account;
 use wire::numbers::get_u8;
 use wire::numbers::get_u16;
@@ -44,7 +44,7 @@ pub fn phase(book: &[u8]) -> u8
     requires { ⌜ isBook (now book) ≡ true ⌝ }
     ensures { λ r. ⌜ r ≡ bookIn (now (book .entry)) .phase ⌝ }
 {
-    get_u8(book, PHASE_AT)
+    get_u8(book, PHASE_OFFSET)
 }
 
 // Whether a batch is open.
@@ -52,7 +52,7 @@ pub fn batch_open(book: &[u8]) -> bool
     requires { ⌜ isBook (now book) ≡ true ⌝ }
     ensures { λ r. ⌜ r ≡ isSome (bookIn (now (book .entry)) .saved) ⌝ }
 {
-    get_u8(book, FLAG_AT) == 1
+    get_u8(book, FLAG_OFFSET) == 1
 }
 
 // How many rows have numbers.
@@ -61,7 +61,7 @@ pub fn row_count(book: &[u8]) -> u16
     ensures { λ r. ⌜ r ≡ length (bookIn (now (book .entry)) .part .rows) ⌝ }
     ensures bound { λ r. ⌜ r ≤ mostRows ⌝ }
 {
-    get_u16(book, PRESENT_AT + ROW_COUNT_IN)
+    get_u16(book, PRESENT_OFFSET + ROW_COUNT_OFFSET)
 }
 
 // How many schedules stand.
@@ -70,7 +70,7 @@ pub fn schedule_count(book: &[u8]) -> u16
     ensures { λ r. ⌜ r ≡ length (bookIn (now (book .entry)) .schedules) ⌝ }
     ensures bound { λ r. ⌜ r ≤ mostSchedules ⌝ }
 {
-    get_u16(book, SCHEDULE_COUNT_AT)
+    get_u16(book, SCHEDULE_COUNT_OFFSET)
 }
 
 // How many rows had numbers when the open batch was opened: at most as many as now.
@@ -80,24 +80,24 @@ pub fn saved_row_count(book: &[u8]) -> u16
     ensures { λ r. ⌜ r ≡ length (restored (bookIn (now (book .entry)) .saved) (bookIn (now (book .entry)) .part) .rows) ⌝ }
     ensures bound { λ r. ⌜ r ≤ length (bookIn (now (book .entry)) .part .rows) ⌝ }
 {
-    get_u16(book, SAVED_AT + ROW_COUNT_IN)
+    get_u16(book, SAVED_OFFSET + ROW_COUNT_OFFSET)
 }
 
 // Where the row of a number begins.
-pub fn row_place(number: u16) -> usize
+pub fn row_offset(number: u16) -> usize
     requires { ⌜ (1 ≤ number) × (number ≤ mostRows) ⌝ }
-    ensures { λ r. ⌜ r ≡ presentAt + rowAt (number - 1) ⌝ }
+    ensures { λ r. ⌜ r ≡ presentOffset + rowOffset (number - 1) ⌝ }
 {
-    PRESENT_AT + ROWS_IN + ROW_WIDTH * ((number - 1) as usize)
+    PRESENT_OFFSET + ROWS_OFFSET + ROW_WIDTH * ((number - 1) as usize)
 }
 
 // Where the net position of an account in an hour begins.
-pub fn net_place(account: u8, hour: u8) -> usize
+pub fn net_offset(account: u8, hour: u8) -> usize
     requires { ⌜ InTable mostHours account hour ⌝ }
-    ensures { λ r. ⌜ r ≡ presentAt + netAt mostHours account hour ⌝ }
+    ensures { λ r. ⌜ r ≡ presentOffset + netOffset mostHours account hour ⌝ }
 {
     let cell = ACCOUNT_NETS * (account as usize - 1) + NET_WIDTH * (hour as usize - 1);
-    PRESENT_AT + (NETS_IN + cell)
+    PRESENT_OFFSET + (NETS_OFFSET + cell)
 }
 
 // The operator of an account.
@@ -106,6 +106,6 @@ pub fn operator_of(book: &[u8], number: u8) -> u8
     ensures meaning { λ r. ⌜ r ≡ operatorOf (bookIn (now (book .entry)) .setup) number ⌝ }
     ensures inside { λ r. ⌜ (1 ≤ r) × (r ≤ operatorCount (bookIn (now (book .entry)) .setup)) × (r ≤ mostOperators) ⌝ }
 {
-    let owner = account(book, number);
-    owner.operator
+    let entry = account(book, number);
+    entry.operator
 }

@@ -9,13 +9,13 @@ ghost use Rattle.rules.specs.Books.{noRow, accountCount, periods};
 ghost use Rattle.rules.specs.Registration.{alike};
 ghost use Rattle.image.specs.Valid.{isBook, bookIn};
 ghost use Rattle.image.specs.Tables.{Tabled, Room, Raised};
-ghost use Rattle.book.specs.Waits.{waitCell, Waits, WaitsOf, noWaits, WaitTaken, nettedHour, waitsSize};
+ghost use Rattle.book.specs.Waits.{waitCell, Waits, WaitsOf, noWaits, WaitAdded, nettedHour, waitsSize};
 use crate::positions::net_at;
 use crate::state::PENDING;
 use crate::state::row_count;
-use crate::state::row_place;
+use crate::state::row_offset;
 use image::cells::add_range;
-use image::rows::STATUS_IN;
+use image::rows::STATUS_OFFSET;
 use image::rows::row_at;
 use rules::AccountHour;
 use rules::Row;
@@ -35,7 +35,7 @@ fn wait_cell(side: u8, hour: u8) -> usize
 }
 
 // Adds the row's quantity to the cells of its hours, on its side.
-fn take_waiting(table: &mut [u32], r: Row)
+fn add_waiting(table: &mut [u32], r: Row)
     requires { ⌜ (length (now table) ≡ waitsSize) × Tabled mostHours r × (1 ≤ r .side) × (r .side ≤ 2) × Room (now table) 0 (r .quantity .0) ⌝ }
     ensures { λ _. ⌜ Raised (now (table .entry)) (now (table .exit)) (waitCell (r .side) (r .first)) (r .last - r .first + 1) (r .quantity .0) ⌝ }
 {
@@ -47,7 +47,7 @@ fn take_waiting(table: &mut [u32], r: Row)
 
 // Takes the row of that number where it is pending and the account's own, and tells whether it has this counterparty and code. Most rows
 // are another's, so that the proposer is looked at first.
-fn take_own(
+fn add_own(
     table: &mut [u32],
     book: &[u8],
     number: u16,
@@ -56,18 +56,18 @@ fn take_own(
     code: u64,
 ) -> bool
     requires { ⌜ (length (now table) ≡ waitsSize) × Room (now table) 0 mostEnergy × (isBook (now book) ≡ true) × (1 ≤ number) × (number ≤ length (bookIn (now book) .part .rows)) ⌝ }
-    ensures waits { λ _. ⌜ WaitTaken (now (table .entry)) (now (table .exit)) (nth (bookIn (now (book .entry)) .part .rows) number noRow) account ⌝ }
+    ensures waits { λ _. ⌜ WaitAdded (now (table .entry)) (now (table .exit)) (nth (bookIn (now (book .entry)) .part .rows) number noRow) account ⌝ }
     ensures tells { λ r. ⌜ r ≡ alike account counterparty code (nth (bookIn (now (book .entry)) .part .rows) number noRow) ⌝ }
 {
-    let at = row_place(number);
+    let at = row_offset(number);
     if get_u8(book, at) != account {
         return false;
     }
-    if get_u8(book, at + STATUS_IN) != PENDING {
+    if get_u8(book, at + STATUS_OFFSET) != PENDING {
         return false;
     }
     let r = row_at(book, at);
-    take_waiting(table, r);
+    add_waiting(table, r);
     (r.counterparty == counterparty) & (r.code == code)
 }
 
@@ -88,7 +88,7 @@ pub fn fill_waits(table: &mut [u32], book: &[u8], account: u8, counterparty: u8,
     let mut found = false;
     let mut number: u16 = 1;
     while number <= n {
-        let here = take_own(table, book, number, account, counterparty, code);
+        let here = add_own(table, book, number, account, counterparty, code);
         found = found | here;
         number = number + 1;
     }
@@ -105,7 +105,7 @@ fn wait_at(waits: &[u32], side: u8, hour: u8) -> u32
 }
 
 // What an account holds in an hour, both of the set-up: its net position off the book, and what waits off the table.
-pub fn held_hour(book: &[u8], waits: &[u32], account: u8, hour: u8) -> AccountHour
+pub fn account_hour(book: &[u8], waits: &[u32], account: u8, hour: u8) -> AccountHour
     requires { ⌜ (isBook (now book) ≡ true) × WaitsOf (bookIn (now book) .part .rows) account (now waits) × ((1 ≤ account) × (account ≤ accountCount (bookIn (now book) .setup))) × ((1 ≤ hour) × (hour ≤ periods (bookIn (now book) .setup))) ⌝ }
     ensures { λ r. ⌜ r ≡ nettedHour (bookIn (now (book .entry)) .part .rows) account hour ⌝ }
 {

@@ -8,10 +8,10 @@ ghost use Rattle.rules.specs.Limits.{mostEnergy, mostPrice, mostHours, mostAcco
 ghost use Rattle.rules.specs.Books.{noRow, estimateAt, operatorOf, accountCount, periods};
 ghost use Rattle.rules.specs.Registration.{exposureWith};
 ghost use Rattle.image.specs.Valid.{isBook, bookIn};
-ghost use Rattle.book.specs.Worth.{AccountsAt, addedRows, Slight, shortTaken, shortWorth, saleWorth, PriceSums, Takeable, accountShort, shortShare, netWith, sumsSize};
+ghost use Rattle.book.specs.Worth.{AccountsAt, addedRows, QuantityInRange, shortAfter, shortWorth, saleWorth, PriceSums, TradeInRange, accountShort, shortShare, netWith, sumsSize};
 use crate::positions::net_at;
 use crate::state::row_count;
-use crate::state::row_place;
+use crate::state::row_offset;
 use image::rows::row_at;
 use rules::AccountHour;
 use rules::Net;
@@ -19,7 +19,7 @@ use rules::Row;
 use rules::hours::short;
 use rules::limits::PERIODS;
 use setup::counts::account_entry;
-use setup::counts::accounts_from;
+use setup::counts::accounts_offset;
 use setup::counts::counts;
 use setup::entries::estimate;
 use units::CentsPerMwh;
@@ -37,7 +37,7 @@ pub enum Added {
 const PRICE_SUMS: usize = PERIODS + 1;
 
 // The operator of an account, of a book whose accounts begin at `from` with `width` bytes each: the first byte of its entry.
-fn owner(book: &[u8], from: usize, width: usize, number: u8) -> u8
+fn entry_operator(book: &[u8], from: usize, width: usize, number: u8) -> u8
     requires { ⌜ (isBook (now book) ≡ true) × AccountsAt from width (now book) × (1 ≤ number) × (number ≤ accountCount (bookIn (now book) .setup)) ⌝ }
     ensures { λ r. ⌜ r ≡ operatorOf (bookIn (now (book .entry)) .setup) number ⌝ }
 {
@@ -93,13 +93,13 @@ fn span_worth(sums: &[u64], first: u8, last: u8, quantity: Kwh) -> MilliCents
 
 // What a row weighs on the operator as a pending sale, of a book whose accounts begin at `from` with `width` bytes each.
 fn sale_of(book: &[u8], sums: &[u64], from: usize, width: usize, operator: u8, r: Row) -> MilliCents
-    requires { ⌜ (isBook (now book) ≡ true) × PriceSums (bookIn (now book) .setup) (now sums) × AccountsAt from width (now book) × Takeable (bookIn (now book) .setup) r ⌝ }
+    requires { ⌜ (isBook (now book) ≡ true) × PriceSums (bookIn (now book) .setup) (now sums) × AccountsAt from width (now book) × TradeInRange (bookIn (now book) .setup) r ⌝ }
     ensures { λ m. ⌜ (m .0 ≡ saleWorth (bookIn (now (book .entry)) .setup) operator r) × (m .0 ≤ mostEnergy * (mostHours * mostPrice)) ⌝ }
 {
     if (r.status != 1) | (r.side != 1) {
         return MilliCents(0);
     }
-    if owner(book, from, width, r.proposer) == operator {
+    if entry_operator(book, from, width, r.proposer) == operator {
         return span_worth(sums, r.first, r.last, r.quantity);
     }
     MilliCents(0)
@@ -117,8 +117,8 @@ fn row_sale(
     requires { ⌜ (isBook (now book) ≡ true) × PriceSums (bookIn (now book) .setup) (now sums) × AccountsAt from width (now book) × (1 ≤ number) × (number ≤ length (bookIn (now book) .part .rows)) ⌝ }
     ensures { λ m. ⌜ (m .0 ≡ saleWorth (bookIn (now (book .entry)) .setup) operator (nth (bookIn (now (book .entry)) .part .rows) number noRow)) × (m .0 ≤ mostEnergy * (mostHours * mostPrice)) ⌝ }
 {
-    let at = row_place(number);
-    if owner(book, from, width, get_u8(book, at)) != operator {
+    let at = row_offset(number);
+    if entry_operator(book, from, width, get_u8(book, at)) != operator {
         return MilliCents(0);
     }
     sale_of(book, sums, from, width, operator, row_at(book, at))
@@ -130,7 +130,7 @@ fn sales_worth(book: &[u8], sums: &[u64], operator: u8) -> MilliCents
     ensures { λ m. ⌜ (m .0 ≡ total (saleWorth (bookIn (now (book .entry)) .setup) operator) (bookIn (now (book .entry)) .part .rows)) × (m .0 ≤ mostRows * (mostEnergy * (mostHours * mostPrice))) ⌝ }
 {
     let n = counts(book);
-    let from = accounts_from(n);
+    let from = accounts_offset(n);
     let width = account_entry(n);
     let rows = row_count(book);
     let mut sum = MilliCents(0);
@@ -147,7 +147,7 @@ fn sales_worth(book: &[u8], sums: &[u64], operator: u8) -> MilliCents
 // What of a net position lies below zero once the account took the trade.
 fn short_with(net: Net, account: u8, hour: u8, trade: Row) -> Kwh
     requires { ⌜ (net .bought .0 ≤ mostEnergy) × (net .sold .0 ≤ mostEnergy) × (trade .quantity .0 ≤ mostEnergy) ⌝ }
-    ensures { λ r. ⌜ r .0 ≡ shortTaken net trade account hour ⌝ }
+    ensures { λ r. ⌜ r .0 ≡ shortAfter net trade account hour ⌝ }
 {
     if (trade.status == 2) & ((trade.proposer == account) | (trade.counterparty == account)) {
         let held = AccountHour {
@@ -155,7 +155,7 @@ fn short_with(net: Net, account: u8, hour: u8, trade: Row) -> Kwh
             sales: Kwh(0),
             purchases: Kwh(0),
         };
-        let after = held.take(trade, account, hour);
+        let after = held.after_trade(trade, account, hour);
         return short(after.net);
     }
     short(net)
@@ -163,7 +163,7 @@ fn short_with(net: Net, account: u8, hour: u8, trade: Row) -> Kwh
 
 // What of an account's net position in an hour lies below zero once it took what is added.
 fn short_at(book: &[u8], account: u8, hour: u8, added: Added) -> Kwh
-    requires { ⌜ (isBook (now book) ≡ true) × ((1 ≤ account) × (account ≤ accountCount (bookIn (now book) .setup))) × ((1 ≤ hour) × (hour ≤ periods (bookIn (now book) .setup))) × Slight added ⌝ }
+    requires { ⌜ (isBook (now book) ≡ true) × ((1 ≤ account) × (account ≤ accountCount (bookIn (now book) .setup))) × ((1 ≤ hour) × (hour ≤ periods (bookIn (now book) .setup))) × QuantityInRange added ⌝ }
     ensures { λ r. ⌜ (r .0 ≡ netWith (bookIn (now (book .entry)) .part .rows) (addedRows added) account hour .sold .0 - netWith (bookIn (now (book .entry)) .part .rows) (addedRows added) account hour .bought .0) × (r .0 ≤ 2 * mostEnergy) ⌝ }
 {
     let net = net_at(book, account, hour);
@@ -175,7 +175,7 @@ fn short_at(book: &[u8], account: u8, hour: u8, added: Added) -> Kwh
 
 // What of an account's net positions lies below zero with what is added, at estimated prices.
 fn account_short(book: &[u8], account: u8, added: Added) -> MilliCents
-    requires { ⌜ (isBook (now book) ≡ true) × ((1 ≤ account) × (account ≤ accountCount (bookIn (now book) .setup))) × Slight added ⌝ }
+    requires { ⌜ (isBook (now book) ≡ true) × ((1 ≤ account) × (account ≤ accountCount (bookIn (now book) .setup))) × QuantityInRange added ⌝ }
     ensures { λ r. ⌜ (r .0 ≡ accountShort (bookIn (now (book .entry)) .setup) (netWith (bookIn (now (book .entry)) .part .rows) (addedRows added)) account) × (r .0 ≤ mostHours * (2 * mostEnergy * mostPrice)) ⌝ }
 {
     let n = counts(book);
@@ -199,10 +199,10 @@ fn short_share(
     operator: u8,
     added: Added,
 ) -> MilliCents
-    requires { ⌜ (isBook (now book) ≡ true) × AccountsAt from width (now book) × ((1 ≤ account) × (account ≤ accountCount (bookIn (now book) .setup))) × Slight added ⌝ }
+    requires { ⌜ (isBook (now book) ≡ true) × AccountsAt from width (now book) × ((1 ≤ account) × (account ≤ accountCount (bookIn (now book) .setup))) × QuantityInRange added ⌝ }
     ensures { λ r. ⌜ (r .0 ≡ shortShare (bookIn (now (book .entry)) .setup) (netWith (bookIn (now (book .entry)) .part .rows) (addedRows added)) operator account) × (r .0 ≤ mostHours * (2 * mostEnergy * mostPrice)) ⌝ }
 {
-    if owner(book, from, width, account) == operator {
+    if entry_operator(book, from, width, account) == operator {
         return account_short(book, account, added);
     }
     MilliCents(0)
@@ -210,11 +210,11 @@ fn short_share(
 
 // What of the operator's net positions lies below zero with what is added, at estimated prices.
 fn short_worth(book: &[u8], operator: u8, added: Added) -> MilliCents
-    requires { ⌜ (isBook (now book) ≡ true) × Slight added ⌝ }
+    requires { ⌜ (isBook (now book) ≡ true) × QuantityInRange added ⌝ }
     ensures { λ r. ⌜ (r .0 ≡ shortWorth (bookIn (now (book .entry)) .setup) (netWith (bookIn (now (book .entry)) .part .rows) (addedRows added)) operator) × (r .0 ≤ mostAccounts * (mostHours * (2 * mostEnergy * mostPrice))) ⌝ }
 {
     let n = counts(book);
-    let from = accounts_from(n);
+    let from = accounts_offset(n);
     let width = account_entry(n);
     let mut sum = MilliCents(0);
     let mut account: u8 = 1;
@@ -236,7 +236,7 @@ fn added_sale(
     operator: u8,
     added: Added,
 ) -> MilliCents
-    requires { ⌜ (isBook (now book) ≡ true) × PriceSums (bookIn (now book) .setup) (now sums) × AccountsAt from width (now book) × Each (Takeable (bookIn (now book) .setup)) (addedRows added) ⌝ }
+    requires { ⌜ (isBook (now book) ≡ true) × PriceSums (bookIn (now book) .setup) (now sums) × AccountsAt from width (now book) × Each (TradeInRange (bookIn (now book) .setup)) (addedRows added) ⌝ }
     ensures { λ m. ⌜ (m .0 ≡ total (saleWorth (bookIn (now (book .entry)) .setup) operator) (addedRows added)) × (m .0 ≤ mostEnergy * (mostHours * mostPrice)) ⌝ }
 {
     match added {
@@ -247,13 +247,13 @@ fn added_sale(
 
 // The exposure of an operator with what is added.
 pub fn exposure_with(book: &[u8], operator: u8, added: Added) -> MilliCents
-    requires { ⌜ (isBook (now book) ≡ true) × Each (Takeable (bookIn (now book) .setup)) (addedRows added) ⌝ }
+    requires { ⌜ (isBook (now book) ≡ true) × Each (TradeInRange (bookIn (now book) .setup)) (addedRows added) ⌝ }
     ensures meaning { λ r. ⌜ (let b = bookIn (now (book .entry)) in r .0 ≡ exposureWith (b .setup) (b .part .rows) (addedRows added) operator) ⌝ }
     ensures bounded { λ r. ⌜ r .0 < 2 ^ 63 ⌝ }
 {
     let sums = price_sums(book);
     let n = counts(book);
-    let from = accounts_from(n);
+    let from = accounts_offset(n);
     let width = account_entry(n);
     let below = short_worth(book, operator, added);
     let waits = sales_worth(book, &sums, operator);

@@ -1,8 +1,8 @@
 // One case: what the proved functions say of the bytes in the room, of which the first 49,152 are the book.
 use audit::whole::is_book;
 use book::opening::open;
-use day::doors::exposure;
-use day::doors::net;
+use day::interface::exposure;
+use day::interface::net;
 use rules::verdicts::outcome_numbers;
 use test_lines::HEAD;
 use test_lines::begin;

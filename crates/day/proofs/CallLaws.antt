@@ -17,8 +17,8 @@ use Rattle.rules.specs.Calls.{Call, Answer, carried, step}
 use Rattle.rules.proofs.Records.RoundTrip.{read-writes-back}
 use Rattle.image.specs.Valid.{bookBytes, isBook, bookIn}
 use Rattle.settlement.specs.Settling.{settleRecord, settleCall}
-use Rattle.day.specs.Doors.{callAnswer, callWith}
-use Rattle.day.proofs.DoorLaws.{call-on-book, call-on-no-book}
+use Rattle.day.specs.Answers.{callAnswer, callWith}
+use Rattle.day.proofs.AnswerLaws.{call-on-book, call-on-no-book}
 use Rattle.day.proofs.Stages.{record-refused, call-refused}
 use Rattle.day.proofs.RequestLaws.{unread-checks, buffers-stay, other-kind, AnsweredSaying}
 

@@ -11,7 +11,7 @@ use Rattle.rules.proofs.Lists.Carrying.{Carries}
 use Rattle.image.specs.Valid.{valid, isBook, bookBytes, bookIn}
 use Rattle.image.proofs.Round.{decode-image, image-is-book}
 use Rattle.image.proofs.Keeping.Keeps.{keeps-valid}
-use Rattle.day.specs.Doors.{callAnswer}
+use Rattle.day.specs.Answers.{callAnswer}
 
 module _ (b : Book) (v : valid b ≡ true) where
   pub image-says : bookIn (bookBytes b) ≡ b

@@ -2,7 +2,7 @@
 -- Images: calls on the bytes of a valid book are those on the book.
 pub mod Images
 -- DoorLaws: a call on any bytes; a refused one changes no lent byte.
-pub mod DoorLaws
+pub mod AnswerLaws
 -- Stages: what a call is refused for, stage by stage.
 pub mod Stages
 -- RequestLaws: what a request of kinds 1 to 9 is answered on a book, whatever record says it.

@@ -12,7 +12,7 @@ use Rattle.rules.proofs.Rows.SignedReading.{position-figure}
 use Rattle.rules.proofs.Ledgers.Agreement.{Agrees}
 use Rattle.rules.proofs.Ledgers.LedgerReadings.{net-read-is-the-ledgers, exposure-read-is-the-ledgers}
 use Rattle.image.specs.Valid.{valid, bookBytes}
-use Rattle.book.specs.Doors.{netAnswer, exposureAnswer}
+use Rattle.book.specs.Answers.{netAnswer, exposureAnswer}
 use Rattle.day.specs.Readings.{ledgerNetReadOut, ledgerExposureReadOut}
 use Rattle.day.proofs.Images.{image-says, image-stands}
 

@@ -20,7 +20,7 @@ use Rattle.rules.specs.Verdicts.{_⇒_, _⇒↑_, firstToApply, checked, refuse
 use Rattle.rules.specs.Books.{Book, countsOf}
 use Rattle.rules.specs.Opening.{countsIn}
 use Rattle.rules.specs.Requests.{Kind, settle, kindNumber, kindOf, requestOf, readChecks, readingOf, reading, Fits, faultyBit, sameAccounts, rangeChecks}
-use Rattle.rules.specs.Calls.{Call, Answer, refusedOn, requestIn, kindIn, _oneOf_, inputChecks, refusal}
+use Rattle.rules.specs.Calls.{Call, Answer, refusedOn, callRequest, callKind, _oneOf_, inputChecks, refusal}
 use Rattle.rules.proofs.Basics.Tests.{within-true}
 use Rattle.rules.proofs.Checks.Clearing.{checked-same, clear, spared, spared↑}
 use Rattle.rules.proofs.Checks.Passed.{kind-number}
@@ -29,7 +29,7 @@ use Rattle.image.specs.Valid.{isBook, bookIn, bookBytes}
 use Rattle.book.specs.Kinds.{decided, outcomeOn, bookAfter, Ready}
 use Rattle.book.proofs.BookRows.{counts-in}
 use Rattle.book.proofs.Answers.{Answered as KindAnswered}
-use Rattle.day.specs.Doors.{callAnswer}
+use Rattle.day.specs.Answers.{callAnswer}
 use Rattle.day.proofs.Stages.{input-refused, state-decides, call-refused, call-decided}
 
 -- ---- what a record reads as, and what its own checks find
@@ -77,15 +77,15 @@ others n low high =
 -- ---- the answer on a book
 
 module _ (s : List ℕ) (c : Call) (h : isBook s ≡ true) (q : Request) (e : reading (c .bytes) ≡ Read q) where
-  says : requestIn c ≡ q
+  says : callRequest c ≡ q
   says = read-as (c .bytes) q e .1
 
   module _ (low : 1 ≤ q .kind) (high : q .kind ≤ 9) where
-    other : kindIn c oneOf (settle ∷ []) ≡ false
+    other : callKind c oneOf (settle ∷ []) ≡ false
     other = rw says (others (q .kind) low high)
 
-    ranges : firstToApply (inputChecks (bookIn s) c (kindIn c) (requestIn c)) ≡ firstToApply (rangeChecks (countsOf (bookIn s .setup)) q)
-    ranges = input-is-ranges (bookIn s) c (kindIn c) (requestIn c) other ∙ ap (λ (p : Request). firstToApply (rangeChecks (countsOf (bookIn s .setup)) p)) says
+    ranges : firstToApply (inputChecks (bookIn s) c (callKind c) (callRequest c)) ≡ firstToApply (rangeChecks (countsOf (bookIn s .setup)) q)
+    ranges = input-is-ranges (bookIn s) c (callKind c) (callRequest c) other ∙ ap (λ (p : Request). firstToApply (rangeChecks (countsOf (bookIn s .setup)) p)) says
 
     -- out of range
     range-answered : (r : Refusal) → firstToApply (rangeChecks (countsOf (bookIn s .setup)) q) ≡ some r → callAnswer s c ≡ refusedOn r s c

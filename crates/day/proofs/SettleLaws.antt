@@ -17,7 +17,7 @@ use Rattle.rules.specs.Books.{Book, operatorCount}
 use Rattle.rules.specs.Requests.{Kind, settle, filled}
 use Rattle.rules.specs.Registration.{netOf}
 use Rattle.rules.specs.Settlement.{pricesIn, settled, balance, results, balances, balanceFigure, balanceBytes, figuresIn}
-use Rattle.rules.specs.Calls.{Call, Settled, drawnUp, kindIn, requestIn, workedOut, settles, refusal, answer, balancesAfter, _oneOf_, inputChecks, step, settlement}
+use Rattle.rules.specs.Calls.{Call, Settled, drawnUp, callKind, callRequest, workedOut, settles, refusal, answer, balancesAfter, _oneOf_, inputChecks, step, settlement}
 use Rattle.rules.specs.Lists.{isAcceptance, accepts, acceptsAs}
 use Rattle.rules.proofs.Basics.Tests.{and-both}
 use Rattle.rules.proofs.Basics.Searches.{each-map, any-none, counting-length}
@@ -55,19 +55,19 @@ module _ (b : Book) (c : Call) where
   unfolding settles drawnUp
   worked-go k e = rw e
 
-  writes-go : (o : Option Refusal) → kindIn c ≡ settle → isAcceptance (answer b c o .outcome .verdict) ≡ true
+  writes-go : (o : Option Refusal) → callKind c ≡ settle → isAcceptance (answer b c o .outcome .verdict) ≡ true
       → (workedOut b c o ≡ some worked) × (answer b c o .balances ≡ filled (balanceBytes (worked .balances)) (c .balances))
   unfolding answer workedOut
   writes-go (some r) e h = let z : _≡_ {A = ℕ} 0 1 = cc in absurd (omega arith)
   writes-go none e h =
-      let w = worked-go (kindIn c) e in (w, ap (λ (o : Option Settled). balancesAfter o (c .balances)) w)
+      let w = worked-go (callKind c) e in (w, ap (λ (o : Option Settled). balancesAfter o (c .balances)) w)
 
   module _ (h : acceptsAs step (settle ∷ []) b c ≡ true) where
-    both : (accepts step b c ≡ true) × (kindIn c oneOf (settle ∷ []) ≡ true)
-    both = and-both (accepts step b c) (kindIn c oneOf (settle ∷ [])) .0 h
+    both : (accepts step b c ≡ true) × (callKind c oneOf (settle ∷ []) ≡ true)
+    both = and-both (accepts step b c) (callKind c oneOf (settle ∷ [])) .0 h
 
-    is-settle : kindIn c ≡ settle
-    is-settle = the-kind (kindIn c) settle (both .1)
+    is-settle : callKind c ≡ settle
+    is-settle = the-kind (callKind c) settle (both .1)
 
     pub settle-writes : (settlement b c ≡ some worked) × (step b c .balances ≡ filled (balanceBytes (worked .balances)) (c .balances))
     unfolding step settlement
@@ -77,8 +77,8 @@ module _ (b : Book) (c : Call) where
     pub prices-in-range : Each (λ p. p .0 ≤ mostPrice) lentPrices
     prices-in-range =
         let p = accepts-passed b c (both .0) in
-        let i : Clear (inputChecks b c settle (requestIn c)) = rw is-settle at (p .input) in
-        each-map (λ x e. ltb-false _ _ e) (any-none _ lentPrices (passed-6-prices b c (requestIn c) i))
+        let i : Clear (inputChecks b c settle (callRequest c)) = rw is-settle at (p .input) in
+        each-map (λ x e. ltb-false _ _ e) (any-none _ lentPrices (passed-6-prices b c (callRequest c) i))
 
     module _ (v : valid b ≡ true) where
       -- no balance goes beyond what a day can move

@@ -10,11 +10,11 @@ use Rattle.rules.specs.Limits.{mostHours, bookSize}
 use Rattle.rules.specs.Verdicts.{Check, applies, firstToApply, outcomeOf}
 use Rattle.rules.specs.Books.{Book}
 use Rattle.rules.specs.Requests.{Kind, settle, readChecks, unlessRefused}
-use Rattle.rules.specs.Calls.{Call, carried, refusedOn, requestIn, kindIn, next, given, _oneOf_, inputChecks, stateChecks, checks, refusal, settles, answer, step}
+use Rattle.rules.specs.Calls.{Call, carried, refusedOn, callRequest, callKind, next, given, _oneOf_, inputChecks, stateChecks, checks, refusal, settles, answer, step}
 use Rattle.image.specs.Valid.{isBook, bookBytes, bookIn}
 use Rattle.image.proofs.Round.{book-is-image}
-use Rattle.day.specs.Doors.{callAnswer}
-use Rattle.day.proofs.DoorLaws.{call-on-book}
+use Rattle.day.specs.Answers.{callAnswer}
+use Rattle.day.proofs.AnswerLaws.{call-on-book}
 
 -- ---- checks in a row
 
@@ -49,16 +49,16 @@ module _ (b : Book) (c : Call) where
   pub record-refused : (r : Refusal) → firstToApply (readChecks (c .bytes)) ≡ some r → refusal b c ≡ some r
   unfolding refusal checks
   record-refused r e =
-      applies-first _ (stateChecks b (kindIn c) (requestIn c)) r (applies-first _ (inputChecks b c (kindIn c) (requestIn c)) r e)
+      applies-first _ (stateChecks b (callKind c) (callRequest c)) r (applies-first _ (inputChecks b c (callKind c) (callRequest c)) r e)
 
   module _ (e : firstToApply (readChecks (c .bytes)) ≡ none) where
     -- 5 to 10, by what else it was lent and the ranges of the book
-    pub input-refused : (r : Refusal) → firstToApply (inputChecks b c (kindIn c) (requestIn c)) ≡ some r → refusal b c ≡ some r
+    pub input-refused : (r : Refusal) → firstToApply (inputChecks b c (callKind c) (callRequest c)) ≡ some r → refusal b c ≡ some r
     unfolding refusal checks
-    input-refused r f = applies-first _ (stateChecks b (kindIn c) (requestIn c)) r (applies-later _ _ e ∙ f)
+    input-refused r f = applies-first _ (stateChecks b (callKind c) (callRequest c)) r (applies-later _ _ e ∙ f)
 
     -- 11 to 20, by the state
-    pub state-decides : firstToApply (inputChecks b c (kindIn c) (requestIn c)) ≡ none → refusal b c ≡ firstToApply (stateChecks b (kindIn c) (requestIn c))
+    pub state-decides : firstToApply (inputChecks b c (callKind c) (callRequest c)) ≡ none → refusal b c ≡ firstToApply (stateChecks b (callKind c) (callRequest c))
     unfolding refusal checks
     state-decides f = applies-later _ _ (applies-later _ _ e ∙ f)
 
@@ -79,14 +79,14 @@ unfolding settles
 works-nothing k b c e = rw e
 
 -- what any other kind answers, by what it is refused for
-pub call-decided : (s : List ℕ) (c : Call) → isBook s ≡ true → kindIn c oneOf (settle ∷ []) ≡ false → (o : Option Refusal) → refusal (bookIn s) c ≡ o
+pub call-decided : (s : List ℕ) (c : Call) → isBook s ≡ true → callKind c oneOf (settle ∷ []) ≡ false → (o : Option Refusal) → refusal (bookIn s) c ≡ o
     → callAnswer s c
     ≡ record {
-      outcome = outcomeOf o (given (kindIn c) (bookIn s) (requestIn c));
-      book = bookBytes (unlessRefused o (bookIn s) (next (kindIn c) (bookIn s) (requestIn c)));
+      outcome = outcomeOf o (given (callKind c) (bookIn s) (callRequest c));
+      book = bookBytes (unlessRefused o (bookIn s) (next (callKind c) (bookIn s) (callRequest c)));
       results = c .results;
       balances = c .balances;
     }
 unfolding answer
 call-decided s c h k (some r) e = call-refused s c h r e ∙ rw (← book-is-image mostHours bookSize s h .0)
-call-decided s c h k none e = call-accepted s c h e ∙ rw (works-nothing (kindIn c) (bookIn s) c k)
+call-decided s c h k none e = call-accepted s c h e ∙ rw (works-nothing (callKind c) (bookIn s) c k)

@@ -31,8 +31,8 @@ use Rattle.image.proofs.Setups.SetupRanges.{each-split}
 use Rattle.image.proofs.Setups.SetupAgain.{accepted-in-range}
 use Rattle.image.proofs.Keeping.Opened.{opened-valid}
 use Rattle.image.proofs.Keeping.Reachable.{OfBytes, reachable-valid, reachable-setup, reachable-nets-cancel, reachable-nets-within-margins, reachable-margins-kept, reachable-covered}
-use Rattle.book.specs.Doors.{openBytes}
-use Rattle.day.specs.Doors.{callAnswer}
+use Rattle.book.specs.Answers.{openBytes}
+use Rattle.day.specs.Answers.{callAnswer}
 use Rattle.day.specs.Promise.{Promise}
 use Rattle.day.proofs.Images.{call-on-image, books-in-bytes}
 use Rattle.day.proofs.SettleLaws.{settle-writes, written-total}

@@ -1,6 +1,6 @@
 -- What the contracts of `day` say, and what is promised of a day.
 -- Doors: what a call answers, on any bytes.
-pub mod Doors
+pub mod Answers
 -- Readings: what the ledger would read out.
 pub mod Readings
 -- Promise: demand 3 whole, clause by clause.

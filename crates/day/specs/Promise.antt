@@ -16,8 +16,8 @@ use Rattle.rules.specs.Settlement.{pricesIn, registeredTotal, figuresIn}
 use Rattle.rules.specs.Calls.{Call}
 use Rattle.rules.specs.Lists.{after, acceptsAs, UndoneBatch, CutOut}
 use Rattle.rules.specs.Ledger.{Ledger, ledgerAfter, ledgerNet, ledgerHour, ledgerExposure, ledgerAvailable}
-use Rattle.book.specs.Doors.{netAnswer, exposureAnswer}
-use Rattle.day.specs.Doors.{callAnswer}
+use Rattle.book.specs.Answers.{netAnswer, exposureAnswer}
+use Rattle.day.specs.Answers.{callAnswer}
 use Rattle.day.specs.Readings.{ledgerNetReadOut, ledgerExposureReadOut}
 
 module _ (setup start : List ℕ) where

@@ -2,7 +2,7 @@
 ghost use mathlib.Core.Path.{_≡_};
 ghost use mathlib.Core.Bool.{true};
 ghost use Rattle.image.specs.Valid.{isBook};
-ghost use Rattle.day.specs.Doors.{callAnswer, callWith};
+ghost use Rattle.day.specs.Answers.{callAnswer, callWith};
 use crate::kinds::answer;
 use audit::whole::is_book;
 use records::reader::read;
@@ -11,7 +11,7 @@ use rules::Reading;
 use rules::Refusal;
 use rules::Verdict;
 use rules::kinds::SETTLE;
-use settlement::settling::settle;
+use settlement::settle::settle;
 
 // The inner door: a call on bytes that are known to be a book. It leaves a book.
 pub fn call_in(

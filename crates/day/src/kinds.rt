@@ -8,22 +8,22 @@ ghost use Rattle.rules.specs.Requests.{kindOf, reading};
 ghost use Rattle.rules.specs.Calls.{Call};
 ghost use Rattle.image.specs.Valid.{isBook, bookIn, bookBytes};
 ghost use Rattle.book.specs.Kinds.{outcomeOn, bookAfter, Ready};
-ghost use Rattle.day.specs.Doors.{callAnswer};
+ghost use Rattle.day.specs.Answers.{callAnswer};
 use batches::gate::close_gate;
 use batches::saving::keep;
 use batches::saving::open_batch;
 use batches::saving::undo;
 use records::ranges::check_ranges;
-use registration::confirmation::confirm;
-use registration::lodging::guarantee;
-use registration::proposal::register;
-use registration::withdrawal::withdraw;
+use registration::confirm::confirm;
+use registration::guarantee::guarantee;
+use registration::register::register;
+use registration::withdraw::withdraw;
 use rules::Checked;
 use rules::Outcome;
 use rules::Refusal;
 use rules::Request;
 use rules::Verdict;
-use settlement::scheduling::schedule;
+use settlement::schedule::schedule;
 use setup::counts::counts;
 
 // What a number that is no kind is refused for.

@@ -1,4 +1,4 @@
 // A day's calls on the bytes of a book: the one door of the product.
 pub mod calls;
-pub mod doors;
+pub mod interface;
 mod kinds;

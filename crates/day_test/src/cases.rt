@@ -2,9 +2,9 @@
 use bytes::copy;
 use check::same;
 use day::calls::call;
-use day::doors::exposure;
-use day::doors::net;
-use day::doors::open;
+use day::interface::exposure;
+use day::interface::net;
+use day::interface::open;
 use rules::Numbers;
 use rules::kinds::SETTLE;
 use rules::verdicts::outcome_numbers;

@@ -77,62 +77,62 @@ spareSection = 7
 
 -- ---- places in a part
 
-abbrev pub guaranteesAt : ℕ
-guaranteesAt = 0
+abbrev pub guaranteesOffset : ℕ
+guaranteesOffset = 0
 
-abbrev pub rowCountAt : ℕ
-rowCountAt = guaranteeWidth * mostOperators
+abbrev pub rowCountOffset : ℕ
+rowCountOffset = guaranteeWidth * mostOperators
 
 -- a count of rows has 2 bytes
-abbrev pub rowsAt : ℕ
-rowsAt = rowCountAt + 2
+abbrev pub rowsOffset : ℕ
+rowsOffset = rowCountOffset + 2
 
-abbrev pub netsAt : ℕ
-netsAt = rowsAt + rowWidth * mostRows
+abbrev pub netsOffset : ℕ
+netsOffset = rowsOffset + rowWidth * mostRows
 
 -- the row that has i before it
-abbrev pub rowAt : ℕ → ℕ
-rowAt i = rowsAt + rowWidth * i
+abbrev pub rowOffset : ℕ → ℕ
+rowOffset i = rowsOffset + rowWidth * i
 
 -- the net of an account in a period, both from 1
-abbrev pub netAt : ℕ → ℕ → ℕ → ℕ
-netAt top a h = netsAt + (accountWidth top * (a - 1) + netWidth * (h - 1))
+abbrev pub netOffset : ℕ → ℕ → ℕ → ℕ
+netOffset top a h = netsOffset + (accountWidth top * (a - 1) + netWidth * (h - 1))
 
 -- the status of a row, past what else is in it
-abbrev pub statusIn : ℕ
-statusIn = 17
+abbrev pub statusOffset : ℕ
+statusOffset = 17
 
 -- a part: guarantees, row count, rows, nets by account and then period
 abbrev pub partWidths : ℕ → List ℕ
 partWidths top = guaranteeWidth * mostOperators ∷ 2 ∷ rowWidth * mostRows ∷ mostAccounts * accountWidth top ∷ []
 
 abbrev pub partSize : ℕ → ℕ
-partSize top = netsAt + mostAccounts * accountWidth top
+partSize top = netsOffset + mostAccounts * accountWidth top
 
 -- ---- places in a book
 
-abbrev pub phaseAt : ℕ
-phaseAt = setupRoom
+abbrev pub phaseOffset : ℕ
+phaseOffset = setupRoom
 
-abbrev pub flagAt : ℕ
-flagAt = phaseAt + 1
+abbrev pub flagOffset : ℕ
+flagOffset = phaseOffset + 1
 
-abbrev pub scheduleCountAt : ℕ
-scheduleCountAt = flagAt + 1
+abbrev pub scheduleCountOffset : ℕ
+scheduleCountOffset = flagOffset + 1
 
 -- a count of schedules has 2 bytes
-abbrev pub schedulesAt : ℕ
-schedulesAt = scheduleCountAt + 2
+abbrev pub schedulesOffset : ℕ
+schedulesOffset = scheduleCountOffset + 2
 
-abbrev pub presentAt : ℕ
-presentAt = schedulesAt + scheduleWidth * mostSchedules
+abbrev pub presentOffset : ℕ
+presentOffset = schedulesOffset + scheduleWidth * mostSchedules
 
-abbrev pub savedAt : ℕ → ℕ
-savedAt top = presentAt + partSize top
+abbrev pub savedOffset : ℕ → ℕ
+savedOffset top = presentOffset + partSize top
 
 -- what is not spare
 abbrev pub usedSize : ℕ → ℕ
-usedSize top = presentAt + 2 * partSize top
+usedSize top = presentOffset + 2 * partSize top
 
 -- a book: set-up, phase, batch flag, schedule count, schedules, present part, saved part, spare
 abbrev pub bookWidths : ℕ → ℕ → List ℕ

@@ -70,8 +70,8 @@ marginsKept u rows =
     every (λ a. every (λ h. keepsMargins (marginsAt u a h) (accountHour rows a h)) (upTo (periods u))) (upTo (accountCount u))
 
 -- no operator's exposure is above what is available
-unfoldable pub guaranteesKept : Setup → Part → Bool
-guaranteesKept u p = every (covered u p) (upTo (operatorCount u))
+unfoldable pub operatorsCovered : Setup → Part → Bool
+operatorsCovered u p = every (covered u p) (upTo (operatorCount u))
 
 abbrev pub partTests : Setup → Part → List Bool
 partTests u p =
@@ -81,7 +81,7 @@ partTests u p =
     ∷ every (rowOk u) (p .rows)
     ∷ noTwins (p .rows)
     ∷ marginsKept u (p .rows)
-    ∷ guaranteesKept u p
+    ∷ operatorsCovered u p
     ∷ []
 
 unfoldable pub partOk : Setup → Part → Bool

@@ -22,29 +22,29 @@ pub const SCHEDULE_WIDTH: usize = 3 + QUANTITY_WIDTH + PRICE_WIDTH;
 // The set-up's room, then single bytes and counts.
 pub const SETUP_ROOM: usize = 8_192;
 
-pub const PHASE_AT: usize = SETUP_ROOM;
+pub const PHASE_OFFSET: usize = SETUP_ROOM;
 
-pub const FLAG_AT: usize = PHASE_AT + 1;
+pub const FLAG_OFFSET: usize = PHASE_OFFSET + 1;
 
-pub const SCHEDULE_COUNT_AT: usize = FLAG_AT + 1;
+pub const SCHEDULE_COUNT_OFFSET: usize = FLAG_OFFSET + 1;
 
-pub const SCHEDULES_AT: usize = SCHEDULE_COUNT_AT + 2;
+pub const SCHEDULES_OFFSET: usize = SCHEDULE_COUNT_OFFSET + 2;
 
 // The two parts, of one shape, and what is spare.
-pub const PRESENT_AT: usize = SCHEDULES_AT + SCHEDULE_WIDTH * MOST_SCHEDULES;
+pub const PRESENT_OFFSET: usize = SCHEDULES_OFFSET + SCHEDULE_WIDTH * MOST_SCHEDULES;
 
-pub const SAVED_AT: usize = PRESENT_AT + PART_SIZE;
+pub const SAVED_OFFSET: usize = PRESENT_OFFSET + PART_SIZE;
 
-pub const SPARE_AT: usize = SAVED_AT + PART_SIZE;
+pub const SPARE_OFFSET: usize = SAVED_OFFSET + PART_SIZE;
 
-pub const PART_SIZE: usize = NETS_IN + LANE_SLOTS * ACCOUNT_NETS;
+pub const PART_SIZE: usize = NETS_OFFSET + LANE_SLOTS * ACCOUNT_NETS;
 
 // In a part: guarantees, row count, rows, net positions.
-pub const ROW_COUNT_IN: usize = GUARANTEE_WIDTH * (MOST_OPERATORS as usize);
+pub const ROW_COUNT_OFFSET: usize = GUARANTEE_WIDTH * (MOST_OPERATORS as usize);
 
-pub const ROWS_IN: usize = ROW_COUNT_IN + 2;
+pub const ROWS_OFFSET: usize = ROW_COUNT_OFFSET + 2;
 
-pub const NETS_IN: usize = ROWS_IN + ROW_WIDTH * MOST_ROWS;
+pub const NETS_OFFSET: usize = ROWS_OFFSET + ROW_WIDTH * MOST_ROWS;
 
 // Rows that may have numbers in a day.
 pub const MOST_ROWS: usize = rules::limits::MOST_ROWS as usize;

@@ -15,19 +15,19 @@ use wire::numbers::get_u32;
 use wire::numbers::get_u64;
 
 // Where a field stands in a row, which begins with its proposer.
-pub const COUNTERPARTY_IN: usize = 1;
+pub const COUNTERPARTY_OFFSET: usize = 1;
 
-pub const CODE_IN: usize = COUNTERPARTY_IN + 1;
+pub const CODE_OFFSET: usize = COUNTERPARTY_OFFSET + 1;
 
-pub const SIDE_IN: usize = CODE_IN + CODE_WIDTH;
+pub const SIDE_OFFSET: usize = CODE_OFFSET + CODE_WIDTH;
 
-pub const FIRST_IN: usize = SIDE_IN + 1;
+pub const FIRST_OFFSET: usize = SIDE_OFFSET + 1;
 
-pub const LAST_IN: usize = FIRST_IN + 1;
+pub const LAST_OFFSET: usize = FIRST_OFFSET + 1;
 
-pub const QUANTITY_IN: usize = LAST_IN + 1;
+pub const QUANTITY_OFFSET: usize = LAST_OFFSET + 1;
 
-pub const STATUS_IN: usize = QUANTITY_IN + QUANTITY_WIDTH;
+pub const STATUS_OFFSET: usize = QUANTITY_OFFSET + QUANTITY_WIDTH;
 
 // The row in the bytes from `at` on.
 pub fn row_at(s: &[u8], at: usize) -> Row
@@ -36,13 +36,13 @@ pub fn row_at(s: &[u8], at: usize) -> Row
 {
     Row {
         proposer: get_u8(s, at),
-        counterparty: get_u8(s, at + COUNTERPARTY_IN),
-        code: get_u64(s, at + CODE_IN),
-        side: get_u8(s, at + SIDE_IN),
-        first: get_u8(s, at + FIRST_IN),
-        last: get_u8(s, at + LAST_IN),
-        quantity: Kwh(get_u32(s, at + QUANTITY_IN)),
-        status: get_u8(s, at + STATUS_IN),
+        counterparty: get_u8(s, at + COUNTERPARTY_OFFSET),
+        code: get_u64(s, at + CODE_OFFSET),
+        side: get_u8(s, at + SIDE_OFFSET),
+        first: get_u8(s, at + FIRST_OFFSET),
+        last: get_u8(s, at + LAST_OFFSET),
+        quantity: Kwh(get_u32(s, at + QUANTITY_OFFSET)),
+        status: get_u8(s, at + STATUS_OFFSET),
     }
 }
 

@@ -14,13 +14,13 @@ use wire::numbers::get_u8;
 use wire::numbers::get_u32;
 
 // Where a field stands in a schedule, which begins with its point.
-pub const SIDE_IN: usize = 1;
+pub const SIDE_OFFSET: usize = 1;
 
-pub const HOUR_IN: usize = SIDE_IN + 1;
+pub const HOUR_OFFSET: usize = SIDE_OFFSET + 1;
 
-pub const QUANTITY_IN: usize = HOUR_IN + 1;
+pub const QUANTITY_OFFSET: usize = HOUR_OFFSET + 1;
 
-pub const PRICE_IN: usize = QUANTITY_IN + QUANTITY_WIDTH;
+pub const PRICE_OFFSET: usize = QUANTITY_OFFSET + QUANTITY_WIDTH;
 
 // The schedule in the bytes from `at` on.
 pub fn schedule_at(s: &[u8], at: usize) -> Schedule
@@ -29,10 +29,10 @@ pub fn schedule_at(s: &[u8], at: usize) -> Schedule
 {
     Schedule {
         point: get_u8(s, at),
-        side: get_u8(s, at + SIDE_IN),
-        hour: get_u8(s, at + HOUR_IN),
-        quantity: Kwh(get_u32(s, at + QUANTITY_IN)),
-        price: CentsPerMwh(get_u32(s, at + PRICE_IN)),
+        side: get_u8(s, at + SIDE_OFFSET),
+        hour: get_u8(s, at + HOUR_OFFSET),
+        quantity: Kwh(get_u32(s, at + QUANTITY_OFFSET)),
+        price: CentsPerMwh(get_u32(s, at + PRICE_OFFSET)),
     }
 }
 

@@ -8,8 +8,8 @@ use lib.Seq.{length-take-le}
 use Rattle.io.specs.Counts.{Counts}
 use Rattle.rules.specs.Replay.{replay, text}
 use Rattle.rules.proofs.Basics.Tests.{and-spared}
-use Rattle.walk.specs.declared.Gathered.{Gathered}
-use Rattle.walk.specs.Gathering.{Progress, Follows, soFar, firstGathered, allGathered, linesIn, toCome, wholeText}
+use Rattle.replaying.specs.declared.Gathered.{Gathered}
+use Rattle.replaying.specs.Gathering.{Progress, Follows, soFar, firstGathered, allGathered, linesIn, toCome, wholeText}
 use Rattle.printing.specs.Rounds.{Replayed, emptied, firstRound, afterRounds, linesOfRounds}
 
 -- some rounds lead from one to the other; their lines and the text to come make the whole

@@ -4,7 +4,7 @@ use mathlib.Core.Path.{_≡_}
 use mathlib.Core.List.{List, _++_}
 use mathlib.Core.Bool.{Bool, true, false}
 use Rattle.rules.specs.Replay.{replay, text}
-use Rattle.walk.specs.Gathering.{Progress, soFar, firstGathered, allGathered, linesIn}
+use Rattle.replaying.specs.Gathering.{Progress, soFar, firstGathered, allGathered, linesIn}
 
 -- the lines have been written: the next ones are gathered from the front
 abbrev pub emptied : Progress → Progress

@@ -4,14 +4,14 @@ ghost use mathlib.Core.Bool.{true};
 ghost use Prim.Native.Nat.{_+_, _≤_};
 ghost use lib.ListN.{length};
 ghost use Rattle.rules.specs.Limits.{bookSize, longestStream};
-ghost use Rattle.walk.specs.Lent.{stepRoom};
+ghost use Rattle.replaying.specs.Lent.{stepRoom};
 ghost use Rattle.io.specs.Counts.{Counts};
 ghost use Rattle.printing.specs.Rounds.{Replayed};
 use image::layout::BOOK_SIZE;
-use walk::Gathered;
-use walk::gathering::gather;
-use walk::gathering::gather_first;
-use walk::steps::STREAM_ROOM;
+use replaying::Gathered;
+use replaying::gathering::gather;
+use replaying::gathering::gather_first;
+use replaying::steps::STREAM_ROOM;
 
 // Bytes of lines that are written together; those of any step fit in.
 const LINES_ROOM: usize = 65_536;

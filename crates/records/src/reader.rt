@@ -9,9 +9,9 @@ ghost use Rattle.rules.specs.Requests.{fieldCount, mapOf, offset, bits, fieldIn
 use crate::tables::FIELDS;
 use crate::tables::PAST_FIELDS;
 use crate::tables::fields_more;
+use crate::tables::has_field;
 use crate::tables::is_kind;
 use crate::tables::room_of;
-use crate::tables::stands;
 use crate::tables::wanted_length;
 use crate::tables::wanted_map;
 use rules::Reading;
@@ -86,7 +86,7 @@ fn no_map(bytes: &[u8]) -> bool
         return true;
     }
     let given = get_u16(bytes, 0);
-    !stands(given, 0) | (PAST_FIELDS <= given)
+    !has_field(given, 0) | (PAST_FIELDS <= given)
 }
 
 // What a record of this kind reads as.

@@ -64,7 +64,7 @@ pub fn width(k: usize) -> usize
 }
 
 // Whether a bit of a map stands.
-pub fn stands(map: u16, k: usize) -> bool
+pub fn has_field(map: u16, k: usize) -> bool
     requires { ⌜ k < 16 ⌝ }
     ensures { λ r. ⌜ r ≡ bit map k ⌝ }
 {
@@ -76,7 +76,7 @@ pub fn room_of(map: u16, k: usize) -> usize
     requires { ⌜ k < fieldCount ⌝ }
     ensures { λ r. ⌜ r ≡ room map k ⌝ }
 {
-    if stands(map, k) { width(k) } else { 0 }
+    if has_field(map, k) { width(k) } else { 0 }
 }
 
 // How many fields stand in one map and not in the other.

@@ -23,7 +23,7 @@ use Rattle.rules.specs.Calls.{confirmedNumber, given}
 use Rattle.rules.proofs.Rows.RowTests.{passed-confirm, passed-withdraw}
 use Rattle.rules.proofs.Rows.AccountHours.{pending-inside}
 use Rattle.rules.proofs.Basics.Searches.{each-nth}
-use Rattle.image.specs.Layout.{presentAt, rowAt, netAt, statusIn, netWidth}
+use Rattle.image.specs.Layout.{presentOffset, rowOffset, netOffset, statusOffset, netWidth}
 use Rattle.image.specs.Valid.{isBook, bookIn}
 use Rattle.image.specs.Changes.{raised}
 use Rattle.image.proofs.Writing.Sizes.{RowFits, row-fits-of}
@@ -38,8 +38,8 @@ module _ (s t : List ℕ) (h : isBook s ≡ true) where
   -- 2: the row's status, the hours of its seller, those of its buyer
   pub confirmed-answered : (q : Request) (i n at low high : ℕ) (r : Row) → decided confirm (bookIn s) q ≡ none
       → confirms (bookIn s .part .rows) q ≡ some i → r ≡ getD (bookIn s .part .rows) i noRow → r .first + n ≡ suc (r .last)
-      → at ≡ presentAt + rowAt i + statusIn
-      → low ≡ presentAt + netAt mostHours (seller r) (r .first) → high ≡ presentAt + netAt mostHours (buyer r) (r .first)
+      → at ≡ presentOffset + rowOffset i + statusOffset
+      → low ≡ presentOffset + netOffset mostHours (seller r) (r .first) → high ≡ presentOffset + netOffset mostHours (buyer r) (r .first)
       → t
       ≡ sweep (raised netWidth (r .quantity .0)) netWidth (sweep (raised netWidth (256 ^ netWidth - r .quantity .0)) netWidth (splice s at (le 1 2)) low n) high n
       → Answered confirm s q (accepted (i + 1)) t
@@ -63,7 +63,7 @@ module _ (s t : List ℕ) (h : isBook s ≡ true) where
       (apply-keeps _ b sound (confirm-allowed b q sound clear))
 
   -- 3: the row's status
-  pub withdrawn-answered : (q : Request) (at : ℕ) → decided withdraw (bookIn s) q ≡ none → at ≡ presentAt + rowAt (q .number - 1) + statusIn
+  pub withdrawn-answered : (q : Request) (at : ℕ) → decided withdraw (bookIn s) q ≡ none → at ≡ presentOffset + rowOffset (q .number - 1) + statusOffset
       → t ≡ splice s at (le 1 3) → Answered withdraw s q (accepted 0) t
   unfolding given
   withdrawn-answered q at d place e =

@@ -21,11 +21,11 @@ use Rattle.rules.specs.Registration.{pending, exposure, available, covered}
 use Rattle.rules.specs.declared.Counts.{Counts}
 use Rattle.rules.proofs.Basics.Searches.{each-at}
 use Rattle.setup.specs.Faults.{noOperator}
-use Rattle.image.specs.Layout.{presentAt}
+use Rattle.image.specs.Layout.{presentOffset}
 use Rattle.image.specs.Valid.{isBook, bookIn}
 use Rattle.image.proofs.Setups.SetupRanges.{SoundOperator, maintenance-of}
 use Rattle.image.proofs.Reading.ImageReads.{guarantee-read}
-use Rattle.book.specs.Worth.{Takeable}
+use Rattle.book.specs.Worth.{TradeInRange}
 use Rattle.book.proofs.StateLaws.{book-fits, book-is-sound, number-in-book}
 use Rattle.book.proofs.BookRows.{counts-in, setup-in, values-in, caller-operator}
 
@@ -67,11 +67,11 @@ module _ (s : List ℕ) (h : isBook s ≡ true) (o : ℕ) (low : 1 ≤ o) (high 
       go (suc i) l m = each-at 0 i all-maintenance (omega arith)
 
   -- the guarantee in force stands in its 8 bytes
-  pub guarantee-stands : (at : ℕ) → at ≡ presentAt + guaranteeWidth * (o - 1)
+  pub guarantee-stands : (at : ℕ) → at ≡ presentOffset + guaranteeWidth * (o - 1)
       → (numberAt s at 8 ≡ guaranteeAt (bookIn s .part .guarantees) o .0) × (guaranteeAt (bookIn s .part .guarantees) o .0 ≤ mostGuarantee)
   guarantee-stands at e = go o low high e
     where
-      go : (n : ℕ) → 1 ≤ n → n ≤ operatorCount (bookIn s .setup) → at ≡ presentAt + guaranteeWidth * (n - 1)
+      go : (n : ℕ) → 1 ≤ n → n ≤ operatorCount (bookIn s .setup) → at ≡ presentOffset + guaranteeWidth * (n - 1)
           → (numberAt s at 8 ≡ guaranteeAt (bookIn s .part .guarantees) n .0) × (guaranteeAt (bookIn s .part .guarantees) n .0 ≤ mostGuarantee)
       go zero l m e = absurd (omega arith)
       go (suc i) l m e =
@@ -82,10 +82,10 @@ module _ (s : List ℕ) (h : isBook s ≡ true) (o : ℕ) (low : 1 ≤ o) (high 
           (number-in-book s h at 8 ∙ guarantee-read mostHours bookSize b (book-fits s h) i at (omega arith) (omega arith) (omega arith), small)
 
 -- what is available of a guarantee covers the exposure of these rows
-pub covered-by : (u : Setup) (p : Part) (o g : ℕ) → guaranteeAt (p .guarantees) o .0 ≡ g
+pub covered-at-guarantee : (u : Setup) (p : Part) (o g : ℕ) → guaranteeAt (p .guarantees) o .0 ≡ g
     → covered u p o ≡ leb (exposure u (p .rows) o) (g * (thousand - maintenanceAt u o))
 unfolding covered available
-covered-by u p o g e = rw e
+covered-at-guarantee u p o g e = rw e
 
 -- ---- exposure and what is available
 
@@ -113,8 +113,8 @@ still-covered s a owed h low high no-more =
     sym (le-leb owed (available u (bookIn s .part) o) (omega arith))
 
 -- a trade that does not wait can be taken
-pub settled-takeable : (u : Setup) (r : Row) → r .quantity .0 ≤ mostEnergy → pending r ≡ false → Takeable u r
-settled-takeable u r l f =
+pub settled-trade-in-range : (u : Setup) (r : Row) → r .quantity .0 ≤ mostEnergy → pending r ≡ false → TradeInRange u r
+settled-trade-in-range u r l f =
     record {
       quantity-high = l;
       proposer-known = λ e. absurd (not-both e f);

@@ -14,10 +14,10 @@ pub mod MarginLaws
 -- CoverLaws: what stands in a book of an operator, of an account its operator, and what covers its exposure.
 pub mod CoverLaws
 -- LodgingLaws: what the state refuses a guarantee for, and what an accepted one writes.
-pub mod LodgingLaws
+pub mod GuaranteeLaws
 -- ProposalLaws: what the state refuses a register for, and what an accepted one writes.
-pub mod ProposalLaws
+pub mod RegisterLaws
 -- ConfirmationLaws: the row that a confirm names, what the state refuses a confirm for, and what an accepted one writes.
-pub mod ConfirmationLaws
+pub mod ConfirmLaws
 -- PositionLaws: what moving the nets of a trade writes.
 pub mod PositionLaws

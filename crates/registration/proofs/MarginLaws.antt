@@ -15,7 +15,7 @@ use Rattle.rules.specs.declared.Row.{Row}
 use Rattle.rules.specs.Basics.{find, counting}
 use Rattle.rules.specs.Limits.{mostEnergy}
 use Rattle.rules.specs.Books.{Setup, accountCount, periods, marginsAt}
-use Rattle.rules.specs.Registration.{pending, confirmed, covers, bought, sold, netOf, pendingSales, pendingPurchases, accountHour, takes, keepsMargins, brokenBy}
+use Rattle.rules.specs.Registration.{pending, confirmed, includesHour, bought, sold, netOf, pendingSales, pendingPurchases, accountHour, afterTrade, keepsMargins, brokenBy}
 use Rattle.rules.proofs.Basics.Tests.{test-same}
 use Rattle.image.specs.Valid.{isBook, bookIn}
 use Rattle.book.specs.Netted.{netted}
@@ -69,19 +69,19 @@ keeps-alike margins x y e d n =
 
 -- so it is with the net position by itself
 keeps-netted : (margins : Margins) (rows : List Row) (trade : Row) (a h : ℕ)
-    → keepsMargins margins (takes a h (nettedHour rows a h) trade) ≡ keepsMargins margins (takes a h (accountHour rows a h) trade)
-unfolding takes
+    → keepsMargins margins (afterTrade a h (nettedHour rows a h) trade) ≡ keepsMargins margins (afterTrade a h (accountHour rows a h) trade)
+unfolding afterTrade
 keeps-netted margins rows trade a h =
-    keeps-alike margins (takes a h (nettedHour rows a h) trade) (takes a h (accountHour rows a h) trade) refl refl
+    keeps-alike margins (afterTrade a h (nettedHour rows a h) trade) (afterTrade a h (accountHour rows a h) trade) refl refl
     (omega (arith, netted-difference (netOf rows a h)))
 
 -- the account breaks a margin in the hour once it took the trade
 unfoldable pub breaks : Setup → List Row → Row → ℕ → ℕ → Bool
-breaks u rows trade a h = not (keepsMargins (marginsAt u a h) (takes a h (accountHour rows a h) trade))
+breaks u rows trade a h = not (keepsMargins (marginsAt u a h) (afterTrade a h (accountHour rows a h) trade))
 
 -- a trade leaves an hour that it is not for
-takes-elsewhere : (rows : List Row) (trade : Row) (a h : ℕ) → covers h trade ≡ false → takes a h (accountHour rows a h) trade ≡ accountHour rows a h
-unfolding takes
+takes-elsewhere : (rows : List Row) (trade : Row) (a h : ℕ) → includesHour h trade ≡ false → afterTrade a h (accountHour rows a h) trade ≡ accountHour rows a h
+unfolding afterTrade
 takes-elsewhere rows trade a h e =
     rw (
       e,
@@ -95,7 +95,7 @@ takes-elsewhere rows trade a h e =
 
 module _ (s : List ℕ) (h : isBook s ≡ true) (trade : Row) (a : ℕ) (low : 1 ≤ a) (high : a ≤ accountCount (bookIn s .setup)) where
   -- so it breaks none there, for a book keeps its margins
-  kept-elsewhere : (k : ℕ) → 1 ≤ k → k ≤ periods (bookIn s .setup) → covers k trade ≡ false → breaks (bookIn s .setup) (bookIn s .part .rows) trade a k ≡ false
+  kept-elsewhere : (k : ℕ) → 1 ≤ k → k ≤ periods (bookIn s .setup) → includesHour k trade ≡ false → breaks (bookIn s .setup) (bookIn s .part .rows) trade a k ≡ false
   unfolding breaks
   kept-elsewhere k l m e = rw (takes-elsewhere (bookIn s .part .rows) trade a k e, book-is-sound s h .part-sound .keeps-margins a k low high l m)
 
@@ -111,7 +111,7 @@ module _ (s : List ℕ) (h : isBook s ≡ true) (trade : Row) (a : ℕ) (low : 1
 
 -- the test as code makes it
 pub breaks-tested : (u : Setup) (rows : List Row) (trade : Row) (a h : ℕ) (margins : Margins) (held after : AccountHour) (t : Bool)
-    → margins ≡ marginsAt u a h → held ≡ nettedHour rows a h → after ≡ takes a h held trade → t ≡ keepsMargins margins after
+    → margins ≡ marginsAt u a h → held ≡ nettedHour rows a h → after ≡ afterTrade a h held trade → t ≡ keepsMargins margins after
     → breaks u rows trade a h ≡ not t
 unfolding breaks
 breaks-tested u rows trade a h margins held after t eo eh ea et =

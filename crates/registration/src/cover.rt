@@ -7,7 +7,7 @@ ghost use Rattle.rules.specs.Limits.{mostGuarantee, thousand};
 ghost use Rattle.rules.specs.Books.{maintenanceAt, guaranteeAt, operatorCount};
 ghost use Rattle.rules.specs.Registration.{available};
 ghost use Rattle.image.specs.Valid.{isBook, bookIn};
-use image::layout::PRESENT_AT;
+use image::layout::PRESENT_OFFSET;
 use setup::counts::GUARANTEE_WIDTH;
 use setup::entries::operator;
 use units::Cents;
@@ -15,29 +15,29 @@ use units::MilliCents;
 use wire::numbers::get_u64;
 
 // The guarantee in force of an operator.
-pub fn lodged(book: &[u8], number: u8) -> Cents
+pub fn guarantee_in_force(book: &[u8], number: u8) -> Cents
     requires { ⌜ (isBook (now book) ≡ true) × (1 ≤ number) × (number ≤ operatorCount (bookIn (now book) .setup)) ⌝ }
     ensures { λ r. ⌜ (r ≡ guaranteeAt (bookIn (now (book .entry)) .part .guarantees) number) × (r .0 ≤ mostGuarantee) ⌝ }
 {
-    let at = PRESENT_AT + GUARANTEE_WIDTH * (number as usize - 1);
+    let at = PRESENT_OFFSET + GUARANTEE_WIDTH * (number as usize - 1);
     Cents(get_u64(book, at))
 }
 
 // Whether what is available of the guarantee covers what the operator owes.
-pub fn is_covered(book: &[u8], owed: MilliCents, guarantee: Cents, number: u8) -> bool
+pub fn covered_by(book: &[u8], owed: MilliCents, guarantee: Cents, number: u8) -> bool
     requires { ⌜ (isBook (now book) ≡ true) × (guarantee .0 ≤ mostGuarantee) × (1 ≤ number) × (number ≤ operatorCount (bookIn (now book) .setup)) ⌝ }
     ensures { λ r. ⌜ r ≡ leb (owed .0) (guarantee .0 * (thousand - maintenanceAt (bookIn (now (book .entry)) .setup) number)) ⌝ }
 {
-    let owner = operator(book, number);
-    let limit = guarantee.available(owner.maintenance);
+    let entry = operator(book, number);
+    let limit = guarantee.available(entry.maintenance);
     owed.at_most(limit)
 }
 
 // Whether the operator's guarantee in force covers what it owes.
-pub fn in_force_covers(book: &[u8], owed: MilliCents, number: u8) -> bool
+pub fn covered_in_force(book: &[u8], owed: MilliCents, number: u8) -> bool
     requires { ⌜ (isBook (now book) ≡ true) × (1 ≤ number) × (number ≤ operatorCount (bookIn (now book) .setup)) ⌝ }
     ensures { λ r. ⌜ r ≡ leb (owed .0) (available (bookIn (now (book .entry)) .setup) (bookIn (now (book .entry)) .part) number) ⌝ }
 {
-    let guarantee = lodged(book, number);
-    is_covered(book, owed, guarantee, number)
+    let guarantee = guarantee_in_force(book, number);
+    covered_by(book, owed, guarantee, number)
 }

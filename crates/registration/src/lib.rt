@@ -1,9 +1,9 @@
 // Registration on a book that is known to be one: kinds 1 to 4.
-pub mod confirmation;
+pub mod confirm;
 pub mod cover;
-pub mod lodging;
+pub mod guarantee;
 pub mod margins;
 pub mod positions;
-pub mod proposal;
+pub mod register;
 pub mod search;
-pub mod withdrawal;
+pub mod withdraw;

@@ -9,8 +9,8 @@ ghost use Rattle.rules.specs.Registration.{brokenBy};
 ghost use Rattle.image.specs.Valid.{isBook, bookIn};
 ghost use Rattle.book.specs.Waits.{WaitsOf};
 ghost use Rattle.registration.specs.Margins.{broken};
+use book::waits::account_hour;
 use book::waits::fill_waits;
-use book::waits::held_hour;
 use book::waits::no_waits;
 use rules::Row;
 use rules::hours::keeps_margins;
@@ -34,8 +34,8 @@ pub fn first_broken(book: &[u8], waits: &[u32], trade: Row, number: u8) -> Broke
         if trade.last < hour {
             break Broken::Nowhere;
         }
-        let held = held_hour(book, waits, number, hour);
-        let after = held.take(trade, number, hour);
+        let held = account_hour(book, waits, number, hour);
+        let after = held.after_trade(trade, number, hour);
         if keeps_margins(own, after) {
             hour = hour + 1;
         } else {

@@ -6,10 +6,10 @@ ghost use Rattle.wire.specs.Regions.{splice};
 ghost use Rattle.wire.specs.Parts.{sweep};
 ghost use Rattle.rules.specs.Limits.{bookSize, mostHours};
 ghost use Rattle.rules.specs.Registration.{seller, buyer};
-ghost use Rattle.image.specs.Layout.{presentAt, netAt, netWidth};
+ghost use Rattle.image.specs.Layout.{presentOffset, netOffset, netWidth};
 ghost use Rattle.image.specs.Changes.{raised};
 ghost use Rattle.image.specs.Tables.{Tabled};
-use book::state::net_place;
+use book::state::net_offset;
 use image::layout::MOST_IN_4;
 use image::layout::NET_WIDTH;
 use image::layout::TURN;
@@ -44,7 +44,7 @@ fn raise_nets(s: &mut [u8], from: usize, n: usize, more: u32)
 // Moves the nets of both parties of a trade in each of its hours: the seller's fall by its quantity, then the buyer's rise by it.
 pub fn move_nets(book: &mut [u8], r: Row)
     requires { ⌜ (length (now book) ≡ bookSize) × Tabled mostHours r × (1 ≤ r .quantity .0) ⌝ }
-    ensures { λ _. ⌜ now (book .exit) ≡ sweep (raised netWidth (r .quantity .0)) netWidth (sweep (raised netWidth (256 ^ netWidth - r .quantity .0)) netWidth (now (book .entry)) (presentAt + netAt mostHours (seller r) (r .first)) (r .last - r .first + 1)) (presentAt + netAt mostHours (buyer r) (r .first)) (r .last - r .first + 1) ⌝ }
+    ensures { λ _. ⌜ now (book .exit) ≡ sweep (raised netWidth (r .quantity .0)) netWidth (sweep (raised netWidth (256 ^ netWidth - r .quantity .0)) netWidth (now (book .entry)) (presentOffset + netOffset mostHours (seller r) (r .first)) (r .last - r .first + 1)) (presentOffset + netOffset mostHours (buyer r) (r .first)) (r .last - r .first + 1) ⌝ }
 {
     let quantity = r.quantity;
     let n = (r.last - r.first) as usize + 1;
@@ -52,9 +52,9 @@ pub fn move_nets(book: &mut [u8], r: Row)
     let buyer = pick(r.side == 1, r.counterparty, r.proposer);
     raise_nets(
         book,
-        net_place(seller, r.first),
+        net_offset(seller, r.first),
         n,
         MOST_IN_4 - quantity.0 + 1,
     );
-    raise_nets(book, net_place(buyer, r.first), n, quantity.0);
+    raise_nets(book, net_offset(buyer, r.first), n, quantity.0);
 }

@@ -12,12 +12,12 @@ ghost use Rattle.image.specs.Cells.{rowsFrom};
 ghost use Rattle.image.specs.Layout.{rowWidth};
 use book::state::PENDING;
 use book::state::row_count;
-use image::layout::PRESENT_AT;
+use image::layout::PRESENT_OFFSET;
 use image::layout::ROW_WIDTH;
-use image::layout::ROWS_IN;
-use image::rows::CODE_IN;
-use image::rows::COUNTERPARTY_IN;
-use image::rows::STATUS_IN;
+use image::layout::ROWS_OFFSET;
+use image::rows::CODE_OFFSET;
+use image::rows::COUNTERPARTY_OFFSET;
+use image::rows::STATUS_OFFSET;
 use wire::numbers::get_u8;
 use wire::numbers::get_u64;
 
@@ -26,12 +26,12 @@ fn alike_at(book: &[u8], at: usize, proposer: u8, counterparty: u8, code: u64) -
     requires { ⌜ at + rowWidth ≤ length (now book) ⌝ }
     ensures { λ b. ⌜ b ≡ alike proposer counterparty code (rowIn (take rowWidth (drop at (now (book .entry))))) ⌝ }
 {
-    if get_u64(book, at + CODE_IN) != code {
+    if get_u64(book, at + CODE_OFFSET) != code {
         return false;
     }
-    let status = get_u8(book, at + STATUS_IN);
+    let status = get_u8(book, at + STATUS_OFFSET);
     let first = get_u8(book, at);
-    let second = get_u8(book, at + COUNTERPARTY_IN);
+    let second = get_u8(book, at + COUNTERPARTY_OFFSET);
     (status == PENDING) & (first == proposer) & (second == counterparty)
 }
 
@@ -66,5 +66,12 @@ pub fn pending_number(book: &[u8], proposer: u8, counterparty: u8, code: u64) ->
     ensures bound { λ r. ⌜ r ≤ length (bookIn (now (book .entry)) .part .rows) ⌝ }
 {
     let n = row_count(book) as usize;
-    number_among(book, PRESENT_AT + ROWS_IN, n, proposer, counterparty, code) as u16
+    number_among(
+        book,
+        PRESENT_OFFSET + ROWS_OFFSET,
+        n,
+        proposer,
+        counterparty,
+        code,
+    ) as u16
 }

@@ -4,14 +4,14 @@ ghost use mathlib.Core.Path.{_≡_};
 ghost use Prim.Native.Nat.{_≤_};
 ghost use lib.ListN.{length};
 ghost use Rattle.rules.specs.Limits.{bookSize};
-ghost use Rattle.walk.specs.Lent.{stepRoom};
+ghost use Rattle.replaying.specs.Lent.{stepRoom};
 use libc::STDIN_FILENO;
 use libc::STDOUT_FILENO;
 use printing::book_buffer;
 use printing::line_buffer;
 use printing::replay_day;
 use printing::stream_buffer;
-use walk::steps::STREAM_ROOM;
+use replaying::steps::STREAM_ROOM;
 use wire::numbers::get_u32;
 
 // The bytes of a case before its stream: a tag and a length.

@@ -30,11 +30,11 @@ pub record Call : Type 0 where
   pub results : List ℕ
   pub balances : List ℕ
 
-abbrev pub requestIn : Call → Request
-requestIn c = requestOf (c .bytes)
+abbrev pub callRequest : Call → Request
+callRequest c = requestOf (c .bytes)
 
-abbrev pub kindIn : Call → Kind
-kindIn c = kindOf (requestIn c .kind)
+abbrev pub callKind : Call → Kind
+callKind c = kindOf (callRequest c .kind)
 
 -- ---- what an accepted call does
 
@@ -141,8 +141,8 @@ abbrev pub phaseOf : Kind → ℕ
 phaseOf k = if k oneOf (schedule ∷ settle ∷ []) then 2 else 1
 
 -- the operator that a call weighs on: the calling account's, or the one whose guarantee is replaced
-abbrev pub weighsOn : Kind → Setup → Request → ℕ
-weighsOn k u q = if k oneOf (guarantee ∷ []) then q .operator else operatorOf u (q .account)
+abbrev pub exposedOperator : Kind → Setup → Request → ℕ
+exposedOperator k u q = if k oneOf (guarantee ∷ []) then q .operator else operatorOf u (q .account)
 
 -- 11 to 20; margins and exposure are judged on the book as it would be
 unfoldable pub stateChecks : Book → Kind → Request → List Check
@@ -156,14 +156,14 @@ stateChecks b k q =
     ∷ (k oneOf (withdraw ∷ []) && not (withdraws (b .part .rows) q) ⇒ NoSuchRow)
     ∷ (k oneOf (confirm ∷ []) && not (mirrors q (nth (b .part .rows) (confirmedNumber b q) noRow)) ⇒ NotMirrored)
     ∷ (when (k oneOf (register ∷ confirm ∷ [])) (brokenHour (b .setup) (next k b q .part .rows) (q .account)) ⇒↑ MarginBroken)
-    ∷ (k oneOf (register ∷ confirm ∷ guarantee ∷ []) && not (covered (b .setup) (next k b q .part) (weighsOn k (b .setup) q)) ⇒ Uncovered)
+    ∷ (k oneOf (register ∷ confirm ∷ guarantee ∷ []) && not (covered (b .setup) (next k b q .part) (exposedOperator k (b .setup) q)) ⇒ Uncovered)
     ∷ (k oneOf (schedule ∷ []) && leb mostSchedules (length (b .schedules)) ⇒ SchedulesFull)
     ∷ []
 
 -- every check, in rank
 unfoldable pub checks : Book → Call → List Check
 checks b c =
-    readChecks (c .bytes) ++ inputChecks b c (kindIn c) (requestIn c) ++ stateChecks b (kindIn c) (requestIn c)
+    readChecks (c .bytes) ++ inputChecks b c (callKind c) (callRequest c) ++ stateChecks b (callKind c) (callRequest c)
 
 -- what a call is refused for, if anything
 unfoldable pub refusal : Book → Call → Option Refusal
@@ -214,10 +214,10 @@ balancesAfter (some w) buffer = filled (balanceBytes (w .balances)) buffer
 unfoldable pub answer : Book → Call → Option Refusal → Answer Book
 answer b c (some r) = refusedOn r b c
 answer b c none =
-    let w = settles (kindIn c) b c in
+    let w = settles (callKind c) b c in
     record {
-      outcome = accepted (given (kindIn c) b (requestIn c));
-      book = next (kindIn c) b (requestIn c);
+      outcome = accepted (given (callKind c) b (callRequest c));
+      book = next (callKind c) b (callRequest c);
       results = resultsAfter w (c .results);
       balances = balancesAfter w (c .balances);
     }
@@ -229,7 +229,7 @@ step b c = answer b c (refusal b c)
 -- what the call works out, by what it is refused for
 unfoldable pub workedOut : Book → Call → Option Refusal → Option Settled
 workedOut b c (some r) = none
-workedOut b c none = settles (kindIn c) b c
+workedOut b c none = settles (callKind c) b c
 
 -- what an accepted settle worked out; any other call works out nothing
 unfoldable pub settlement : Book → Call → Option Settled

@@ -5,13 +5,13 @@ use Rattle.rules.specs.Basics.{total, anyPasses, every, find, indexOf, e
 use Rattle.rules.specs.Verdicts.{firstToApply}
 use Rattle.rules.specs.Opening.{accountEntry, priceIn, operatorIn, accountIn, pointIn, estimatesIn, operatorsIn, accountsIn, pointsIn, setupOf, guaranteesOf, badCounts, misshapen, operatorsOf, setupBytes, valuesOf, estimateValues, operatorValues, accountValues, pointValues, values, faultyOffset, setupRefusal, openRefusal, openOutcome, opened}
 use Rattle.rules.specs.Requests.{bits, mapOf, room, offset, fieldIn, requestOf, more, unreadable, readChecks, reading, fieldBytes, write, writeOutcome, written, inRange, faultyField, faultyBit, sameAccounts}
-use Rattle.rules.specs.Registration.{mark, closed, alike, confirms, withdraws, mirrors, moved, waiting, takes, keepsMargins, brokenHour, ofOperator, exposureOf, available, covered}
+use Rattle.rules.specs.Registration.{mark, closed, alike, confirms, withdraws, mirrors, moved, waiting, afterTrade, keepsMargins, brokenHour, ofOperator, exposureOf, available, covered}
 use Rattle.rules.specs.Settlement.{pricesIn, placed, insert, prioritised, used, judge, judged, settled, resultAt, results, ofRegistered, gained, lost, balances, injectionsWorth, withdrawalsWorth, registeredTotal, balanceBytes}
 use Rattle.rules.specs.Calls.{apply, given, inputChecks, stateChecks, checks, refusal, drawnUp, settles, answer, step, workedOut, settlement}
 use Rattle.rules.specs.Readings.{position, netReading, exposureReading}
 use Rattle.rules.specs.Lists.{runs, after, rowsRegistered, heard, endsNoBatch}
 use Rattle.rules.specs.Replay.{itemsWithin, items, callOf, numbered, answerLines, calls, day, replay, digits, decimal, signedDecimal, lineText, text}
-use Rattle.rules.specs.Ledger.{blank, newLedger, without, turn, feed, fed, fedAll, traded, ledgerNet, ledgerWaiting, ledgerHour, ledgerExposure, ledgerAvailable, ledgerSettled}
+use Rattle.rules.specs.Ledger.{blank, newLedger, without, pageAfter, feed, fed, fedAll, traded, ledgerNet, ledgerWaiting, ledgerHour, ledgerExposure, ledgerAvailable, ledgerSettled}
 
 unfoldable pub everything : Unit {0}
 unfolding number numberAt le signed flat pieces pack
@@ -21,12 +21,12 @@ unfolding number numberAt le signed flat pieces pack
     setupBytes valuesOf estimateValues operatorValues accountValues pointValues values faultyOffset setupRefusal openRefusal openOutcome opened
     bits mapOf room offset fieldIn requestOf more unreadable readChecks reading fieldBytes write writeOutcome written inRange
     faultyField faultyBit sameAccounts
-    mark closed alike confirms withdraws mirrors moved waiting takes keepsMargins brokenHour ofOperator exposureOf available covered
+    mark closed alike confirms withdraws mirrors moved waiting afterTrade keepsMargins brokenHour ofOperator exposureOf available covered
     pricesIn placed insert prioritised used judge judged settled resultAt results ofRegistered gained lost balances
     injectionsWorth withdrawalsWorth registeredTotal balanceBytes
     apply given inputChecks stateChecks checks refusal drawnUp settles answer step workedOut settlement
     position netReading exposureReading
     runs after rowsRegistered heard endsNoBatch
     itemsWithin items callOf numbered answerLines calls day replay digits decimal signedDecimal lineText text
-    blank newLedger without turn feed fed fedAll traded ledgerNet ledgerWaiting ledgerHour ledgerExposure ledgerAvailable ledgerSettled
+    blank newLedger without pageAfter feed fed fedAll traded ledgerNet ledgerWaiting ledgerHour ledgerExposure ledgerAvailable ledgerSettled
 everything = tt

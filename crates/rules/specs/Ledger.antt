@@ -17,7 +17,7 @@ use Rattle.rules.specs.Limits.{thousand}
 use Rattle.rules.specs.Books.{Setup, estimateAt, guaranteeAt, maintenanceAt}
 use Rattle.rules.specs.Opening.{setupOf, guaranteesOf}
 use Rattle.rules.specs.Requests.{Kind, register, confirm, withdraw, guarantee, openBatch, undo, keep, closeGate, schedule, settle, kindOf, requestOf}
-use Rattle.rules.specs.Registration.{proposed, alike, counted, covers, exposureOf}
+use Rattle.rules.specs.Registration.{proposed, alike, counted, includesHour, exposureOf}
 use Rattle.rules.specs.Settlement.{Judged, settled}
 use Rattle.rules.specs.Lists.{heard}
 use Rattle.rules.specs.Calls.{Call, Answer, _oneOf_, scheduled}
@@ -101,25 +101,25 @@ entered p r = pageNext (pagePending p (p .pending ++ record { number = p .nextNu
 -- an accepted record on a page, with the copy beside it: register adds a pending row with the next number; confirm ends the pending
 -- row with its code and its accounts exchanged, and adds its trade; withdraw ends the row of its number, close all pending;
 -- guarantee replaces the old one; undo puts the copy back; schedule adds itself
-unfoldable pub turn : Kind → Request → Page → Page → Page
-turn register q copy p = entered p (proposed q)
-turn confirm q copy p =
+unfoldable pub pageAfter : Kind → Request → Page → Page → Page
+pageAfter register q copy p = entered p (proposed q)
+pageAfter confirm q copy p =
     pageTrades (pagePending p (without (λ e. alike (q .other) (q .account) (q .code) (e .row)) (p .pending))) (p .trades ++ tradeOf q ∷ [])
-turn withdraw q copy p = pagePending p (without (λ e. eqb (e .number) (q .number)) (p .pending))
-turn guarantee q copy p = pageGuarantees p (put (p .guarantees) (q .operator) (q .guarantee))
-turn openBatch q copy p = p
-turn undo q copy p = copy
-turn keep q copy p = p
-turn closeGate q copy p = pagePending p []
-turn schedule q copy p = pageSchedules p (p .schedules ++ scheduled q ∷ [])
-turn settle q copy p = p
+pageAfter withdraw q copy p = pagePending p (without (λ e. eqb (e .number) (q .number)) (p .pending))
+pageAfter guarantee q copy p = pageGuarantees p (put (p .guarantees) (q .operator) (q .guarantee))
+pageAfter openBatch q copy p = p
+pageAfter undo q copy p = copy
+pageAfter keep q copy p = p
+pageAfter closeGate q copy p = pagePending p []
+pageAfter schedule q copy p = pageSchedules p (p .schedules ++ scheduled q ∷ [])
+pageAfter settle q copy p = p
 
 -- an accepted record on the ledger; open copies the whole page, next number too
 unfoldable pub feed : Kind → Request → Ledger → Ledger
 feed k q l =
     record {
       setup = l .setup;
-      page = turn k q (l .copy) (l .page);
+      page = pageAfter k q (l .copy) (l .page);
       copy = if k oneOf (openBatch ∷ []) then l .page else l .copy;
     }
 
@@ -156,7 +156,7 @@ ledgerNet l a h =
 -- the account's own pending rows of a side
 unfoldable pub ledgerWaiting : ℕ → Ledger → ℕ → ℕ → ℕ
 ledgerWaiting side l a h =
-    total (λ e. counted (λ r. covers h r && eqb (r .proposer) a && eqb (r .side) side) (e .row)) (l .page .pending)
+    total (λ e. counted (λ r. includesHour h r && eqb (r .proposer) a && eqb (r .side) side) (e .row)) (l .page .pending)
 
 unfoldable pub ledgerHour : Ledger → ℕ → ℕ → AccountHour
 ledgerHour l a h =

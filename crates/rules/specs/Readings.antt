@@ -38,14 +38,14 @@ netChecks b a h =
 
 abbrev pub netReadingOf : Option Refusal → Position → NetReading
 netReadingOf (some r) p = NetReading.Unread r
-netReadingOf none p = NetReading.Stands p
+netReadingOf none p = NetReading.Read p
 
 unfoldable pub netReading : Book → ℕ → ℕ → NetReading
 netReading b a h = netReadingOf (firstToApply (netChecks b a h)) (position (netOf (b .part .rows) a h))
 
 -- in the paper's numbers: its verdict, and the signed figure in kWh
 abbrev pub netReadOut : NetReading → ReadOut ℤ
-netReadOut (NetReading.Stands p) = readOut (positionFigure p)
+netReadOut (NetReading.Read p) = readOut (positionFigure p)
 netReadOut (NetReading.Unread r) = notRead r
 
 -- 6 with bit 9, the operator
@@ -54,12 +54,12 @@ exposureChecks b o = (not (within 1 o (operatorCount (b .setup))) ⇒ OutOfRange
 
 abbrev pub exposureReadingOf : Option Refusal → ℕ → ExposureReading
 exposureReadingOf (some r) e = ExposureReading.Unread r
-exposureReadingOf none e = ExposureReading.Stands (milliCents e)
+exposureReadingOf none e = ExposureReading.Read (milliCents e)
 
 unfoldable pub exposureReading : Book → ℕ → ExposureReading
 exposureReading b o = exposureReadingOf (firstToApply (exposureChecks b o)) (exposure (b .setup) (b .part .rows) o)
 
 -- in the paper's numbers: its verdict, and the money in thousandths of a cent
 abbrev pub exposureReadOut : ExposureReading → ReadOut MilliCents
-exposureReadOut (ExposureReading.Stands m) = readOut m
+exposureReadOut (ExposureReading.Read m) = readOut m
 exposureReadOut (ExposureReading.Unread r) = notRead r

@@ -33,8 +33,8 @@ abbrev pub buyer : Row → ℕ
 buyer r = if eqb (r .side) 1 then r .counterparty else r .proposer
 
 -- the row is for that hour
-abbrev pub covers : ℕ → Row → Bool
-covers h r = within (r .first) h (r .last)
+abbrev pub includesHour : ℕ → Row → Bool
+includesHour h r = within (r .first) h (r .last)
 
 abbrev pub withStatus : ℕ → Row → Row
 withStatus status r =
@@ -102,7 +102,7 @@ counted p r = if p r then r .quantity .0 else 0
 
 -- what confirmed rows move in the hour, of which the account is that party
 unfoldable pub moved : (Row → ℕ) → List Row → ℕ → ℕ → ℕ
-moved party rows a h = total (counted (λ r. confirmed r && covers h r && eqb (party r) a)) rows
+moved party rows a h = total (counted (λ r. confirmed r && includesHour h r && eqb (party r) a)) rows
 
 abbrev pub bought : List Row → ℕ → ℕ → ℕ
 bought rows a h = moved buyer rows a h
@@ -112,7 +112,7 @@ sold rows a h = moved seller rows a h
 
 -- the account's own pending rows of a side; pending rows weigh on the proposer only
 unfoldable pub waiting : ℕ → List Row → ℕ → ℕ → ℕ
-waiting side rows a h = total (counted (λ r. pending r && covers h r && eqb (r .proposer) a && eqb (r .side) side)) rows
+waiting side rows a h = total (counted (λ r. pending r && includesHour h r && eqb (r .proposer) a && eqb (r .side) side)) rows
 
 abbrev pub pendingSales : List Row → ℕ → ℕ → ℕ
 pendingSales rows a h = waiting 1 rows a h
@@ -128,21 +128,21 @@ accountHour rows a h =
     record { net = netOf rows a h; sales = kwh (pendingSales rows a h); purchases = kwh (pendingPurchases rows a h) }
 
 -- an account hour takes a trade, by its row, and yields the hour after it
-unfoldable pub takes : ℕ → ℕ → AccountHour → Row → AccountHour
-takes a h x r =
+unfoldable pub afterTrade : ℕ → ℕ → AccountHour → Row → AccountHour
+afterTrade a h x r =
     record {
       net = record {
-        bought = kwh (x .net .bought .0 + counted (λ r. confirmed r && covers h r && eqb (buyer r) a) r);
-        sold = kwh (x .net .sold .0 + counted (λ r. confirmed r && covers h r && eqb (seller r) a) r);
+        bought = kwh (x .net .bought .0 + counted (λ r. confirmed r && includesHour h r && eqb (buyer r) a) r);
+        sold = kwh (x .net .sold .0 + counted (λ r. confirmed r && includesHour h r && eqb (seller r) a) r);
       };
-      sales = kwh (x .sales .0 + counted (λ r. pending r && covers h r && eqb (r .proposer) a && eqb (r .side) 1) r);
-      purchases = kwh (x .purchases .0 + counted (λ r. pending r && covers h r && eqb (r .proposer) a && eqb (r .side) 2) r);
+      sales = kwh (x .sales .0 + counted (λ r. pending r && includesHour h r && eqb (r .proposer) a && eqb (r .side) 1) r);
+      purchases = kwh (x .purchases .0 + counted (λ r. pending r && includesHour h r && eqb (r .proposer) a && eqb (r .side) 2) r);
     }
 
 -- it takes trades one after the other
-abbrev pub takesAll : ℕ → ℕ → AccountHour → List Row → AccountHour
-takesAll a h x [] = x
-takesAll a h x (r ∷ rs) = takesAll a h (takes a h x r) rs
+abbrev pub afterTrades : ℕ → ℕ → AccountHour → List Row → AccountHour
+afterTrades a h x [] = x
+afterTrades a h x (r ∷ rs) = afterTrades a h (afterTrade a h x r) rs
 
 -- ---- the paper's signed figures: purchases count plus, sales minus
 
@@ -171,7 +171,7 @@ brokenHour u rows a = find (λ h. not (keepsMargins (marginsAt u a h) (accountHo
 -- the same once the account took rows that are to be added
 unfoldable pub brokenBy : Setup → List Row → List Row → ℕ → Option ℕ
 brokenBy u rows added a =
-    find (λ h. not (keepsMargins (marginsAt u a h) (takesAll a h (accountHour rows a h) added))) (upTo (periods u))
+    find (λ h. not (keepsMargins (marginsAt u a h) (afterTrades a h (accountHour rows a h) added))) (upTo (periods u))
 
 -- ---- exposure and what is available, in thousandths of a cent
 
@@ -193,7 +193,7 @@ exposure u rows o = exposureOf u (estimateAt u) (accountHour rows) o
 
 -- the same once the accounts took rows that are to be added
 abbrev pub exposureWith : Setup → List Row → List Row → ℕ → ℕ
-exposureWith u rows added o = exposureOf u (estimateAt u) (λ a h. takesAll a h (accountHour rows a h) added) o
+exposureWith u rows added o = exposureOf u (estimateAt u) (λ a h. afterTrades a h (accountHour rows a h) added) o
 
 -- guarantee times (1000 - m)
 unfoldable pub available : Setup → Part → ℕ → ℕ

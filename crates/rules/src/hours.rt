@@ -4,7 +4,7 @@ ghost use mathlib.Core.Bool.{_&&_};
 ghost use Prim.Native.Nat.{_+_, _-_, _^_, _≤_, _<_};
 ghost use lib.Dec.{eqb};
 ghost use Rattle.rules.specs.Basics.{if_then_else_};
-ghost use Rattle.rules.specs.Registration.{confirmed, pending, buyer, seller, covers, counted, takes, keepsMargins};
+ghost use Rattle.rules.specs.Registration.{confirmed, pending, buyer, seller, includesHour, counted, afterTrade, keepsMargins};
 use crate::AccountHour;
 use crate::Margins;
 use crate::Net;
@@ -27,7 +27,7 @@ fn part(on: bool, quantity: Kwh) -> Kwh
 
 // What a confirmed row moves in the hour, where that party of it is the account.
 fn moved(r: Row, party: u8, account: u8, hour: u8) -> Kwh
-    ensures { λ q. ⌜ (q .0 ≡ (if confirmed r && covers hour r && eqb party account then r .quantity .0 else 0)) × (q .0 ≤ r .quantity .0) ⌝ }
+    ensures { λ q. ⌜ (q .0 ≡ (if confirmed r && includesHour hour r && eqb party account then r .quantity .0 else 0)) × (q .0 ≤ r .quantity .0) ⌝ }
 {
     part(
         (r.status == 2) & ((r.first <= hour) & (hour <= r.last)) & (party == account),
@@ -37,7 +37,7 @@ fn moved(r: Row, party: u8, account: u8, hour: u8) -> Kwh
 
 // What a pending row of the account's own waits with in the hour, where it is of that side.
 fn waiting(r: Row, account: u8, hour: u8, side: u8) -> Kwh
-    ensures { λ q. ⌜ (q .0 ≡ (if pending r && covers hour r && eqb (r .proposer) account && eqb (r .side) side then r .quantity .0 else 0)) × (q .0 ≤ r .quantity .0) ⌝ }
+    ensures { λ q. ⌜ (q .0 ≡ (if pending r && includesHour hour r && eqb (r .proposer) account && eqb (r .side) side then r .quantity .0 else 0)) × (q .0 ≤ r .quantity .0) ⌝ }
 {
     part(
         (r.status == 1)
@@ -51,7 +51,7 @@ fn waiting(r: Row, account: u8, hour: u8, side: u8) -> Kwh
 // A net position after the trade.
 fn moved_net(net: Net, trade: Row, account: u8, hour: u8) -> Net
     requires { ⌜ (net .bought .0 + trade .quantity .0 < 2 ^ 32) × (net .sold .0 + trade .quantity .0 < 2 ^ 32) ⌝ }
-    ensures { λ r. ⌜ (r .bought .0 ≡ net .bought .0 + counted (λ r. confirmed r && covers hour r && eqb (buyer r) account) trade) × (r .sold .0 ≡ net .sold .0 + counted (λ r. confirmed r && covers hour r && eqb (seller r) account) trade) ⌝ }
+    ensures { λ r. ⌜ (r .bought .0 ≡ net .bought .0 + counted (λ r. confirmed r && includesHour hour r && eqb (buyer r) account) trade) × (r .sold .0 ≡ net .sold .0 + counted (λ r. confirmed r && includesHour hour r && eqb (seller r) account) trade) ⌝ }
 {
     let buyer = pick(trade.side == 1, trade.counterparty, trade.proposer);
     let seller = pick(trade.side == 1, trade.proposer, trade.counterparty);
@@ -65,9 +65,9 @@ fn moved_net(net: Net, trade: Row, account: u8, hour: u8) -> Net
 
 impl AccountHour {
     // The hour after the trade.
-    pub fn take(self, trade: Row, account: u8, hour: u8) -> AccountHour
+    pub fn after_trade(self, trade: Row, account: u8, hour: u8) -> AccountHour
         requires { ⌜ (self .net .bought .0 + trade .quantity .0 < 2 ^ 32) × (self .net .sold .0 + trade .quantity .0 < 2 ^ 32) × (self .sales .0 + trade .quantity .0 < 2 ^ 32) × (self .purchases .0 + trade .quantity .0 < 2 ^ 32) ⌝ }
-        ensures { λ r. ⌜ r ≡ takes account hour self trade ⌝ }
+        ensures { λ r. ⌜ r ≡ afterTrade account hour self trade ⌝ }
     {
         let net = moved_net(self.net, trade, account, hour);
         let sales = waiting(trade, account, hour, 1);

@@ -172,12 +172,12 @@ pub enum Reading {
 
 // The reading of a net position.
 pub enum NetReading {
-    Stands(Position),
+    Read(Position),
     Unread(Refusal),
 }
 
 // The reading of an exposure.
 pub enum ExposureReading {
-    Stands(MilliCents),
+    Read(MilliCents),
     Unread(Refusal),
 }

@@ -20,7 +20,7 @@ use Rattle.rules.specs.Settlement.{placed, insert, prioritised}
 use Rattle.rules.proofs.Basics.Searches.{each-at, each-map}
 use Rattle.rules.proofs.Settling.PriorityLaws.{insert-cases}
 use Rattle.priority.specs.Order.{noPlaced}
-use Rattle.image.specs.Layout.{scheduleWidth, schedulesAt}
+use Rattle.image.specs.Layout.{scheduleWidth, schedulesOffset}
 use Rattle.image.specs.Image.{scheduleBytes, scheduleIn}
 use Rattle.image.specs.Valid.{isBook, bookIn}
 use Rattle.image.proofs.Reading.ImageReads.{schedule-read}
@@ -31,7 +31,7 @@ use Rattle.settlement.specs.Judging.{nonePlaced}
 -- ---- read one after the other
 
 -- a schedule of a book stands in its 11 bytes
-pub schedule-stands : (s : List ℕ) (h : isBook s ≡ true) (i at : ℕ) (d : Schedule) → i < length (bookIn s .schedules) → at ≡ schedulesAt + scheduleWidth * i
+pub schedule-stands : (s : List ℕ) (h : isBook s ≡ true) (i at : ℕ) (d : Schedule) → i < length (bookIn s .schedules) → at ≡ schedulesOffset + scheduleWidth * i
     → scheduleIn (take scheduleWidth (drop at s)) ≡ getD (bookIn s .schedules) i d
 schedule-stands s h i at d l e =
     let b : Book = bookIn s in

@@ -11,7 +11,7 @@ ghost use Rattle.valuation.specs.Tables.{Priced, setupIn, usedCells};
 ghost use Rattle.valuation.specs.Balances.{credited, Creditable};
 ghost use Rattle.settlement.specs.Judging.{InPlace, nonePlaced, noResults, InOrder, NoneJudged, TablesIn, BeforeIn, judgedNext, settledIn, DrawnUp};
 use image::layout::SCHEDULE_WIDTH;
-use image::layout::SCHEDULES_AT;
+use image::layout::SCHEDULES_OFFSET;
 use image::schedules::schedule_at;
 use priority::order::in_order;
 use rules::Balance;
@@ -53,7 +53,7 @@ fn placed_in(book: &[u8], n: usize) -> [Placed; MOST_SCHEDULES]
     let mut all = none_placed();
     let mut k = 0;
     while k < n {
-        let schedule = schedule_at(book, SCHEDULES_AT + SCHEDULE_WIDTH * k);
+        let schedule = schedule_at(book, SCHEDULES_OFFSET + SCHEDULE_WIDTH * k);
         let place = k as u16 + 1;
         all[k] = Placed { place, schedule };
         k = k + 1;

@@ -16,7 +16,7 @@ use Rattle.rules.specs.Verdicts.{_⇒_, _⇒↑_, firstToApply, checked}
 use Rattle.rules.specs.Opening.{countsIn, Value, valuesOf, values, misshapen, faultyOffset, setupOf, setupRefusal, operatorsIn}
 use Rattle.rules.proofs.Setups.SetupShape.{shape-of, shape-length}
 use Rattle.rules.proofs.Setups.SetupEntries.{length-operators, length-accounts, length-points, values-done, values-step}
-use Rattle.setup.specs.Faults.{orElse, orFault, judgedFrom, judged, estimateFaults, operatorFaults, accountFaults, pointFaults, Shaped}
+use Rattle.setup.specs.Faults.{orElse, orFault, firstFaultFrom, firstFault, estimateFaults, operatorFaults, accountFaults, pointFaults, Shaped}
 
 -- ---- one value
 
@@ -34,40 +34,40 @@ out-of-range (Fails r) at e h = h
 -- ---- in parts
 
 -- what failed stays
-pub judged-fails : (r : Refusal) (vs : List Value) → judgedFrom (Fails r) vs ≡ Fails r
-unfolding judgedFrom orFault
+pub judged-fails : (r : Refusal) (vs : List Value) → firstFaultFrom (Fails r) vs ≡ Fails r
+unfolding firstFaultFrom orFault
 judged-fails r [] = refl
 judged-fails r (v ∷ vs) = judged-fails r vs
 
-pub judged-append-from : (found : Checked) (vs ws : List Value) → judgedFrom found (vs ++ ws) ≡ judgedFrom (judgedFrom found vs) ws
-unfolding judgedFrom
+pub judged-append-from : (found : Checked) (vs ws : List Value) → firstFaultFrom found (vs ++ ws) ≡ firstFaultFrom (firstFaultFrom found vs) ws
+unfolding firstFaultFrom
 judged-append-from found [] ws = refl
 judged-append-from found (v ∷ vs) ws = judged-append-from (orFault found v) vs ws
 
-judged-from : (found : Checked) (vs : List Value) → judgedFrom found vs ≡ orElse found (judged vs)
+judged-from : (found : Checked) (vs : List Value) → firstFaultFrom found vs ≡ orElse found (firstFault vs)
 unfolding orElse
 judged-from Clear vs = refl
 judged-from (Fails r) vs = judged-fails r vs
 
-pub judged-append : (vs ws : List Value) → judged (vs ++ ws) ≡ orElse (judged vs) (judged ws)
-judged-append vs ws = judged-append-from Clear vs ws ∙ judged-from (judged vs) ws
+pub judged-append : (vs ws : List Value) → firstFault (vs ++ ws) ≡ orElse (firstFault vs) (firstFault ws)
+judged-append vs ws = judged-append-from Clear vs ws ∙ judged-from (firstFault vs) ws
 
 -- ---- entry by entry: `whole` is what all of the entries come to
 
 module _ {A : Type 0} (w : ℕ) (read : List ℕ → A) (say : ℕ → A → List Value) (at : ℕ) (s : List ℕ) (n : ℕ) {whole : Checked}
-    (left : judged (valuesOf w say at (entries w read n (drop at s))) ≡ whole) where
+    (left : firstFault (valuesOf w say at (entries w read n (drop at s))) ≡ whole) where
   -- no entry is left
   pub none-left : n ≤ 0 → Clear ≡ whole
-  unfolding judgedFrom
+  unfolding firstFaultFrom
   none-left h = rw (values-done w read say at n (drop at s) h) at left
 
   -- the first that is left has no fault
-  pub first-clear : (m : ℕ) {x : A} {f : Checked} → n ≡ m + 1 → x ≡ read (take w (drop at s)) → f ≡ judged (say at x) → f ≡ Clear
-      → judged (valuesOf w say (at + w) (entries w read m (drop (at + w) s))) ≡ whole
+  pub first-clear : (m : ℕ) {x : A} {f : Checked} → n ≡ m + 1 → x ≡ read (take w (drop at s)) → f ≡ firstFault (say at x) → f ≡ Clear
+      → firstFault (valuesOf w say (at + w) (entries w read m (drop (at + w) s))) ≡ whole
   first-clear m e x f c = rw (values-step w read say at n m s e, judged-append-from, ← x, ← f, c) at left
 
   -- it has one
-  pub first-fails : (m : ℕ) {x : A} {f : Checked} {r : Refusal} → n ≡ m + 1 → x ≡ read (take w (drop at s)) → f ≡ judged (say at x) → f ≡ Fails r
+  pub first-fails : (m : ℕ) {x : A} {f : Checked} {r : Refusal} → n ≡ m + 1 → x ≡ read (take w (drop at s)) → f ≡ firstFault (say at x) → f ≡ Fails r
       → Fails r ≡ whole
   first-fails m {r = r} e x f c = sym (judged-fails r _) ∙ (rw (values-step w read say at n m s e, judged-append-from, ← x, ← f, c) at left)
 
@@ -79,8 +79,8 @@ at-counts F from e a = rw (a, e)
 
 -- the first value that is out of range, as `rules` finds it
 pub judged-is-found : (vs : List Value)
-    → checked (firstToApply ((Option·map (λ v. v .0) (find (λ v. not (v .1)) vs) ⇒↑ SetupValue) ∷ [])) ≡ judged vs
-unfolding firstToApply find judgedFrom orFault
+    → checked (firstToApply ((Option·map (λ v. v .0) (find (λ v. not (v .1)) vs) ⇒↑ SetupValue) ∷ [])) ≡ firstFault vs
+unfolding firstToApply find firstFaultFrom orFault
 judged-is-found [] = refl
 judged-is-found ((at, true) ∷ vs) = judged-is-found vs
 judged-is-found ((at, false) ∷ vs) = sym (judged-fails (SetupValue at) vs)
@@ -88,7 +88,7 @@ judged-is-found ((at, false) ∷ vs) = sym (judged-fails (SetupValue at) vs)
 module _ (s : List ℕ) where
   -- the values of a set-up are those of its four lists
   pub list-by-list : orElse (orElse (orElse (estimateFaults s) (operatorFaults s)) (accountFaults s)) (pointFaults s)
-      ≡ judged (values (setupOf s) (operatorsIn s))
+      ≡ firstFault (values (setupOf s) (operatorsIn s))
   unfolding values setupOf estimateFaults operatorFaults accountFaults pointFaults
   list-by-list = sym (simp (judged-append, length-map, length-operators, length-accounts, length-points))
 
@@ -102,6 +102,6 @@ module _ (s : List ℕ) where
   unfolding setupRefusal firstToApply
   refused-shape e = rw e
 
-  pub refused-value : misshapen s ≡ false → checked (setupRefusal s) ≡ judged (values (setupOf s) (operatorsIn s))
+  pub refused-value : misshapen s ≡ false → checked (setupRefusal s) ≡ firstFault (values (setupOf s) (operatorsIn s))
   unfolding setupRefusal firstToApply faultyOffset
   refused-value e = rw e (judged-is-found (values (setupOf s) (operatorsIn s)))

@@ -14,7 +14,7 @@ use Rattle.rules.specs.declared.Checked.the-variants.{Clear, Fails}
 use Rattle.rules.specs.declared.Refusal.the-variants.{SetupValue}
 use Rattle.rules.specs.Basics.{if_then_else_}
 use Rattle.rules.specs.Limits.{mostEnergy}
-use Rattle.rules.specs.Opening.{Value, valuesOf, estimateValues, operatorValues, accountValues, pointValues, countsIn, setupLength, estimatesFrom, operatorsFrom, accountsFrom, pointsFrom, estimatesIn, operatorsIn, accountsIn, pointsIn, priceWidth, operatorEntry, accountEntry, pointEntry}
+use Rattle.rules.specs.Opening.{Value, valuesOf, estimateValues, operatorValues, accountValues, pointValues, countsIn, setupLength, estimatesOffset, operatorsOffset, accountsOffset, pointsOffset, estimatesIn, operatorsIn, accountsIn, pointsIn, priceWidth, operatorEntry, accountEntry, pointEntry}
 
 -- ---- faults
 
@@ -29,27 +29,27 @@ orFault Clear v = if v .1 then Clear else Fails (SetupValue (v .0))
 orFault (Fails r) v = Fails r
 
 -- what was found so far, or the first value that is out of range
-unfoldable pub judgedFrom : Checked → List Value → Checked
-judgedFrom found [] = found
-judgedFrom found (v ∷ vs) = judgedFrom (orFault found v) vs
+unfoldable pub firstFaultFrom : Checked → List Value → Checked
+firstFaultFrom found [] = found
+firstFaultFrom found (v ∷ vs) = firstFaultFrom (orFault found v) vs
 
 -- the first value that is out of range
-abbrev pub judged : List Value → Checked
-judged vs = judgedFrom Clear vs
+abbrev pub firstFault : List Value → Checked
+firstFault vs = firstFaultFrom Clear vs
 
 -- the first fault among the estimates, the operators, the accounts and the points of set-up bytes
 unfoldable pub estimateFaults : List ℕ → Checked
-estimateFaults s = judged (valuesOf priceWidth estimateValues estimatesFrom (estimatesIn s))
+estimateFaults s = firstFault (valuesOf priceWidth estimateValues estimatesOffset (estimatesIn s))
 
 unfoldable pub operatorFaults : List ℕ → Checked
-operatorFaults s = judged (valuesOf operatorEntry operatorValues (operatorsFrom (countsIn s)) (operatorsIn s))
+operatorFaults s = firstFault (valuesOf operatorEntry operatorValues (operatorsOffset (countsIn s)) (operatorsIn s))
 
 unfoldable pub accountFaults : List ℕ → Checked
 accountFaults s =
-    judged (valuesOf (accountEntry (countsIn s)) (accountValues (countsIn s .operators)) (accountsFrom (countsIn s)) (accountsIn s))
+    firstFault (valuesOf (accountEntry (countsIn s)) (accountValues (countsIn s .operators)) (accountsOffset (countsIn s)) (accountsIn s))
 
 unfoldable pub pointFaults : List ℕ → Checked
-pointFaults s = judged (valuesOf pointEntry (pointValues (accountsIn s) (countsIn s .zones)) (pointsFrom (countsIn s)) (pointsIn s))
+pointFaults s = firstFault (valuesOf pointEntry (pointValues (accountsIn s) (countsIn s .zones)) (pointsOffset (countsIn s)) (pointsIn s))
 
 -- a point's greatest amount in a direction that its kind has, or has not
 abbrev pub mostAmount : Bool → ℕ

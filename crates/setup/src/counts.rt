@@ -2,7 +2,7 @@
 ghost use mathlib.Core.Path.{_≡_};
 ghost use Prim.Native.Nat.{_*_, _^_, _≤_};
 ghost use lib.ListN.{length};
-ghost use Rattle.rules.specs.Opening.{countsIn, operatorsFrom, accountsFrom, accountFrom, pointsFrom, setupLength, countsWidth, accountEntry};
+ghost use Rattle.rules.specs.Opening.{countsIn, operatorsOffset, accountsOffset, accountOffset, pointsOffset, setupLength, countsWidth, accountEntry};
 use rules::Counts;
 
 // How many bytes the counts and each entry have.
@@ -19,9 +19,9 @@ pub const POINT_ENTRY: usize = 11;
 pub const MARGIN_WIDTH: usize = 4;
 
 // Where an account's margins stand in its entry, past its operator and its kind.
-pub const LOWER_IN: usize = 2;
+pub const LOWER_OFFSET: usize = 2;
 
-pub const UPPER_IN: usize = LOWER_IN + MARGIN_WIDTH;
+pub const UPPER_OFFSET: usize = LOWER_OFFSET + MARGIN_WIDTH;
 
 // The counts in the first bytes.
 pub fn counts(setup: &[u8]) -> Counts
@@ -41,7 +41,7 @@ pub fn counts(setup: &[u8]) -> Counts
 pub fn account_entry(n: Counts) -> usize
     ensures { λ r. ⌜ (r ≡ accountEntry n) × (r ≤ 2 ^ 12) ⌝ }
 {
-    UPPER_IN + MARGIN_WIDTH
+    UPPER_OFFSET + MARGIN_WIDTH
 }
 
 // How many bytes so many accounts have, in a set-up of these counts.
@@ -52,37 +52,37 @@ fn accounts_length(n: Counts, count: u8) -> usize
 }
 
 // Where the operators begin.
-pub fn operators_from(n: Counts) -> usize
-    ensures { λ r. ⌜ r ≡ operatorsFrom n ⌝ }
+pub fn operators_offset(n: Counts) -> usize
+    ensures { λ r. ⌜ r ≡ operatorsOffset n ⌝ }
 {
     COUNTS_WIDTH + PRICE_WIDTH * (n.hours as usize)
 }
 
 // Where the accounts begin.
-pub fn accounts_from(n: Counts) -> usize
-    ensures { λ r. ⌜ r ≡ accountsFrom n ⌝ }
+pub fn accounts_offset(n: Counts) -> usize
+    ensures { λ r. ⌜ r ≡ accountsOffset n ⌝ }
 {
     COUNTS_WIDTH + PRICE_WIDTH * (n.hours as usize) + OPERATOR_ENTRY * (n.operators as usize)
 }
 
 // Where the entry of an account begins, by its number from 1.
-pub fn account_from(n: Counts, number: u8) -> usize
+pub fn account_offset(n: Counts, number: u8) -> usize
     requires { ⌜ 1 ≤ number ⌝ }
-    ensures { λ r. ⌜ r ≡ accountFrom n number ⌝ }
+    ensures { λ r. ⌜ r ≡ accountOffset n number ⌝ }
 {
-    accounts_from(n) + accounts_length(n, number - 1)
+    accounts_offset(n) + accounts_length(n, number - 1)
 }
 
 // Where the points begin.
-pub fn points_from(n: Counts) -> usize
-    ensures { λ r. ⌜ (r ≡ pointsFrom n) × (r ≤ 2 ^ 21) ⌝ }
+pub fn points_offset(n: Counts) -> usize
+    ensures { λ r. ⌜ (r ≡ pointsOffset n) × (r ≤ 2 ^ 21) ⌝ }
 {
-    accounts_from(n) + accounts_length(n, n.accounts)
+    accounts_offset(n) + accounts_length(n, n.accounts)
 }
 
 // The length of a set-up of these counts: where its entries end.
 pub fn length_of(n: Counts) -> usize
     ensures { λ r. ⌜ r ≡ setupLength n ⌝ }
 {
-    points_from(n) + POINT_ENTRY * (n.points as usize)
+    points_offset(n) + POINT_ENTRY * (n.points as usize)
 }

@@ -9,15 +9,15 @@ ghost use Rattle.rules.specs.Opening.{countsIn, priceIn, operatorIn, accountIn,
 ghost use Rattle.setup.specs.Faults.{Whole, noOperator};
 use crate::counts::COUNTS_WIDTH;
 use crate::counts::GUARANTEE_WIDTH;
-use crate::counts::LOWER_IN;
+use crate::counts::LOWER_OFFSET;
 use crate::counts::OPERATOR_ENTRY;
 use crate::counts::POINT_ENTRY;
 use crate::counts::PRICE_WIDTH;
-use crate::counts::UPPER_IN;
-use crate::counts::account_from;
+use crate::counts::UPPER_OFFSET;
+use crate::counts::account_offset;
 use crate::counts::counts;
-use crate::counts::operators_from;
-use crate::counts::points_from;
+use crate::counts::operators_offset;
+use crate::counts::points_offset;
 use rules::Account;
 use rules::Counts;
 use rules::Margins;
@@ -58,8 +58,8 @@ pub fn account_at(bytes: &[u8], n: Counts, at: usize) -> Account
     Account {
         operator: get_u8(bytes, at),
         kind: get_u8(bytes, at + 1),
-        lower: Kwh(get_u32(bytes, at + LOWER_IN)),
-        upper: Kwh(get_u32(bytes, at + UPPER_IN)),
+        lower: Kwh(get_u32(bytes, at + LOWER_OFFSET)),
+        upper: Kwh(get_u32(bytes, at + UPPER_OFFSET)),
     }
 }
 
@@ -90,7 +90,7 @@ pub fn operator(setup: &[u8], number: u8) -> Operator
     requires { ⌜ Whole (now setup) × (1 ≤ number) × (number ≤ countsIn (now setup) .operators) ⌝ }
     ensures { λ r. ⌜ r ≡ nth (operatorsIn (now (setup .entry))) number noOperator ⌝ }
 {
-    let from = operators_from(counts(setup));
+    let from = operators_offset(counts(setup));
     operator_at(setup, from + OPERATOR_ENTRY * (number as usize - 1))
 }
 
@@ -100,7 +100,7 @@ pub fn account(setup: &[u8], number: u8) -> Account
     ensures { λ r. ⌜ r ≡ nth (accountsIn (now (setup .entry))) number noAccount ⌝ }
 {
     let n = counts(setup);
-    account_at(setup, n, account_from(n, number))
+    account_at(setup, n, account_offset(n, number))
 }
 
 // The margins of the account of a number, from 1.
@@ -119,6 +119,6 @@ pub fn point(setup: &[u8], number: u8) -> Point
     requires { ⌜ Whole (now setup) × (1 ≤ number) × (number ≤ countsIn (now setup) .points) ⌝ }
     ensures { λ r. ⌜ r ≡ nth (pointsIn (now (setup .entry))) number noPoint ⌝ }
 {
-    let from = points_from(counts(setup));
+    let from = points_offset(counts(setup));
     point_at(setup, from + POINT_ENTRY * (number as usize - 1))
 }

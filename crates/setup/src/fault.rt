@@ -2,16 +2,16 @@
 ghost use mathlib.Core.Path.{_≡_};
 ghost use Rattle.rules.specs.Verdicts.{checked};
 ghost use Rattle.rules.specs.Opening.{operatorsIn, values, setupOf, setupRefusal};
-ghost use Rattle.setup.specs.Faults.{judged, estimateFaults, operatorFaults, accountFaults, pointFaults, Shaped};
+ghost use Rattle.setup.specs.Faults.{firstFault, estimateFaults, operatorFaults, accountFaults, pointFaults, Shaped};
 use crate::counts::COUNTS_WIDTH;
 use crate::counts::OPERATOR_ENTRY;
 use crate::counts::POINT_ENTRY;
 use crate::counts::PRICE_WIDTH;
 use crate::counts::account_entry;
-use crate::counts::accounts_from;
+use crate::counts::accounts_offset;
 use crate::counts::counts;
-use crate::counts::operators_from;
-use crate::counts::points_from;
+use crate::counts::operators_offset;
+use crate::counts::points_offset;
 use crate::entries::account_at;
 use crate::entries::operator_at;
 use crate::entries::point_at;
@@ -49,7 +49,7 @@ fn operator_faults(setup: &[u8], n: Counts) -> Checked
     requires { ⌜ Shaped n (now setup) ⌝ }
     ensures { λ r. ⌜ r ≡ operatorFaults (now (setup .entry)) ⌝ }
 {
-    let mut at = operators_from(n);
+    let mut at = operators_offset(n);
     let mut left = n.operators;
     while 0 < left {
         let x = operator_at(setup, at);
@@ -68,7 +68,7 @@ fn account_faults(setup: &[u8], n: Counts) -> Checked
     ensures { λ r. ⌜ r ≡ accountFaults (now (setup .entry)) ⌝ }
 {
     let entry = account_entry(n);
-    let mut at = accounts_from(n);
+    let mut at = accounts_offset(n);
     let mut left = n.accounts;
     while 0 < left {
         let x = account_at(setup, n, at);
@@ -86,7 +86,7 @@ fn point_faults(setup: &[u8], n: Counts) -> Checked
     requires { ⌜ Shaped n (now setup) ⌝ }
     ensures { λ r. ⌜ r ≡ pointFaults (now (setup .entry)) ⌝ }
 {
-    let mut at = points_from(n);
+    let mut at = points_offset(n);
     let mut left = n.points;
     while 0 < left {
         let x = point_at(setup, at);
@@ -102,7 +102,7 @@ fn point_faults(setup: &[u8], n: Counts) -> Checked
 // The lowest offset of a value that is out of range.
 fn value_fault(setup: &[u8], n: Counts) -> Checked
     requires { ⌜ Shaped n (now setup) ⌝ }
-    ensures { λ r. ⌜ r ≡ judged (values (setupOf (now (setup .entry))) (operatorsIn (now (setup .entry)))) ⌝ }
+    ensures { λ r. ⌜ r ≡ firstFault (values (setupOf (now (setup .entry))) (operatorsIn (now (setup .entry)))) ⌝ }
 {
     let estimates = estimate_faults(setup, n);
     let operators = operator_faults(setup, n);

@@ -4,11 +4,11 @@ ghost use Prim.Native.Nat.{_+_, _≤_, _<_, _^_};
 ghost use Rattle.rules.specs.Basics.{nth};
 ghost use Rattle.rules.specs.Books.{noAccount};
 ghost use Rattle.rules.specs.Opening.{accountsIn, estimateValues, operatorValues, accountValues, pointValues, accountEntry, priceWidth, operatorEntry, pointEntry};
-ghost use Rattle.setup.specs.Faults.{orElse, orFault, judgedFrom, judged, mostAmount, amountValues, Shaped};
+ghost use Rattle.setup.specs.Faults.{orElse, orFault, firstFaultFrom, firstFault, mostAmount, amountValues, Shaped};
 use crate::counts::GUARANTEE_WIDTH;
-use crate::counts::LOWER_IN;
-use crate::counts::UPPER_IN;
-use crate::counts::account_from;
+use crate::counts::LOWER_OFFSET;
+use crate::counts::UPPER_OFFSET;
+use crate::counts::account_offset;
 use crate::entries::account_at;
 use rules::Account;
 use rules::Checked;
@@ -47,7 +47,7 @@ fn or_fault(found: Checked, fine: bool, at: usize) -> Checked
 // The fault of the price that stands at `at`.
 pub fn estimate_fault(x: CentsPerMwh, at: usize) -> Checked
     requires { ⌜ at + priceWidth ≤ 2 ^ 16 ⌝ }
-    ensures { λ r. ⌜ r ≡ judged (estimateValues at x) ⌝ }
+    ensures { λ r. ⌜ r ≡ firstFault (estimateValues at x) ⌝ }
 {
     or_fault(Checked::Clear, x.0 <= MOST_PRICE, at)
 }
@@ -55,7 +55,7 @@ pub fn estimate_fault(x: CentsPerMwh, at: usize) -> Checked
 // The first fault of the operator that stands at `at`.
 pub fn operator_fault(x: Operator, at: usize) -> Checked
     requires { ⌜ at + operatorEntry ≤ 2 ^ 16 ⌝ }
-    ensures { λ r. ⌜ r ≡ judged (operatorValues at x) ⌝ }
+    ensures { λ r. ⌜ r ≡ firstFault (operatorValues at x) ⌝ }
 {
     let guarantee = or_fault(Checked::Clear, x.guarantee.0 <= MOST_GUARANTEE, at);
     or_fault(guarantee, x.maintenance <= THOUSAND, at + GUARANTEE_WIDTH)
@@ -64,7 +64,7 @@ pub fn operator_fault(x: Operator, at: usize) -> Checked
 // The first fault of the account that stands at `at`, in a set-up of these counts.
 pub fn account_fault(x: Account, n: Counts, at: usize) -> Checked
     requires { ⌜ at + accountEntry n ≤ 2 ^ 16 ⌝ }
-    ensures { λ r. ⌜ r ≡ judged (accountValues (n .operators) at x) ⌝ }
+    ensures { λ r. ⌜ r ≡ firstFault (accountValues (n .operators) at x) ⌝ }
 {
     let operator = or_fault(
         Checked::Clear,
@@ -72,8 +72,8 @@ pub fn account_fault(x: Account, n: Counts, at: usize) -> Checked
         at,
     );
     let kind = or_fault(operator, (1 <= x.kind) & (x.kind <= 2), at + 1);
-    let lower = or_fault(kind, x.lower.0 <= MOST_ENERGY, at + LOWER_IN);
-    or_fault(lower, x.upper.0 <= MOST_ENERGY, at + UPPER_IN)
+    let lower = or_fault(kind, x.lower.0 <= MOST_ENERGY, at + LOWER_OFFSET);
+    or_fault(lower, x.upper.0 <= MOST_ENERGY, at + UPPER_OFFSET)
 }
 
 // The kind of the account of a number; 0 for a number that none has.
@@ -87,7 +87,7 @@ fn kind_of(setup: &[u8], n: Counts, number: u8) -> u8
     if n.accounts < number {
         return 0;
     }
-    let x = account_at(setup, n, account_from(n, number));
+    let x = account_at(setup, n, account_offset(n, number));
     x.kind
 }
 
@@ -101,7 +101,7 @@ fn most_amount(barred: bool) -> u32
 // What was found so far, or the fault of an amount of the point that stands at `at`: its kind may bar a direction.
 fn amounts_fault(found: Checked, x: Point, at: usize) -> Checked
     requires { ⌜ at + pointEntry ≤ 2 ^ 16 ⌝ }
-    ensures { λ r. ⌜ r ≡ judgedFrom found (amountValues at x) ⌝ }
+    ensures { λ r. ⌜ r ≡ firstFaultFrom found (amountValues at x) ⌝ }
 {
     let injection = or_fault(found, x.injection.0 <= most_amount(x.kind == 2), at + 3);
     or_fault(
@@ -114,7 +114,7 @@ fn amounts_fault(found: Checked, x: Point, at: usize) -> Checked
 // The first fault of the point that stands at `at`, in a set-up of these counts.
 pub fn point_fault(setup: &[u8], n: Counts, x: Point, at: usize) -> Checked
     requires { ⌜ Shaped n (now setup) × (at + pointEntry ≤ 2 ^ 16) ⌝ }
-    ensures { λ r. ⌜ r ≡ judged (pointValues (accountsIn (now (setup .entry))) (n .zones) at x) ⌝ }
+    ensures { λ r. ⌜ r ≡ firstFault (pointValues (accountsIn (now (setup .entry))) (n .zones) at x) ⌝ }
 {
     let own = kind_of(setup, n, x.account);
     let account = or_fault(

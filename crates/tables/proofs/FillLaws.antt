@@ -10,7 +10,7 @@ use Rattle.rules.specs.Limits.{mostEnergy}
 use Rattle.rules.specs.Registration.{moved, waiting}
 use Rattle.image.specs.Tables.{cellOf, InTable, Tabled, Room, tableSize}
 use Rattle.image.proofs.Tables.SumLaws.{zero-at}
-use Rattle.tables.specs.Sums.{SumsOf, NoSums, Taken, laneSum}
+use Rattle.tables.specs.Sums.{SumsOf, NoSums, RowAdded, laneSum}
 
 -- ---- the first and the others
 
@@ -56,7 +56,7 @@ pub filling-room : {top : ℕ} (all left : List Row) (table : List ℕ) (most : 
 filling-room all left table most r f t h k l = omega (arith, f .bounded k, t .quantity-high)
 
 pub filling-next : {top : ℕ} (all left rest : List Row) (before after : List ℕ) (most more : ℕ) (r : Row) → left ≡ r ∷ rest → more ≡ most + mostEnergy
-    → Tabled top r → Taken top before after r → Filling top all left before most → Filling top all rest after more
+    → Tabled top r → RowAdded top before after r → Filling top all left before most → Filling top all rest after more
 filling-next all left rest before after most more r e d t w f =
     record {
       sums = λ lane a h l i.

@@ -17,7 +17,7 @@ use Rattle.image.specs.Tables.{slotOf, cellOf, InTable, Tabled, Raised}
 use Rattle.rules.proofs.Basics.Products.{stride}
 use Rattle.image.proofs.Tables.SumLaws.{hits, raised-cell, raised-most}
 use Rattle.image.proofs.Tables.TabledLaws.{buyer-in, seller-in, first-hour}
-use Rattle.tables.specs.Sums.{Taken, laneSum}
+use Rattle.tables.specs.Sums.{RowAdded, laneSum}
 
 -- ---- what one row adds
 
@@ -78,11 +78,11 @@ raised-share {top} before after r lane account t l u w other a h i =
     raised-cell top lane account (r .first) (r .last) other a h low high (t .in-order) i before after (r .quantity .0) w
 
 -- a confirmed row
-pub taken-confirmed : {top : ℕ} (before middle after : List ℕ) (r : Row) → Tabled top r → r .status ≡ 2
+pub added-confirmed : {top : ℕ} (before middle after : List ℕ) (r : Row) → Tabled top r → r .status ≡ 2
     → Raised before middle (cellOf top 0 (buyer r) (r .first)) (r .last - r .first + 1) (r .quantity .0)
     → Raised middle after (cellOf top 1 (seller r) (r .first)) (r .last - r .first + 1) (r .quantity .0)
-    → Taken top before after r
-taken-confirmed {top} before middle after r t e b s =
+    → RowAdded top before after r
+added-confirmed {top} before middle after r t e b s =
     let buys = buyer-in r t in
     let sells = seller-in r t in
     record {
@@ -100,11 +100,11 @@ taken-confirmed {top} before middle after r t e b s =
     }
 
 -- a pending row, of which the share falls to that lane for its proposer
-taken-pending : {top : ℕ} (before after : List ℕ) (r : Row) (lane : ℕ) → Tabled top r
+added-pending : {top : ℕ} (before after : List ℕ) (r : Row) (lane : ℕ) → Tabled top r
     → ((a h other : ℕ) → other ≤ 3 → laneSum other (r ∷ []) a h ≡ share r a h lane (r .proposer) other)
     → Raised before after (cellOf top lane (r .proposer) (r .first)) (r .last - r .first + 1) (r .quantity .0)
-    → Taken top before after r
-taken-pending {top} before after r lane t e w =
+    → RowAdded top before after r
+added-pending {top} before after r lane t e w =
     record {
       share = λ other a h l i.
           raised-share before after r lane (r .proposer) t (t .proposer-low) (t .proposer-high) w other a h i
@@ -112,22 +112,22 @@ taken-pending {top} before after r lane t e w =
       grown = raised-most before after _ _ _ w;
     }
 
-pub taken-sale : {top : ℕ} (before after : List ℕ) (r : Row) → Tabled top r → r .status ≡ 1 → r .side ≡ 1
+pub added-sale : {top : ℕ} (before after : List ℕ) (r : Row) → Tabled top r → r .status ≡ 1 → r .side ≡ 1
     → Raised before after (cellOf top 2 (r .proposer) (r .first)) (r .last - r .first + 1) (r .quantity .0)
-    → Taken top before after r
-taken-sale before after r t e d w = taken-pending before after r 2 t (λ a h. share-sale r a h e d) w
+    → RowAdded top before after r
+added-sale before after r t e d w = added-pending before after r 2 t (λ a h. share-sale r a h e d) w
 
-pub taken-purchase : {top : ℕ} (before after : List ℕ) (r : Row) → Tabled top r → r .status ≡ 1 → r .side ≡ 2
+pub added-purchase : {top : ℕ} (before after : List ℕ) (r : Row) → Tabled top r → r .status ≡ 1 → r .side ≡ 2
     → Raised before after (cellOf top 3 (r .proposer) (r .first)) (r .last - r .first + 1) (r .quantity .0)
-    → Taken top before after r
-taken-purchase before after r t e d w = taken-pending before after r 3 t (λ a h. share-purchase r a h e d) w
+    → RowAdded top before after r
+added-purchase before after r t e d w = added-pending before after r 3 t (λ a h. share-purchase r a h e d) w
 
 -- a row that adds nothing
-taken-nothing : {top : ℕ} (before : List ℕ) (r : Row) → ((a h lane : ℕ) → laneSum lane (r ∷ []) a h ≡ 0) → Taken top before before r
-taken-nothing before r e = record { share = λ lane a h l i. rw (e a h lane) (sym (add-zero _)); grown = λ k. omega arith }
+added-nothing : {top : ℕ} (before : List ℕ) (r : Row) → ((a h lane : ℕ) → laneSum lane (r ∷ []) a h ≡ 0) → RowAdded top before before r
+added-nothing before r e = record { share = λ lane a h l i. rw (e a h lane) (sym (add-zero _)); grown = λ k. omega arith }
 
-pub taken-sideless : {top : ℕ} (before : List ℕ) (r : Row) → r .status ≡ 1 → (r .side ≡ 1 → ⊥) → (r .side ≡ 2 → ⊥) → Taken top before before r
-taken-sideless before r e f g = taken-nothing before r (λ a h. share-sideless r a h e f g)
+pub added-sideless : {top : ℕ} (before : List ℕ) (r : Row) → r .status ≡ 1 → (r .side ≡ 1 → ⊥) → (r .side ≡ 2 → ⊥) → RowAdded top before before r
+added-sideless before r e f g = added-nothing before r (λ a h. share-sideless r a h e f g)
 
-pub taken-idle : {top : ℕ} (before : List ℕ) (r : Row) → (r .status ≡ 1 → ⊥) → (r .status ≡ 2 → ⊥) → Taken top before before r
-taken-idle before r f g = taken-nothing before r (λ a h. share-idle r a h f g)
+pub added-idle : {top : ℕ} (before : List ℕ) (r : Row) → (r .status ≡ 1 → ⊥) → (r .status ≡ 2 → ⊥) → RowAdded top before before r
+added-idle before r f g = added-nothing before r (λ a h. share-idle r a h f g)

@@ -39,7 +39,7 @@ laneSum (suc (suc zero)) = pendingSales
 laneSum (suc (suc (suc lane))) = pendingPurchases
 
 -- one row more: each account hour of each lane has its share, and no cell grows by more than the row's quantity
-pub record Taken (top : ℕ) (before after : List ℕ) (r : Row) : Type 0 where
+pub record RowAdded (top : ℕ) (before after : List ℕ) (r : Row) : Type 0 where
   pub share : (lane a h : ℕ) → lane ≤ 3 → InTable top a h
       → getD after (cellOf top lane a h) 0 ≡ getD before (cellOf top lane a h) 0 + laneSum lane (r ∷ []) a h
   pub grown : (k : ℕ) → getD after k 0 ≤ getD before k 0 + r .quantity .0

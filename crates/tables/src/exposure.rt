@@ -55,8 +55,8 @@ fn exposure_share(book: &[u8], table: &[u32], top: usize, number: u8, operator: 
     ensures meaning { λ r. ⌜ ((rows : List Row) → SumsOf top rows (now (table .entry)) → r .0 ≡ exposureShare (setupOf (now (book .entry))) rows operator number) ⌝ }
     ensures bounded { λ r. ⌜ r .0 ≤ mostPeriods * (mostPrice * 2 ^ 33) ⌝ }
 {
-    let owner = account(book, number);
-    if owner.operator == operator {
+    let entry = account(book, number);
+    if entry.operator == operator {
         return account_exposure(book, table, top, number);
     }
     MilliCents(0)

@@ -10,7 +10,7 @@ ghost use Rattle.rules.specs.Registration.{accountHour};
 ghost use Rattle.image.specs.Layout.{mostPeriods, accountWidth, rowWidth};
 ghost use Rattle.image.specs.Cells.{rowsFrom};
 ghost use Rattle.image.specs.Tables.{slots, placeOf, cellOf, Inside, InTable, Tabled, Room, Raised, tableSize};
-ghost use Rattle.tables.specs.Sums.{SumsOf, NoSums, Taken, netStored, netsStored};
+ghost use Rattle.tables.specs.Sums.{SumsOf, NoSums, RowAdded, netStored, netsStored};
 use image::cells::add_range;
 use image::layout::LANE_SLOTS;
 use image::layout::NET_WIDTH;
@@ -63,9 +63,9 @@ fn add_hours(table: &mut [u32], top: usize, lane: usize, account: u8, r: Row)
 }
 
 // A confirmed row: its buyer bought, and its seller sold.
-fn take_confirmed(table: &mut [u32], top: usize, r: Row)
+fn add_confirmed(table: &mut [u32], top: usize, r: Row)
     requires { ⌜ (tableSize top ≤ length (now table)) × Tabled top r × Room (now table) 0 (r .quantity .0) × (r .status ≡ 2) × (top ≤ mostPeriods) ⌝ }
-    ensures { λ _. ⌜ Taken top (now (table .entry)) (now (table .exit)) r ⌝ }
+    ensures { λ _. ⌜ RowAdded top (now (table .entry)) (now (table .exit)) r ⌝ }
 {
     let buyer = pick(r.side == 1, r.counterparty, r.proposer);
     let seller = pick(r.side == 1, r.proposer, r.counterparty);
@@ -74,9 +74,9 @@ fn take_confirmed(table: &mut [u32], top: usize, r: Row)
 }
 
 // A pending row: it waits on its proposer, as a sale or as a purchase.
-fn take_pending(table: &mut [u32], top: usize, r: Row)
+fn add_pending(table: &mut [u32], top: usize, r: Row)
     requires { ⌜ (tableSize top ≤ length (now table)) × Tabled top r × Room (now table) 0 (r .quantity .0) × (r .status ≡ 1) × (top ≤ mostPeriods) ⌝ }
-    ensures { λ _. ⌜ Taken top (now (table .entry)) (now (table .exit)) r ⌝ }
+    ensures { λ _. ⌜ RowAdded top (now (table .entry)) (now (table .exit)) r ⌝ }
 {
     if r.side == 1 {
         add_hours(table, top, SALES, r.proposer, r);
@@ -86,14 +86,14 @@ fn take_pending(table: &mut [u32], top: usize, r: Row)
 }
 
 // One row more. A withdrawn one counts for nobody.
-fn take_row(table: &mut [u32], top: usize, r: Row)
+fn add_row(table: &mut [u32], top: usize, r: Row)
     requires { ⌜ (tableSize top ≤ length (now table)) × Tabled top r × Room (now table) 0 (r .quantity .0) × (top ≤ mostPeriods) ⌝ }
-    ensures { λ _. ⌜ Taken top (now (table .entry)) (now (table .exit)) r ⌝ }
+    ensures { λ _. ⌜ RowAdded top (now (table .entry)) (now (table .exit)) r ⌝ }
 {
     if r.status == 2 {
-        take_confirmed(table, top, r);
+        add_confirmed(table, top, r);
     } else if r.status == 1 {
-        take_pending(table, top, r);
+        add_pending(table, top, r);
     }
 }
 
@@ -113,7 +113,7 @@ pub fn fill(table: &mut [u32], top: usize, s: &[u8], at: usize, n: usize)
     let mut left = n;
     while 0 < left {
         let r = row_at(s, place);
-        take_row(table, top, r);
+        add_row(table, top, r);
         place = place + ROW_WIDTH;
         left = left - 1;
     }
@@ -145,7 +145,7 @@ pub fn account_hour(table: &[u32], top: usize, account: u8, hour: u8) -> Account
 }
 
 // Whether the 4 bytes of a net position are what the account bought in the hour less what it sold.
-fn net_kept(s: &[u8], nets: usize, table: &[u32], top: usize, account: u8, hour: u8) -> bool
+fn net_matches(s: &[u8], nets: usize, table: &[u32], top: usize, account: u8, hour: u8) -> bool
     requires { ⌜ (nets + mostAccounts * accountWidth top ≤ length (now s)) × (tableSize top ≤ length (now table)) × InTable top account hour × (top ≤ mostPeriods) ⌝ }
     ensures { λ r. ⌜ r ≡ netStored top (now (s .entry)) nets (now (table .entry)) account hour ⌝ }
 {
@@ -157,13 +157,13 @@ fn net_kept(s: &[u8], nets: usize, table: &[u32], top: usize, account: u8, hour:
 }
 
 // The same for all hours of an account.
-fn account_nets_kept(s: &[u8], nets: usize, table: &[u32], top: usize, account: u8) -> bool
+fn account_nets_match(s: &[u8], nets: usize, table: &[u32], top: usize, account: u8) -> bool
     requires { ⌜ (nets + mostAccounts * accountWidth top ≤ length (now s)) × (tableSize top ≤ length (now table)) × (1 ≤ account) × (account ≤ mostAccounts) × (top ≤ mostPeriods) ⌝ }
     ensures { λ r. ⌜ r ≡ every (netStored top (now (s .entry)) nets (now (table .entry)) account) (upTo top) ⌝ }
 {
     let mut hour: u8 = 1;
     while hour as usize <= top {
-        if net_kept(s, nets, table, top, account, hour) {
+        if net_matches(s, nets, table, top, account, hour) {
             hour = hour + 1;
         } else {
             return false;
@@ -173,13 +173,13 @@ fn account_nets_kept(s: &[u8], nets: usize, table: &[u32], top: usize, account: 
 }
 
 // Whether all net positions that stand from `nets` on are those of the table.
-pub fn nets_kept(s: &[u8], nets: usize, table: &[u32], top: usize) -> bool
+pub fn nets_match(s: &[u8], nets: usize, table: &[u32], top: usize) -> bool
     requires { ⌜ (nets + mostAccounts * accountWidth top ≤ length (now s)) × (tableSize top ≤ length (now table)) × (top ≤ mostPeriods) ⌝ }
     ensures { λ r. ⌜ r ≡ netsStored top (now (s .entry)) nets (now (table .entry)) ⌝ }
 {
     let mut account: u8 = 1;
     while account <= MOST_ACCOUNTS {
-        if account_nets_kept(s, nets, table, top, account) {
+        if account_nets_match(s, nets, table, top, account) {
             account = account + 1;
         } else {
             return false;

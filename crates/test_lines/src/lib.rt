@@ -98,7 +98,7 @@ pub fn net_line(account: u8, hour: u8, reading: NetReading) {
     small(hour);
     match reading {
         NetReading::Unread(r) => verdict(refusal_numbers(r)),
-        NetReading::Stands(p) => {
+        NetReading::Read(p) => {
             verdict(ACCEPTED);
             position(p);
         }
@@ -112,7 +112,7 @@ pub fn exposure_line(operator: u8, reading: ExposureReading) {
     small(operator);
     match reading {
         ExposureReading::Unread(r) => verdict(refusal_numbers(r)),
-        ExposureReading::Stands(m) => {
+        ExposureReading::Read(m) => {
             verdict(ACCEPTED);
             number(m.0);
         }

@@ -59,14 +59,14 @@ test-within false true q = refl
 test-within false false q = refl
 
 -- what those of the owner, hour and side use up falls to the cell
-pub used-in-cell : (most : ℕ) (owner : Schedule → ℕ) (x : Schedule) {before : List Judged} → InCells most (owner x) x
-    → Each (λ j. InCells most (owner (j .schedule)) (j .schedule)) before
-    → used (λ y. (eqb (x .hour) (y .hour) && eqb (x .side) (y .side)) && eqb (owner x) (owner y)) before
-    ≡ fallsTo (λ j. cellFor (owner (j .schedule)) (j .schedule)) usedUp before (cellFor (owner x) x)
+pub used-in-cell : (most : ℕ) (holder : Schedule → ℕ) (x : Schedule) {before : List Judged} → InCells most (holder x) x
+    → Each (λ j. InCells most (holder (j .schedule)) (j .schedule)) before
+    → used (λ y. (eqb (x .hour) (y .hour) && eqb (x .side) (y .side)) && eqb (holder x) (holder y)) before
+    ≡ fallsTo (λ j. cellFor (holder (j .schedule)) (j .schedule)) usedUp before (cellFor (holder x) x)
 unfolding used fallsTo
-used-in-cell most owner x i e =
+used-in-cell most holder x i e =
     total-same _ _
-    (λ j k. rw (same-cell most (owner x) (owner (j .schedule)) x (j .schedule) i k) (test-within (congruous j) _ (j .schedule .quantity .0)))
+    (λ j k. rw (same-cell most (holder x) (holder (j .schedule)) x (j .schedule) i k) (test-within (congruous j) _ (j .schedule .quantity .0)))
     e
 
 -- ---- no schedule

@@ -50,11 +50,11 @@ module _ (s : List ℕ) (h : isBook s ≡ true) (x : Schedule) (ok : scheduleOk 
   pub point-sound : SoundPoint (setupIn s .accounts) (setupIn s .zones) (pointAt (setupIn s) (x .point))
   point-sound = each-nth noPoint (x .point) (values-in s h .points-sound) (in-range .point-low) (in-range .point-high)
 
-  in-cells : (most owner : ℕ) → 1 ≤ owner → owner ≤ most → InCells most owner x
-  in-cells most owner low high =
+  in-cells : (most holder : ℕ) → 1 ≤ holder → holder ≤ most → InCells most holder x
+  in-cells most holder low high =
       record {
-        owner-low = low;
-        owner-high = high;
+        holder-low = low;
+        holder-high = high;
         hour-low = in-range .hour-low;
         hour-high = omega (arith, in-range .hour-high, hours-few s h);
         side-low = in-range .side-low;

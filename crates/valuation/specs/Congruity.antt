@@ -13,9 +13,9 @@ use Rattle.rules.specs.Limits.{mostHours}
 use Rattle.valuation.specs.Tables.{usedCells}
 
 -- the table has a cell for the owner, of so many at most, in the schedule's hour and side
-pub record InCells (most owner : ℕ) (x : Schedule) : Type 0 where
-  pub owner-low : 1 ≤ owner
-  pub owner-high : owner ≤ most
+pub record InCells (most holder : ℕ) (x : Schedule) : Type 0 where
+  pub holder-low : 1 ≤ holder
+  pub holder-high : holder ≤ most
   pub hour-low : 1 ≤ x .hour
   pub hour-high : x .hour ≤ mostHours
   pub side-low : 1 ≤ x .side

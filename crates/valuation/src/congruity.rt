@@ -44,18 +44,18 @@ const OVER_ACCOUNT: u8 = 2;
 const NOT_TAKEN: u8 = 3;
 
 // The table of what is used up: the cells of an owner, of all points, and of the whole.
-const OWNER_CELLS: usize = 2 * PERIODS;
+const HOLDER_CELLS: usize = 2 * PERIODS;
 
-const POINT_CELLS: usize = OWNER_CELLS * (MOST_POINTS as usize);
+const POINT_CELLS: usize = HOLDER_CELLS * (MOST_POINTS as usize);
 
-pub const USED_SIZE: usize = POINT_CELLS + OWNER_CELLS * (MOST_ACCOUNTS as usize);
+pub const USED_SIZE: usize = POINT_CELLS + HOLDER_CELLS * (MOST_ACCOUNTS as usize);
 
 // The cell of an owner, which is a point or an account, in the schedule's hour and side.
-fn cell_for(owner: u8, x: Schedule) -> usize
-    requires { ⌜ InCells mostPoints owner x ⌝ }
-    ensures { λ r. ⌜ r ≡ cellFor owner x ⌝ }
+fn cell_for(holder: u8, x: Schedule) -> usize
+    requires { ⌜ InCells mostPoints holder x ⌝ }
+    ensures { λ r. ⌜ r ≡ cellFor holder x ⌝ }
 {
-    OWNER_CELLS * (owner as usize - 1) + (2 * (x.hour as usize - 1) + (x.side as usize - 1))
+    HOLDER_CELLS * (holder as usize - 1) + (2 * (x.hour as usize - 1) + (x.side as usize - 1))
 }
 
 // What is more on one side than on the other, or nothing.
@@ -127,7 +127,7 @@ fn price_number(hours: u8, point: Point, x: Schedule) -> usize
 }
 
 // Whether a schedule is taken at the price that it meets.
-fn takes(x: Schedule, met: CentsPerMwh) -> bool
+fn taken_at(x: Schedule, met: CentsPerMwh) -> bool
     ensures { λ r. ⌜ r ≡ takenAt x met ⌝ }
 {
     if x.side == INJECTION {
@@ -143,7 +143,7 @@ fn is_taken(prices: &[u8], hours: u8, point: Point, x: Schedule) -> bool
 {
     let number = price_number(hours, point, x);
     let met = price(prices, number);
-    takes(x, met)
+    taken_at(x, met)
 }
 
 // The result by three tests, in their order: the point's limit is passed, the account's is, the price takes it.

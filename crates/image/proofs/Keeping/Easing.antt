@@ -19,7 +19,7 @@ use Rattle.rules.specs.declared.Row.{Row}
 use Rattle.rules.specs.declared.AccountHour.{AccountHour}
 use Rattle.rules.specs.Basics.{if_then_else_, total, nth, upTo, Each}
 use Rattle.rules.specs.Books.{Setup, noRow, accountCount, estimateAt, operatorOf, periods}
-use Rattle.rules.specs.Registration.{pending, covers, seller, buyer, mark, closed, bought, sold, accountHour, takes, low, high, keepsMargins, exposed, ofOperator, exposureOf, exposure, available, covered, exposureWith}
+use Rattle.rules.specs.Registration.{pending, includesHour, seller, buyer, mark, closed, bought, sold, accountHour, afterTrade, low, high, keepsMargins, exposed, ofOperator, exposureOf, exposure, available, covered, exposureWith}
 use Rattle.rules.proofs.Basics.Tests.{and-both}
 use Rattle.rules.proofs.Basics.Searches.{each-map}
 use Rattle.rules.proofs.Basics.Differences.{difference-order, order-by, difference-more, difference-less}
@@ -133,10 +133,10 @@ added-eases-others rows caller a h e other = rw (added-leaves-others rows caller
 -- a purchase that waits exposes no operator
 pub purchase-exposes-none : (u : Setup) (rows : List Row) (r : Row) (o : ℕ) → pending r ≡ true → (r .side ≡ 1 → ⊥)
     → exposureWith u rows (r ∷ []) o ≤ exposure u rows o
-unfolding takes
+unfolding afterTrade
 purchase-exposes-none u rows r o waits buys =
-    no-more-exposure u (estimateAt u) (accountHour rows) (λ a h. takes a h (accountHour rows a h) r) o
-    (λ a h owns. rw (eqb-true (r .status) 1 waits, ne-eqb (r .side) 1 buys, and-false (covers h r && eqb (r .proposer) a)) (omega arith))
+    no-more-exposure u (estimateAt u) (accountHour rows) (λ a h. afterTrade a h (accountHour rows a h) r) o
+    (λ a h owns. rw (eqb-true (r .status) 1 waits, ne-eqb (r .side) 1 buys, and-false (includesHour h r && eqb (r .proposer) a)) (omega arith))
 
 -- ---- withdraw and close gate
 
@@ -163,12 +163,12 @@ close-eases rows a h =
 share-of-proposer : (side a h : ℕ) (r : Row) (party : Row → ℕ) → party r ≡ r .proposer → r .side ≡ side
     → share party a h r ≡ weight side a h r
 share-of-proposer side a h r party e d =
-    rw (e, eq-eqb (r .side) side d, and-true (covers h r && eqb (r .proposer) a))
+    rw (e, eq-eqb (r .side) side d, and-true (includesHour h r && eqb (r .proposer) a))
 
 -- and the counterparty alone comes to hold the other side
 share-of-others : (a h : ℕ) (r : Row) (party : Row → ℕ) → party r ≡ r .counterparty → (a ≡ r .counterparty → ⊥)
     → share party a h r ≡ 0
-share-of-others a h r party e other = rw (e, ne-eqb (r .counterparty) a (λ f. other (sym f)), and-false (covers h r))
+share-of-others a h r party e other = rw (e, ne-eqb (r .counterparty) a (λ f. other (sym f)), and-false (includesHour h r))
 
 side-cases : (side : ℕ) → 1 ≤ side → side ≤ 2 → (side ≡ 1) ⊎ (side ≡ 2)
 side-cases side l m = go (eqb side 1) refl
@@ -234,7 +234,7 @@ sale-eases-operators u rows n o waits sells =
     omega arith)
 
 share-of-neither : (a h : ℕ) (r : Row) (party : Row → ℕ) → (party r ≡ a → ⊥) → share party a h r ≡ 0
-share-of-neither a h r party other = rw (ne-eqb (party r) a other, and-false (covers h r))
+share-of-neither a h r party other = rw (ne-eqb (party r) a other, and-false (includesHour h r))
 
 -- an account that is no party of the row holds what it held
 pub confirm-leaves-others : (rows : List Row) (n a h : ℕ) → pending (nth rows n noRow) ≡ true

@@ -10,7 +10,7 @@ use Rattle.wire.specs.Numbers.{Bytes}
 use Rattle.rules.specs.declared.Request.{Request}
 use Rattle.rules.specs.Books.{Part, Book}
 use Rattle.rules.specs.Requests.{Kind, register, confirm, withdraw, guarantee, openBatch, undo, keep, closeGate, schedule, settle, kindNumber, requestOf}
-use Rattle.rules.specs.Calls.{Call, requestIn, kindIn, change, next, _oneOf_, inputChecks, stateChecks, step, apply}
+use Rattle.rules.specs.Calls.{Call, callRequest, callKind, change, next, _oneOf_, inputChecks, stateChecks, step, apply}
 use Rattle.rules.proofs.Checks.Clearing.{Clear}
 use Rattle.rules.proofs.Checks.Passed.{Passed, Kept, passed-kind, step-cases}
 use Rattle.rules.proofs.Records.Fields.{field-in-fits}
@@ -25,14 +25,14 @@ pub next-keeps : (k : Kind) (b : Book) (c : Call) (q : Request) → kindNumber k
 next-keeps k b c q named code s input state = apply-keeps (change k b q) b s (change-allowed k b c q named code s input state)
 
 -- the code of a record of bytes fits its 8
-code-fits : (c : Call) → Bytes (c .bytes) → requestIn c .code < 256 ^ 8
+code-fits : (c : Call) → Bytes (c .bytes) → callRequest c .code < 256 ^ 8
 unfolding requestOf
 code-fits c bytes = field-in-fits bytes 3
 
 keeps-go : (b : Book) (c : Call) → Bytes (c .bytes) → SoundBook b → Kept b c ⊎ Passed b c → SoundBook (step b c .book)
 keeps-go b c bytes s (inl w) = rw (w .book) s
 keeps-go b c bytes s (inr w) =
-    rw (w .book) (next-keeps (kindIn c) b c (requestIn c) (passed-kind w) (code-fits c bytes) s (w .input) (w .state))
+    rw (w .book) (next-keeps (callKind c) b c (callRequest c) (passed-kind w) (code-fits c bytes) s (w .input) (w .state))
 
 pub keeps-sound : (b : Book) (c : Call) → Bytes (c .bytes) → SoundBook b → SoundBook (step b c .book)
 keeps-sound b c bytes s = keeps-go b c bytes s (step-cases b c)
@@ -45,7 +45,7 @@ keeps-valid b c bytes v = book-sound (step b c .book) (keeps-sound b c bytes (so
 
 setup-go : (b : Book) (c : Call) → Kept b c ⊎ Passed b c → step b c .book .setup ≡ b .setup
 setup-go b c (inl w) = ap (λ (x : Book). x .setup) (w .book)
-setup-go b c (inr w) = ap (λ (x : Book). x .setup) (w .book) ∙ apply-setup (change (kindIn c) b (requestIn c)) b
+setup-go b c (inr w) = ap (λ (x : Book). x .setup) (w .book) ∙ apply-setup (change (callKind c) b (callRequest c)) b
 
 pub no-call-changes-setup : (b : Book) (c : Call) → step b c .book .setup ≡ b .setup
 no-call-changes-setup b c = setup-go b c (step-cases b c)
@@ -64,12 +64,12 @@ next-saved closeGate b q e = refl
 next-saved schedule b q e = refl
 next-saved settle b q e = refl
 
-saved-go : (b : Book) (c : Call) → kindIn c oneOf (openBatch ∷ undo ∷ keep ∷ []) ≡ false → Kept b c ⊎ Passed b c
+saved-go : (b : Book) (c : Call) → callKind c oneOf (openBatch ∷ undo ∷ keep ∷ []) ≡ false → Kept b c ⊎ Passed b c
     → step b c .book .saved ≡ b .saved
 saved-go b c e (inl w) = ap (λ (x : Book). x .saved) (w .book)
-saved-go b c e (inr w) = ap (λ (x : Book). x .saved) (w .book) ∙ next-saved (kindIn c) b (requestIn c) e
+saved-go b c e (inr w) = ap (λ (x : Book). x .saved) (w .book) ∙ next-saved (callKind c) b (callRequest c) e
 
-pub batch-calls-alone-change-saved : (b : Book) (c : Call) → kindIn c oneOf (openBatch ∷ undo ∷ keep ∷ []) ≡ false
+pub batch-calls-alone-change-saved : (b : Book) (c : Call) → callKind c oneOf (openBatch ∷ undo ∷ keep ∷ []) ≡ false
     → step b c .book .saved ≡ b .saved
 batch-calls-alone-change-saved b c e = saved-go b c e (step-cases b c)
 

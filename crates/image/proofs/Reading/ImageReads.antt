@@ -21,7 +21,7 @@ use Rattle.rules.specs.Books.{Part, Book, noRow}
 use Rattle.rules.specs.Registration.{bought, sold, netOf, figure}
 use Rattle.rules.specs.Opening.{guaranteeWidth}
 use Rattle.rules.proofs.Basics.Searches.{counting-length}
-use Rattle.image.specs.Layout.{setupRoom, rowWidths, rowWidth, scheduleWidths, scheduleWidth, accountWidth, partWidths, partSize, bookWidths, phaseAt, flagAt, scheduleCountAt, schedulesAt, presentAt, savedAt, guaranteesAt, rowCountAt, rowAt, netAt, netWidth, setupSection}
+use Rattle.image.specs.Layout.{setupRoom, rowWidths, rowWidth, scheduleWidths, scheduleWidth, accountWidth, partWidths, partSize, bookWidths, phaseOffset, flagOffset, scheduleCountOffset, schedulesOffset, presentOffset, savedOffset, guaranteesOffset, rowCountOffset, rowOffset, netOffset, netWidth, setupSection}
 use Rattle.image.specs.Image.{rowValues, rowBytes, scheduleValues, scheduleBytes, accountNets, netsBytes, partSections, partBytes, flag, savedBytes, storedSetup, sectionsWith, sections, image}
 use Rattle.image.proofs.Writing.Sizes.{PartFits, Fits, length-row, length-schedule, length-guarantee, length-account, wide-part, wide-book}
 use Rattle.image.proofs.Writing.Nets.{upTo-at, nets-end}
@@ -60,15 +60,15 @@ nets-read top rows a h at a1 a2 h1 h2 e =
     ∙ take-all 4 (net h) (omega (arith, length-signed netWidth (figure (netOf rows a h))))
 
 module _ (top : ℕ) (p : Part) (f : PartFits p) where
-  pub part-row-count : numberAt (partBytes top p) rowCountAt 2 ≡ length (p .rows)
+  pub part-row-count : numberAt (partBytes top p) rowCountOffset 2 ≡ length (p .rows)
   unfolding partBytes partSections
   part-row-count =
       let rf = f .rows-fit in
-      number-part (partWidths top) (partSections top p) (wide-part top p f) 1 0 2 rowCountAt (omega arith) (omega arith) (omega arith)
+      number-part (partWidths top) (partSections top p) (wide-part top p f) 1 0 2 rowCountOffset (omega arith) (omega arith) (omega arith)
       ∙ number-alone 2 (length (p .rows)) (omega arith)
 
   -- a piece of a row
-  pub part-row : (i j m at : ℕ) → i < length (p .rows) → j + m ≤ rowWidth → at ≡ rowAt i + j
+  pub part-row : (i j m at : ℕ) → i < length (p .rows) → j + m ≤ rowWidth → at ≡ rowOffset i + j
       → take m (drop at (partBytes top p)) ≡ take m (drop j (rowBytes (getD (p .rows) i noRow)))
   unfolding partBytes partSections
   part-row i j m at h l e =
@@ -86,7 +86,7 @@ module _ (top : ℕ) (p : Part) (f : PartFits p) where
       ∙ slots-get guaranteeWidth mostOperators (λ x. le guaranteeWidth (x .0)) length-guarantee (p .guarantees) i 0 8 (guaranteeWidth * i) (cents 0) gf h (omega arith) (omega arith)
       ∙ take-all guaranteeWidth g (omega (arith, length-le guaranteeWidth (getD (p .guarantees) i (cents 0) .0)))
 
-  pub part-net : (a h at : ℕ) → 1 ≤ a → a ≤ mostAccounts → 1 ≤ h → h ≤ top → at ≡ netAt top a h
+  pub part-net : (a h at : ℕ) → 1 ≤ a → a ≤ mostAccounts → 1 ≤ h → h ≤ top → at ≡ netOffset top a h
       → take netWidth (drop at (partBytes top p)) ≡ signed netWidth (figure (netOf (p .rows) a h))
   unfolding partBytes partSections
   part-net a h at a1 a2 h1 h2 e =
@@ -102,31 +102,31 @@ module _ (top size : ℕ) (b : Book) (f : Fits b) where
   unfolding image sections sectionsWith
   setup-read = read-whole (bookWidths top size) (sections top size b) (wide-book top size b f) setupSection 0 setupRoom (omega arith) refl refl
 
-  pub phase-read : b .phase < 256 → numberAt (image top size b) phaseAt 1 ≡ b .phase
+  pub phase-read : b .phase < 256 → numberAt (image top size b) phaseOffset 1 ≡ b .phase
   unfolding image sections sectionsWith
   phase-read h =
-      number-part (bookWidths top size) (sections top size b) (wide-book top size b f) 1 0 1 phaseAt (omega arith) (omega arith) (omega arith)
+      number-part (bookWidths top size) (sections top size b) (wide-book top size b f) 1 0 1 phaseOffset (omega arith) (omega arith) (omega arith)
       ∙ number-alone 1 (b .phase) h
 
-  pub flag-read : numberAt (image top size b) flagAt 1 ≡ flag (b .saved)
+  pub flag-read : numberAt (image top size b) flagOffset 1 ≡ flag (b .saved)
   unfolding image sections sectionsWith
   flag-read =
-      number-part (bookWidths top size) (sections top size b) (wide-book top size b f) 2 0 1 flagAt (omega arith) (omega arith) (omega arith)
+      number-part (bookWidths top size) (sections top size b) (wide-book top size b f) 2 0 1 flagOffset (omega arith) (omega arith) (omega arith)
       ∙ number-alone 1 (flag (b .saved)) (small (b .saved))
     where
       small : (o : Option Part) → flag o < 256 ^ 1
       small none = omega arith
       small (some p) = omega arith
 
-  pub schedule-count-read : numberAt (image top size b) scheduleCountAt 2 ≡ length (b .schedules)
+  pub schedule-count-read : numberAt (image top size b) scheduleCountOffset 2 ≡ length (b .schedules)
   unfolding image sections sectionsWith
   schedule-count-read =
       let sf = f .schedules-fit in
-      number-part (bookWidths top size) (sections top size b) (wide-book top size b f) 3 0 2 scheduleCountAt (omega arith) (omega arith) (omega arith)
+      number-part (bookWidths top size) (sections top size b) (wide-book top size b f) 3 0 2 scheduleCountOffset (omega arith) (omega arith) (omega arith)
       ∙ number-alone 2 (length (b .schedules)) (omega arith)
 
   -- a piece of a schedule
-  schedule-piece : (i j m at : ℕ) (d : Schedule) → i < length (b .schedules) → j + m ≤ scheduleWidth → at ≡ schedulesAt + scheduleWidth * i + j
+  schedule-piece : (i j m at : ℕ) (d : Schedule) → i < length (b .schedules) → j + m ≤ scheduleWidth → at ≡ schedulesOffset + scheduleWidth * i + j
       → take m (drop at (image top size b)) ≡ take m (drop j (scheduleBytes (getD (b .schedules) i d)))
   unfolding image sections sectionsWith
   schedule-piece i j m at d h l e =
@@ -134,7 +134,7 @@ module _ (top size : ℕ) (b : Book) (f : Fits b) where
       read-part (bookWidths top size) (sections top size b) (wide-book top size b f) 4 (scheduleWidth * i + j) m at (omega arith) (omega arith) (omega arith)
       ∙ slots-get scheduleWidth mostSchedules scheduleBytes length-schedule (b .schedules) i j m (scheduleWidth * i + j) d sf h l refl
 
-  pub schedule-read : (i at : ℕ) (d : Schedule) → i < length (b .schedules) → at ≡ schedulesAt + scheduleWidth * i
+  pub schedule-read : (i at : ℕ) (d : Schedule) → i < length (b .schedules) → at ≡ schedulesOffset + scheduleWidth * i
       → take scheduleWidth (drop at (image top size b)) ≡ scheduleBytes (getD (b .schedules) i d)
   schedule-read i at d h e =
       let x : Schedule = getD (b .schedules) i d in
@@ -144,7 +144,7 @@ module _ (top size : ℕ) (b : Book) (f : Fits b) where
   -- value k of a schedule
   pub schedule-value-read : (i k at : ℕ) (d : Schedule) → i < length (b .schedules)
       → Small scheduleWidths (scheduleValues (getD (b .schedules) i d))
-      → at ≡ schedulesAt + scheduleWidth * i + startOf scheduleWidths k
+      → at ≡ schedulesOffset + scheduleWidth * i + startOf scheduleWidths k
       → numberAt (image top size b) at (getD scheduleWidths k 0) ≡ getD (scheduleValues (getD (b .schedules) i d)) k 0
   unfolding numberAt scheduleBytes
   schedule-value-read i k at d h small e =
@@ -152,38 +152,38 @@ module _ (top size : ℕ) (b : Book) (f : Fits b) where
       ∙ number-in-pack scheduleWidths (scheduleValues (getD (b .schedules) i d)) k small
 
   -- a piece of the present part
-  pub present-read : (j m at : ℕ) → j + m ≤ partSize top → at ≡ presentAt + j
+  pub present-read : (j m at : ℕ) → j + m ≤ partSize top → at ≡ presentOffset + j
       → take m (drop at (image top size b)) ≡ take m (drop j (partBytes top (b .part)))
   unfolding image sections sectionsWith
   present-read j m at l e =
       read-part (bookWidths top size) (sections top size b) (wide-book top size b f) 5 j m at (omega arith) l (omega arith)
 
   -- a piece of the saved part
-  pub saved-read : (p : Part) (j m at : ℕ) → b .saved ≡ some p → j + m ≤ partSize top → at ≡ savedAt top + j
+  pub saved-read : (p : Part) (j m at : ℕ) → b .saved ≡ some p → j + m ≤ partSize top → at ≡ savedOffset top + j
       → take m (drop at (image top size b)) ≡ take m (drop j (partBytes top p))
   unfolding image sections sectionsWith savedBytes
   saved-read p j m at s l e =
       read-part (bookWidths top size) (sections top size b) (wide-book top size b f) 6 j m at (omega arith) l (omega arith)
       ∙ rw s
 
-  pub row-count-read : numberAt (image top size b) (presentAt + rowCountAt) 2 ≡ length (b .part .rows)
+  pub row-count-read : numberAt (image top size b) (presentOffset + rowCountOffset) 2 ≡ length (b .part .rows)
   unfolding numberAt
   row-count-read =
-      ap number (present-read rowCountAt 2 (presentAt + rowCountAt) (omega arith) refl) ∙ part-row-count top (b .part) (f .part-fits)
+      ap number (present-read rowCountOffset 2 (presentOffset + rowCountOffset) (omega arith) refl) ∙ part-row-count top (b .part) (f .part-fits)
 
-  pub saved-row-count-read : (p : Part) → b .saved ≡ some p → numberAt (image top size b) (savedAt top + rowCountAt) 2 ≡ length (p .rows)
+  pub saved-row-count-read : (p : Part) → b .saved ≡ some p → numberAt (image top size b) (savedOffset top + rowCountOffset) 2 ≡ length (p .rows)
   unfolding numberAt
   saved-row-count-read p s =
       let sf : PartFits p = rw s at (f .saved-fits) in
-      ap number (saved-read p rowCountAt 2 (savedAt top + rowCountAt) s (omega arith) refl) ∙ part-row-count top p sf
+      ap number (saved-read p rowCountOffset 2 (savedOffset top + rowCountOffset) s (omega arith) refl) ∙ part-row-count top p sf
 
-  row-piece : (i j m at : ℕ) → i < length (b .part .rows) → j + m ≤ rowWidth → at ≡ presentAt + rowAt i + j
+  row-piece : (i j m at : ℕ) → i < length (b .part .rows) → j + m ≤ rowWidth → at ≡ presentOffset + rowOffset i + j
       → take m (drop at (image top size b)) ≡ take m (drop j (rowBytes (getD (b .part .rows) i noRow)))
   row-piece i j m at h l e =
       let rf = f .part-fits .rows-fit in
-      present-read (rowAt i + j) m at (omega arith) (omega arith) ∙ part-row top (b .part) (f .part-fits) i j m (rowAt i + j) h l refl
+      present-read (rowOffset i + j) m at (omega arith) (omega arith) ∙ part-row top (b .part) (f .part-fits) i j m (rowOffset i + j) h l refl
 
-  pub row-read : (i at : ℕ) → i < length (b .part .rows) → at ≡ presentAt + rowAt i
+  pub row-read : (i at : ℕ) → i < length (b .part .rows) → at ≡ presentOffset + rowOffset i
       → take rowWidth (drop at (image top size b)) ≡ rowBytes (getD (b .part .rows) i noRow)
   row-read i at h e =
       let r : Row = getD (b .part .rows) i noRow in
@@ -192,7 +192,7 @@ module _ (top size : ℕ) (b : Book) (f : Fits b) where
   -- value k of a row
   pub row-value-read : (i k at : ℕ) → i < length (b .part .rows)
       → Small rowWidths (rowValues (getD (b .part .rows) i noRow))
-      → at ≡ presentAt + rowAt i + startOf rowWidths k
+      → at ≡ presentOffset + rowOffset i + startOf rowWidths k
       → numberAt (image top size b) at (getD rowWidths k 0) ≡ getD (rowValues (getD (b .part .rows) i noRow)) k 0
   unfolding numberAt rowBytes
   row-value-read i k at h small e =
@@ -200,7 +200,7 @@ module _ (top size : ℕ) (b : Book) (f : Fits b) where
       ∙ number-in-pack rowWidths (rowValues (getD (b .part .rows) i noRow)) k small
 
   pub guarantee-read : (i at : ℕ) → i < length (b .part .guarantees) → getD (b .part .guarantees) i (cents 0) .0 < 256 ^ guaranteeWidth
-      → at ≡ presentAt + guaranteesAt + guaranteeWidth * i
+      → at ≡ presentOffset + guaranteesOffset + guaranteeWidth * i
       → numberAt (image top size b) at guaranteeWidth ≡ getD (b .part .guarantees) i (cents 0) .0
   unfolding numberAt
   guarantee-read i at h small e =
@@ -209,14 +209,14 @@ module _ (top size : ℕ) (b : Book) (f : Fits b) where
       ∙ number-le guaranteeWidth _ small
 
   -- the net of an account in an hour, signed
-  pub net-bytes-read : (a h at : ℕ) → 1 ≤ a → a ≤ mostAccounts → 1 ≤ h → h ≤ top → at ≡ presentAt + netAt top a h
+  pub net-bytes-read : (a h at : ℕ) → 1 ≤ a → a ≤ mostAccounts → 1 ≤ h → h ≤ top → at ≡ presentOffset + netOffset top a h
       → take netWidth (drop at (image top size b)) ≡ signed netWidth (figure (netOf (b .part .rows) a h))
   net-bytes-read a h at a1 a2 h1 h2 e =
       let end = nets-end top a h 1 a1 a2 h1 (omega arith) in
-      present-read (netAt top a h) netWidth at (omega arith) e ∙ part-net top (b .part) (f .part-fits) a h (netAt top a h) a1 a2 h1 h2 refl
+      present-read (netOffset top a h) netWidth at (omega arith) e ∙ part-net top (b .part) (f .part-fits) a h (netOffset top a h) a1 a2 h1 h2 refl
 
   -- as a number: what was bought, and all ones for each that was sold
-  pub net-read : (a h at : ℕ) → 1 ≤ a → a ≤ mostAccounts → 1 ≤ h → h ≤ top → at ≡ presentAt + netAt top a h
+  pub net-read : (a h at : ℕ) → 1 ≤ a → a ≤ mostAccounts → 1 ≤ h → h ≤ top → at ≡ presentOffset + netOffset top a h
       → numberAt (image top size b) at netWidth ≡ (bought (b .part .rows) a h + (256 ^ netWidth - 1) * sold (b .part .rows) a h) % 256 ^ netWidth
   unfolding numberAt
   net-read a h at a1 a2 h1 h2 e =

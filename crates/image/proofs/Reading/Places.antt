@@ -13,7 +13,7 @@ use Rattle.rules.specs.Limits.{mostSchedules}
 use Rattle.rules.specs.Books.{Book, operatorCount}
 use Rattle.rules.specs.Opening.{countsIn, setupOf}
 use Rattle.rules.proofs.Setups.SetupEntries.{counts-of-setup}
-use Rattle.image.specs.Layout.{setupRoom, scheduleWidth, partSize, bookWidths, phaseAt, flagAt, scheduleCountAt, schedulesAt, presentAt, savedAt, setupSection, phaseSection, flagSection, scheduleCountSection, schedulesSection, presentSection, savedSection}
+use Rattle.image.specs.Layout.{setupRoom, scheduleWidth, partSize, bookWidths, phaseOffset, flagOffset, scheduleCountOffset, schedulesOffset, presentOffset, savedOffset, setupSection, phaseSection, flagSection, scheduleCountSection, schedulesSection, presentSection, savedSection}
 use Rattle.image.specs.Image.{scheduleIn, savedIn, bookOf, decode}
 use Rattle.image.specs.Cells.{partAt}
 use Rattle.image.proofs.Setups.SetupAgain.{counts-first-bytes}
@@ -23,10 +23,10 @@ abbrev pub bookAt : ℕ → List ℕ → Book
 bookAt top s =
     record {
       setup = setupOf (take setupRoom s);
-      phase = getD s phaseAt 0;
-      part = partAt top (countsIn s .operators) s presentAt;
-      schedules = map scheduleIn (chunks scheduleWidth (numberAt s scheduleCountAt 2) (take (scheduleWidth * mostSchedules) (drop schedulesAt s)));
-      saved = savedIn (getD s flagAt 0) top (countsIn s .operators) (take (partSize top) (drop (savedAt top) s));
+      phase = getD s phaseOffset 0;
+      part = partAt top (countsIn s .operators) s presentOffset;
+      schedules = map scheduleIn (chunks scheduleWidth (numberAt s scheduleCountOffset 2) (take (scheduleWidth * mostSchedules) (drop schedulesOffset s)));
+      saved = savedIn (getD s flagOffset 0) top (countsIn s .operators) (take (partSize top) (drop (savedOffset top) s));
     }
 
 -- the counts stand at the front
@@ -37,8 +37,8 @@ pub decode-places : (top size : ℕ) (s : List ℕ) → decode top size s ≡ bo
 unfolding decode bookOf numberAt
 decode-places top size s =
     let ws : List ℕ = bookWidths top size in
-    let at : startOf ws savedSection ≡ savedAt top = omega arith in
-    let phase : number (getD (cut ws s) phaseSection []) ≡ getD s phaseAt 0 = ap number (cut-at ws s phaseSection) ∙ number-at-one s phaseAt in
-    let flag : number (getD (cut ws s) flagSection []) ≡ getD s flagAt 0 = ap number (cut-at ws s flagSection) ∙ number-at-one s flagAt in
-    let saved : getD (cut ws s) savedSection [] ≡ take (partSize top) (drop (savedAt top) s) = cut-at ws s savedSection ∙ ap (λ (k : ℕ). take (partSize top) (drop k s)) at in
+    let at : startOf ws savedSection ≡ savedOffset top = omega arith in
+    let phase : number (getD (cut ws s) phaseSection []) ≡ getD s phaseOffset 0 = ap number (cut-at ws s phaseSection) ∙ number-at-one s phaseOffset in
+    let flag : number (getD (cut ws s) flagSection []) ≡ getD s flagOffset 0 = ap number (cut-at ws s flagSection) ∙ number-at-one s flagOffset in
+    let saved : getD (cut ws s) savedSection [] ≡ take (partSize top) (drop (savedOffset top) s) = cut-at ws s savedSection ∙ ap (λ (k : ℕ). take (partSize top) (drop k s)) at in
     rw (phase, flag, cut-at ws s setupSection, cut-at ws s scheduleCountSection, cut-at ws s schedulesSection, cut-at ws s presentSection, saved, counts-at s)

@@ -17,7 +17,7 @@ use Rattle.units.specs.Units.{cents}
 use Rattle.rules.specs.declared.Counts.{Counts}
 use Rattle.rules.specs.Basics.{entries, joined}
 use Rattle.rules.specs.Books.{operatorCount, accountCount, pointCount}
-use Rattle.rules.specs.Opening.{priceIn, operatorIn, accountIn, pointIn, countsIn, operatorsFrom, accountsFrom, pointsFrom, setupLength, estimatesIn, operatorsIn, accountsIn, pointsIn, setupOf, guaranteesOf, operatorBytes, accountBytes, pointBytes, operatorsOf, setupBytes, badCounts, misshapen, faultyOffset, setupChecks, setupRefusal, priceWidth, operatorEntry, accountEntry, pointEntry, countsWidth, estimatesFrom}
+use Rattle.rules.specs.Opening.{priceIn, operatorIn, accountIn, pointIn, countsIn, operatorsOffset, accountsOffset, pointsOffset, setupLength, estimatesIn, operatorsIn, accountsIn, pointsIn, setupOf, guaranteesOf, operatorBytes, accountBytes, pointBytes, operatorsOf, setupBytes, badCounts, misshapen, faultyOffset, setupChecks, setupRefusal, priceWidth, operatorEntry, accountEntry, pointEntry, countsWidth, estimatesOffset}
 use Rattle.rules.proofs.Basics.Tests.{_and_, no-more, holds-all, holds-at, or-neither}
 use Rattle.rules.proofs.Checks.Clearing.{clear, clear-applies, spared}
 use Rattle.rules.proofs.Setups.SetupShape.{accepted-values}
@@ -62,10 +62,10 @@ module _ (s : List ℕ) where
   pub bytes-again : Bytes s → setupLength (countsIn s) ≤ length s → setupBytes (setupOf s) (guaranteesOf s) ≡ take (setupLength (countsIn s)) s
   unfolding setupBytes setupOf estimatesIn operatorsIn accountsIn pointsIn
   bytes-again b l =
-      let at1 : ℕ = operatorsFrom (countsIn s) in
-      let at2 : ℕ = accountsFrom (countsIn s) in
-      let at3 : ℕ = pointsFrom (countsIn s) in
-      let e = joined-entries 4 (λ p. le 4 (p .0)) priceIn (countsIn s .hours) (drop estimatesFrom s) (bytes-drop 5 b) (omega (arith, length-drop 5 s)) price-again in
+      let at1 : ℕ = operatorsOffset (countsIn s) in
+      let at2 : ℕ = accountsOffset (countsIn s) in
+      let at3 : ℕ = pointsOffset (countsIn s) in
+      let e = joined-entries 4 (λ p. le 4 (p .0)) priceIn (countsIn s .hours) (drop estimatesOffset s) (bytes-drop 5 b) (omega (arith, length-drop 5 s)) price-again in
       let o = joined-entries operatorEntry operatorBytes operatorIn (countsIn s .operators) (drop at1 s) (bytes-drop at1 b) (omega (arith, length-drop at1 s)) operator-again in
       let a = joined-entries (accountEntry (countsIn s)) accountBytes accountIn (countsIn s .accounts) (drop at2 s) (bytes-drop at2 b) (omega (arith, length-drop at2 s)) (account-again (countsIn s)) in
       let p = joined-entries pointEntry pointBytes pointIn (countsIn s .points) (drop at3 s) (bytes-drop at3 b) (omega (arith, length-drop at3 s)) point-again in
@@ -116,7 +116,7 @@ module _ (s : List ℕ) (h : setupRefusal s ≡ none) where
   accepted-sound =
       holds-all (setupTests (setupOf s)) (
       (ap (λ (c : Counts). not (badCounts c)) (counts-of-setup s) ∙ rw accepted-counts)
-      and eq-eqb _ _ (length-entries priceWidth priceIn (countsIn s .hours) (drop estimatesFrom s))
+      and eq-eqb _ _ (length-entries priceWidth priceIn (countsIn s .hours) (drop estimatesOffset s))
       and (rw (in-range-values (setupOf s) _ without))
       and no-more
       )
@@ -154,25 +154,25 @@ module _ (r : List ℕ) where
   estimates-front : estimatesIn front ≡ estimatesIn r
   unfolding estimatesIn front
   estimates-front =
-      ap (λ (c : Counts). entries priceWidth priceIn (c .hours) (drop estimatesFrom front)) counts-front ∙ entries-first priceWidth priceIn (countsIn r .hours) 5 (setupLength (countsIn r)) r (omega arith)
+      ap (λ (c : Counts). entries priceWidth priceIn (c .hours) (drop estimatesOffset front)) counts-front ∙ entries-first priceWidth priceIn (countsIn r .hours) 5 (setupLength (countsIn r)) r (omega arith)
 
   operators-front : operatorsIn front ≡ operatorsIn r
   unfolding operatorsIn front
   operators-front =
-      ap (λ (c : Counts). entries operatorEntry operatorIn (c .operators) (drop (operatorsFrom c) front)) counts-front
-      ∙ entries-first operatorEntry operatorIn (countsIn r .operators) (operatorsFrom (countsIn r)) (setupLength (countsIn r)) r (omega arith)
+      ap (λ (c : Counts). entries operatorEntry operatorIn (c .operators) (drop (operatorsOffset c) front)) counts-front
+      ∙ entries-first operatorEntry operatorIn (countsIn r .operators) (operatorsOffset (countsIn r)) (setupLength (countsIn r)) r (omega arith)
 
   accounts-front : accountsIn front ≡ accountsIn r
   unfolding accountsIn front
   accounts-front =
-      ap (λ (c : Counts). entries (accountEntry c) accountIn (c .accounts) (drop (accountsFrom c) front)) counts-front
-      ∙ entries-first (accountEntry (countsIn r)) accountIn (countsIn r .accounts) (accountsFrom (countsIn r)) (setupLength (countsIn r)) r (omega arith)
+      ap (λ (c : Counts). entries (accountEntry c) accountIn (c .accounts) (drop (accountsOffset c) front)) counts-front
+      ∙ entries-first (accountEntry (countsIn r)) accountIn (countsIn r .accounts) (accountsOffset (countsIn r)) (setupLength (countsIn r)) r (omega arith)
 
   points-front : pointsIn front ≡ pointsIn r
   unfolding pointsIn front
   points-front =
-      ap (λ (c : Counts). entries pointEntry pointIn (c .points) (drop (pointsFrom c) front)) counts-front
-      ∙ entries-first pointEntry pointIn (countsIn r .points) (pointsFrom (countsIn r)) (setupLength (countsIn r)) r (omega arith)
+      ap (λ (c : Counts). entries pointEntry pointIn (c .points) (drop (pointsOffset c) front)) counts-front
+      ∙ entries-first pointEntry pointIn (countsIn r .points) (pointsOffset (countsIn r)) (setupLength (countsIn r)) r (omega arith)
 
   pub setup-front : setupOf (take (setupLength (countsIn r)) r) ≡ setupOf r
   unfolding setupOf front

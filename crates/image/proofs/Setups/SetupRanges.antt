@@ -17,7 +17,7 @@ use Rattle.rules.specs.declared.Point.{Point}
 use Rattle.rules.specs.Basics.{if_then_else_, nth, within, Each, nil, cons}
 use Rattle.rules.specs.Limits.{mostEnergy, mostPrice, mostGuarantee, thousand}
 use Rattle.rules.specs.Books.{Setup, noAccount, countsOf, operatorCount}
-use Rattle.rules.specs.Opening.{Value, operatorsOf, operatorsFrom, accountsFrom, pointsFrom, estimatesFrom, valuesOf, estimateValues, operatorValues, accountValues, pointValues, values, faultyOffset, priceWidth, operatorEntry, accountEntry, pointEntry}
+use Rattle.rules.specs.Opening.{Value, operatorsOf, operatorsOffset, accountsOffset, pointsOffset, estimatesOffset, valuesOf, estimateValues, operatorValues, accountValues, pointValues, values, faultyOffset, priceWidth, operatorEntry, accountEntry, pointEntry}
 use Rattle.rules.proofs.Basics.Tests.{and-both, within-true}
 use Rattle.rules.proofs.Basics.Searches.{find-none, none-find, each-map}
 
@@ -151,9 +151,9 @@ pub values-in-range : (u : Setup) (operators : List Operator) → faultyOffset u
 unfolding faultyOffset values
 values-in-range u os h =
     let good : Each Good (values u os) = each-map (λ v e. not-false (v .1) e) (find-none (λ v. not (v .1)) (values u os) (none-found _ h)) in
-    let d = each-split _ (valuesOf pointEntry (pointValues (u .accounts) (u .zones)) (pointsFrom (countsOf u)) (u .points)) good in
-    let c = each-split _ (valuesOf (accountEntry (countsOf u)) (accountValues (operatorCount u)) (accountsFrom (countsOf u)) (u .accounts)) (d .0) in
-    let b = each-split (valuesOf priceWidth estimateValues estimatesFrom (u .estimates)) (valuesOf operatorEntry operatorValues (operatorsFrom (countsOf u)) os) (c .0) in
+    let d = each-split _ (valuesOf pointEntry (pointValues (u .accounts) (u .zones)) (pointsOffset (countsOf u)) (u .points)) good in
+    let c = each-split _ (valuesOf (accountEntry (countsOf u)) (accountValues (operatorCount u)) (accountsOffset (countsOf u)) (u .accounts)) (d .0) in
+    let b = each-split (valuesOf priceWidth estimateValues estimatesOffset (u .estimates)) (valuesOf operatorEntry operatorValues (operatorsOffset (countsOf u)) os) (c .0) in
     record {
       estimates-sound = values-each priceWidth estimateValues sound-price _ _ (b .0);
       operators-sound = values-each operatorEntry operatorValues sound-operator _ _ (b .1);

@@ -21,7 +21,7 @@ use Rattle.rules.specs.declared.Point.{Point}
 use Rattle.rules.specs.Basics.{if_then_else_, entries, joined}
 use Rattle.rules.specs.Limits.{mostEnergy, mostPrice, mostAccounts, mostOperators, mostZones}
 use Rattle.rules.specs.Books.{Setup, countsOf, operatorCount, accountCount, pointCount}
-use Rattle.rules.specs.Opening.{priceIn, operatorIn, accountIn, pointIn, countsIn, operatorsFrom, accountsFrom, pointsFrom, estimatesIn, operatorsIn, accountsIn, pointsIn, setupOf, guaranteesOf, operatorBytes, accountBytes, pointBytes, operatorsOf, setupBytes, priceWidth, operatorEntry, accountEntry, pointEntry, countsWidth}
+use Rattle.rules.specs.Opening.{priceIn, operatorIn, accountIn, pointIn, countsIn, operatorsOffset, accountsOffset, pointsOffset, estimatesIn, operatorsIn, accountsIn, pointsIn, setupOf, guaranteesOf, operatorBytes, accountBytes, pointBytes, operatorsOf, setupBytes, priceWidth, operatorEntry, accountEntry, pointEntry, countsWidth}
 use Rattle.rules.proofs.Basics.Searches.{each-map}
 use Rattle.rules.proofs.Setups.SetupEntries.{entries-joined}
 use Rattle.image.specs.Layout.{setupRoom}
@@ -150,22 +150,22 @@ module _ (u : Setup) (gs : List Cents) (rest : List ℕ) (sound : SoundSetup u) 
   operators-back : operatorsIn bytes ≡ operatorsOf gs (u .maintenance)
   unfolding operatorsIn setupParts setupWidths flat
   operators-back =
-      ap (λ (n : Counts). entries operatorEntry operatorIn (n .operators) (drop (operatorsFrom n) bytes)) counts-back
-      ∙ rw (from 2 (operatorsFrom (countsOf u)) (omega arith), ← (length-operators gs (u .maintenance) all))
+      ap (λ (n : Counts). entries operatorEntry operatorIn (n .operators) (drop (operatorsOffset n) bytes)) counts-back
+      ∙ rw (from 2 (operatorsOffset (countsOf u)) (omega arith), ← (length-operators gs (u .maintenance) all))
       (entries-joined operatorEntry operatorBytes operatorIn (operatorsOf gs (u .maintenance)) _ (each-map operator-back (range .operators-sound)) length-operator-bytes)
 
   accounts-back : accountsIn bytes ≡ u .accounts
   unfolding accountsIn setupParts setupWidths flat
   accounts-back =
-      ap (λ (n : Counts). entries (accountEntry n) accountIn (n .accounts) (drop (accountsFrom n) bytes)) counts-back
-      ∙ rw (from 3 (accountsFrom (countsOf u)) (omega arith))
+      ap (λ (n : Counts). entries (accountEntry n) accountIn (n .accounts) (drop (accountsOffset n) bytes)) counts-back
+      ∙ rw (from 3 (accountsOffset (countsOf u)) (omega arith))
       (entries-joined (accountEntry (countsOf u)) accountBytes accountIn (u .accounts) _ (each-map (account-back (operatorCount u) (sound .operators-high)) (range .accounts-sound)) (length-account-bytes (countsOf u)))
 
   points-back : pointsIn bytes ≡ u .points
   unfolding pointsIn setupParts setupWidths flat
   points-back =
-      ap (λ (n : Counts). entries pointEntry pointIn (n .points) (drop (pointsFrom n) bytes)) counts-back
-      ∙ rw (from 4 (pointsFrom (countsOf u)) (omega arith))
+      ap (λ (n : Counts). entries pointEntry pointIn (n .points) (drop (pointsOffset n) bytes)) counts-back
+      ∙ rw (from 4 (pointsOffset (countsOf u)) (omega arith))
       (entries-joined pointEntry pointBytes pointIn (u .points) _ (each-map (point-back (u .accounts) (u .zones) (sound .accounts-high) (sound .zones-high)) (range .points-sound)) length-point-bytes)
 
   pub bytes-say-setup : setupOf (setupBytes u gs ++ rest) ≡ u

@@ -14,7 +14,7 @@ use Rattle.rules.specs.Books.{Setup, Part, Book, operatorCount, accountCount, p
 use Rattle.rules.specs.Registration.{pending, accountHour, keepsMargins, covered}
 use Rattle.rules.proofs.Basics.Tests.{and-both, Holds, _and_, no-more, all-holds, holds-all, within-true}
 use Rattle.rules.proofs.Basics.Searches.{every-each, each-every, each-map}
-use Rattle.image.specs.Valid.{rowOk, noTwins, marginsKept, guaranteesKept, partTests, partOk, follows, savedOk, bookTests, valid}
+use Rattle.image.specs.Valid.{rowOk, noTwins, marginsKept, operatorsCovered, partTests, partOk, follows, savedOk, bookTests, valid}
 use Rattle.image.proofs.Sound.Soundness.{or-else, or-by, every-upTo, upTo-every, SoundSetup, sound-setup, setup-sound, not-some, SoundRow, sound-row, row-sound, SoundSchedule, sound-schedule, schedule-sound}
 
 -- ---- a part
@@ -30,15 +30,15 @@ pub record SoundPart (u : Setup) (p : Part) : Type 0 where
   pub is-covered : (o : ℕ) → 1 ≤ o → o ≤ operatorCount u → covered u p o ≡ true
 
 part-facts : (u : Setup) (p : Part) → Holds (partTests u p) → SoundPart u p
-unfolding marginsKept guaranteesKept
-part-facts u p (all and guarantees and few and rows and twins and margins and covers and _) = record {
+unfolding marginsKept operatorsCovered
+part-facts u p (all and guarantees and few and rows and twins and margins and includesHour and _) = record {
   guarantees-all = eqb-true _ _ all;
   guarantees-high = each-map (λ g e. leb-true (g .0) mostGuarantee e) (every-each _ (p .guarantees) guarantees);
   rows-high = leb-true _ _ few;
   rows-sound = each-map (sound-row u) (every-each (rowOk u) (p .rows) rows);
   no-twins = twins;
   keeps-margins = λ a h al ah hl hh. every-upTo _ (periods u) (every-upTo _ (accountCount u) margins a al ah) h hl hh;
-  is-covered = every-upTo (covered u p) (operatorCount u) covers;
+  is-covered = every-upTo (covered u p) (operatorCount u) includesHour;
 }
 
 pub sound-part : (u : Setup) (p : Part) → partOk u p ≡ true → SoundPart u p
@@ -46,7 +46,7 @@ unfolding partOk
 sound-part u p h = part-facts u p (all-holds (partTests u p) h)
 
 pub part-sound : (u : Setup) (p : Part) → SoundPart u p → partOk u p ≡ true
-unfolding partOk marginsKept guaranteesKept
+unfolding partOk marginsKept operatorsCovered
 part-sound u p s =
     holds-all (partTests u p) (
     eq-eqb _ _ (s .guarantees-all)

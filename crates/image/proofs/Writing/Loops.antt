@@ -12,7 +12,7 @@ use Rattle.wire.specs.Regions.{splice}
 use Rattle.wire.specs.Parts.{sweep}
 use Rattle.wire.proofs.NumberLaws.{length-le, le-same, number-at-one}
 use Rattle.wire.proofs.RegionLaws.{splice-left, splice-right, splice-all, length-splice}
-use Rattle.image.specs.Layout.{rowWidth, statusIn}
+use Rattle.image.specs.Layout.{rowWidth, statusOffset}
 use Rattle.image.specs.Changes.{raised, ended}
 
 -- ---- what is left
@@ -79,18 +79,18 @@ unfolding raised numberAt
 raised-step w s at more v e = ap (splice s at) (sym (le-same w v (number (take w (drop at s)) + more) e))
 
 module _ (s : List ℕ) (at : ℕ) (h : at + rowWidth ≤ length s) where
-  status-at : getD (take rowWidth (drop at s)) statusIn 0 ≡ numberAt s (at + statusIn) 1
+  status-at : getD (take rowWidth (drop at s)) statusOffset 0 ≡ numberAt s (at + statusOffset) 1
   status-at =
-      getD-take rowWidth (drop at s) statusIn 0 (omega arith) ∙ getD-drop at s statusIn 0 ∙ sym (number-at-one s (at + statusIn))
+      getD-take rowWidth (drop at s) statusOffset 0 (omega arith) ∙ getD-drop at s statusOffset 0 ∙ sym (number-at-one s (at + statusOffset))
 
   -- a pending row is withdrawn
-  pub ended-pending : numberAt s (at + statusIn) 1 ≡ 1
-      → splice s at (ended (take rowWidth (drop at s))) ≡ splice s (at + statusIn) (le 1 3)
+  pub ended-pending : numberAt s (at + statusOffset) 1 ≡ 1
+      → splice s at (ended (take rowWidth (drop at s))) ≡ splice s (at + statusOffset) (le 1 3)
   unfolding ended
   ended-pending e =
-      rw (eq-eqb _ 1 (status-at ∙ e)) (splice-piece s at rowWidth h statusIn (le 1 3) (omega (arith, length-le 1 3)))
+      rw (eq-eqb _ 1 (status-at ∙ e)) (splice-piece s at rowWidth h statusOffset (le 1 3) (omega (arith, length-le 1 3)))
 
   -- any other stands
-  pub ended-other : (numberAt s (at + statusIn) 1 ≡ 1 → ⊥) → splice s at (ended (take rowWidth (drop at s))) ≡ s
+  pub ended-other : (numberAt s (at + statusOffset) 1 ≡ 1 → ⊥) → splice s at (ended (take rowWidth (drop at s))) ≡ s
   unfolding ended
   ended-other n = rw (ne-eqb _ 1 (λ e. n (sym status-at ∙ e))) (splice-same s at rowWidth h)

@@ -22,7 +22,7 @@ use Rattle.rules.specs.declared.Row.{Row}
 use Rattle.rules.specs.Basics.{nth, upTo}
 use Rattle.rules.specs.Limits.{mostAccounts}
 use Rattle.rules.specs.Books.{noRow}
-use Rattle.rules.specs.Registration.{pending, seller, buyer, covers, mark, bought, sold}
+use Rattle.rules.specs.Registration.{pending, seller, buyer, includesHour, mark, bought, sold}
 use Rattle.rules.proofs.Basics.Searches.{counting-at, counting-length}
 use Rattle.rules.proofs.Rows.Balanced.{picked-in}
 use Rattle.rules.proofs.Rows.AccountHours.{share, moved-confirm}
@@ -184,7 +184,7 @@ share-none : (party : Row → ℕ) (r : Row) (a h : ℕ) → (a ≡ party r → 
 share-none party r a h o =
     ⊎-elim (λ (e : a ≡ party r). ⊎-elim (λ (l : h < r .first). rw (lt-leb (r .first) h l)) (λ (l : r .last < h).
     rw (lt-leb h (r .last) l, and-false (leb (r .first) h))) (o e)) (λ (n : a ≡ party r → ⊥).
-    rw (ne-eqb (party r) a (λ e. n (sym e)), and-false (covers h r))) (or-not a (party r))
+    rw (ne-eqb (party r) a (λ e. n (sym e)), and-false (includesHour h r))) (or-not a (party r))
 
 share-all : (party : Row → ℕ) (r : Row) (h : ℕ) → r .first ≤ h → h ≤ r .last → share party (party r) h r ≡ r .quantity .0
 share-all party r h a b = rw (le-leb (r .first) h a, le-leb h (r .last) b, eq-eqb (party r) (party r) refl)

@@ -25,7 +25,7 @@ use Rattle.rules.specs.Books.{Part, noRow}
 use Rattle.rules.specs.Registration.{pending, seller, buyer, withStatus, mark, closed}
 use Rattle.rules.proofs.Rows.RowChanges.{length-mark}
 use Rattle.rules.proofs.Rows.AccountHours.{pending-inside, moved-added, moved-withdraw, moved-close}
-use Rattle.image.specs.Layout.{rowWidths, rowWidth, accountWidth, partWidths, rowCountAt, rowAt, netAt, statusIn, netWidth, guaranteesSection, rowCountSection, rowsSection, netsSection}
+use Rattle.image.specs.Layout.{rowWidths, rowWidth, accountWidth, partWidths, rowCountOffset, rowOffset, netOffset, statusOffset, netWidth, guaranteesSection, rowCountSection, rowsSection, netsSection}
 use Rattle.rules.specs.Opening.{guaranteeWidth}
 use Rattle.image.specs.Image.{rowValues, rowBytes, netsBytes, partSections, partBytes}
 use Rattle.image.specs.Changes.{raised, ended}
@@ -34,27 +34,27 @@ use Rattle.image.proofs.Writing.Nets.{length-raised, nets-kept, nets-co
 
 -- ---- a row
 
-pub row-status : (r : Row) (status : ℕ) → splice (rowBytes r) statusIn (le 1 status) ≡ rowBytes (withStatus status r)
+pub row-status : (r : Row) (status : ℕ) → splice (rowBytes r) statusOffset (le 1 status) ≡ rowBytes (withStatus status r)
 unfolding rowBytes
-row-status r status = write-number rowWidths (rowValues r) 7 statusIn status refl (omega arith) (omega arith)
+row-status r status = write-number rowWidths (rowValues r) 7 statusOffset status refl (omega arith) (omega arith)
 
-pub status-read : (r : Row) → r .status < 256 → getD (rowBytes r) statusIn 0 ≡ r .status
+pub status-read : (r : Row) → r .status < 256 → getD (rowBytes r) statusOffset 0 ≡ r .status
 unfolding rowBytes pack pieces flat le
 status-read r h = omega arith
 
 pub length-ended : (c : List ℕ) → length c ≡ rowWidth → length (ended c) ≡ rowWidth
 unfolding ended
-length-ended c h = go (eqb (getD c statusIn 0) 1)
+length-ended c h = go (eqb (getD c statusOffset 0) 1)
   where
-    go : (t : Bool) → length (if t then splice c statusIn (le 1 3) else c) ≡ rowWidth
-    go true = length-splice c statusIn (le 1 3) (omega (arith, length-le 1 3)) ∙ h
+    go : (t : Bool) → length (if t then splice c statusOffset (le 1 3) else c) ≡ rowWidth
+    go true = length-splice c statusOffset (le 1 3) (omega (arith, length-le 1 3)) ∙ h
     go false = h
 
 pub row-ended : (r : Row) → r .status < 256 → ended (rowBytes r) ≡ rowBytes (if pending r then withStatus 3 r else r)
 unfolding ended
 row-ended r h = rw (status-read r h) (go (pending r))
   where
-    go : (t : Bool) → (if t then splice (rowBytes r) statusIn (le 1 3) else rowBytes r) ≡ rowBytes (if t then withStatus 3 r else r)
+    go : (t : Bool) → (if t then splice (rowBytes r) statusOffset (le 1 3) else rowBytes r) ≡ rowBytes (if t then withStatus 3 r else r)
     go true = row-status r 3
     go false = refl
 
@@ -85,8 +85,8 @@ module _ (top : ℕ) (p : Part) (f : PartFits p) where
   over-part rows = refl
 
   -- a pending row more, and the count
-  pub part-row : (r : Row) (n at : ℕ) → pending r ≡ true → n ≡ length (p .rows) → n < mostRows → at ≡ rowAt n
-      → splice (splice (partBytes top p) at (rowBytes r)) rowCountAt (le 2 (n + 1))
+  pub part-row : (r : Row) (n at : ℕ) → pending r ≡ true → n ≡ length (p .rows) → n < mostRows → at ≡ rowOffset n
+      → splice (splice (partBytes top p) at (rowBytes r)) rowCountOffset (le 2 (n + 1))
       ≡ partBytes top (record { guarantees = p .guarantees; rows = p .rows ++ r ∷ [] })
   unfolding partBytes partSections
   part-row r n at waits e h a =
@@ -102,23 +102,23 @@ module _ (top : ℕ) (p : Part) (f : PartFits p) where
       let y : List ℕ = slots rowWidth mostRows rowBytes rows′ in
       let ly : length y ≡ rowWidth * mostRows = length-slots rowWidth mostRows rowBytes length-row rows′ (omega arith) in
       let one = write-part ws ss w rowsSection (rowWidth * n) at (rowBytes r) (omega arith) (omega (arith, length-row r)) (omega arith) in
-      let two = write-whole ws (set ss rowsSection y) (wide-set ws ss rowsSection y w ly) rowCountSection rowCountAt (le 2 (n + 1)) (omega arith) (length-le 2 _) (omega arith) in
-      ap (λ (s : List ℕ). splice s rowCountAt (le 2 (n + 1))) (one ∙ rw more) ∙ two ∙ rw (m, nets)
+      let two = write-whole ws (set ss rowsSection y) (wide-set ws ss rowsSection y w ly) rowCountSection rowCountOffset (le 2 (n + 1)) (omega arith) (length-le 2 _) (omega arith) in
+      ap (λ (s : List ℕ). splice s rowCountOffset (le 2 (n + 1))) (one ∙ rw more) ∙ two ∙ rw (m, nets)
 
   -- a row gets a status; the nets stand
-  part-mark : (i status at : ℕ) → i < length (p .rows) → at ≡ rowAt i + statusIn
+  part-mark : (i status at : ℕ) → i < length (p .rows) → at ≡ rowOffset i + statusOffset
       → splice (partBytes top p) at (le 1 status) ≡ flat (partOver p (mark (suc i) status (p .rows)) (netsBytes top (p .rows)))
   unfolding partBytes partSections partOver mark
   part-mark i status at h a =
       let rf = f .rows-fit in
       let l = length-le 1 status in
       let r : Row = getD (p .rows) i noRow in
-      let more = slots-set rowWidth mostRows rowBytes length-row (p .rows) i statusIn (rowWidth * i + statusIn) (le 1 status) noRow (withStatus status r) rf h (omega arith) refl (row-status r status) in
-      write-part (partWidths top) (partSections top p) (wide-part top p f) rowsSection (rowWidth * i + statusIn) at (le 1 status) (omega arith) (omega arith) (omega arith)
+      let more = slots-set rowWidth mostRows rowBytes length-row (p .rows) i statusOffset (rowWidth * i + statusOffset) (le 1 status) noRow (withStatus status r) rf h (omega arith) refl (row-status r status) in
+      write-part (partWidths top) (partSections top p) (wide-part top p f) rowsSection (rowWidth * i + statusOffset) at (le 1 status) (omega arith) (omega arith) (omega arith)
       ∙ rw (more, length-set (p .rows) i (withStatus status r))
 
   -- a pending row withdrawn
-  pub part-withdraw : (number i at : ℕ) → number ≡ suc i → pending (nth (p .rows) number noRow) ≡ true → at ≡ rowAt i + statusIn
+  pub part-withdraw : (number i at : ℕ) → number ≡ suc i → pending (nth (p .rows) number noRow) ≡ true → at ≡ rowOffset i + statusOffset
       → splice (partBytes top p) at (le 1 3)
       ≡ partBytes top (record { guarantees = p .guarantees; rows = mark number 3 (p .rows) })
   part-withdraw number i at e pend a =
@@ -130,7 +130,7 @@ module _ (top : ℕ) (p : Part) (f : PartFits p) where
   -- a pending row confirmed: its status, then the hours of its seller, then those of its buyer
   pub part-confirm : (number i n at low high : ℕ) (r : Row) → number ≡ suc i → r ≡ nth (p .rows) number noRow → pending r ≡ true
       → RowFits top r → r .first + n ≡ suc (r .last)
-      → at ≡ rowAt i + statusIn → low ≡ netAt top (seller r) (r .first) → high ≡ netAt top (buyer r) (r .first)
+      → at ≡ rowOffset i + statusOffset → low ≡ netOffset top (seller r) (r .first) → high ≡ netOffset top (buyer r) (r .first)
       → sweep (raised netWidth (r .quantity .0)) netWidth (sweep (raised netWidth (256 ^ netWidth - r .quantity .0)) netWidth (splice (partBytes top p) at (le 1 2)) low n) high n
       ≡ partBytes top (record { guarantees = p .guarantees; rows = mark number 2 (p .rows) })
   unfolding partOver
@@ -178,7 +178,7 @@ module _ (top : ℕ) (p : Part) (f : PartFits p) where
       ∙ rw (e, more)
 
   -- a loop over the rows: the pending ones withdrawn
-  pub part-close : (n at : ℕ) → n ≡ length (p .rows) → Each (λ r. r .status < 256) (p .rows) → at ≡ rowAt 0
+  pub part-close : (n at : ℕ) → n ≡ length (p .rows) → Each (λ r. r .status < 256) (p .rows) → at ≡ rowOffset 0
       → sweep ended rowWidth (partBytes top p) at n
       ≡ partBytes top (record { guarantees = p .guarantees; rows = closed (p .rows) })
   unfolding partBytes partSections closed

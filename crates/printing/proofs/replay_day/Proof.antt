@@ -4,8 +4,8 @@ use mathlib.Core.Path.{_≡_, refl, _∙_}
 use native.Mathlib.Omega.{arith}
 use lib.ListN.{length}
 use Rattle.rules.proofs.Basics.Tests.{and-both}
-use Rattle.walk.specs.Lent.{stepRoom}
-use Rattle.walk.specs.Gathering.{Underway, soFar}
+use Rattle.replaying.specs.Lent.{stepRoom}
+use Rattle.replaying.specs.Gathering.{Underway, soFar}
 use Rattle.printing.proofs.RoundLaws.{Led, led-none, led-on, replayed}
 use borrow.Author.Needs.{needs}
 use Rattle.printing.proofs.replay_day.Statement.{statement}

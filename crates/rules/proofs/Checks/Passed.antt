@@ -20,7 +20,7 @@ use Rattle.rules.specs.Books.{Part, Book, noRow, operatorCount, countsOf
 use Rattle.rules.specs.Requests.{Kind, register, confirm, withdraw, guarantee, openBatch, undo, keep, closeGate, schedule, settle, kindNumber, kindOf, isKind, wantedMap, wantedLength, mapOf, fieldIn, requestOf, unreadable, readChecks, fieldCount, bits, inRange, faultyField, faultyBit, sameAccounts}
 use Rattle.rules.specs.Registration.{alike, confirms, withdraws, mirrors, brokenHour, covered}
 use Rattle.rules.specs.Settlement.{priceCount, pricesIn}
-use Rattle.rules.specs.Calls.{Call, requestIn, kindIn, next, given, confirmedNumber, _oneOf_, phaseOf, weighsOn, inputChecks, stateChecks, checks, refusal, answer, step}
+use Rattle.rules.specs.Calls.{Call, callRequest, callKind, next, given, confirmedNumber, _oneOf_, phaseOf, exposedOperator, inputChecks, stateChecks, checks, refusal, answer, step}
 use Rattle.rules.proofs.Basics.Tests.{within-true, or-neither, and-spared}
 use Rattle.rules.proofs.Basics.Searches.{some-of, none-of, counted-has, find-none}
 use Rattle.rules.proofs.Checks.Clearing.{never-both, Clear, clear, clear-split, clear-at, spared, spared↑, spared-for, spared↑-for}
@@ -153,7 +153,7 @@ module _ (b : Book) (q : Request) where
 
   -- exposure is covered on the book as it will be
   pub passed-19 : (k : Kind) → k oneOf (register ∷ confirm ∷ guarantee ∷ []) ≡ true → Clear (stateChecks b k q)
-      → covered (b .setup) (next k b q .part) (weighsOn k (b .setup) q) ≡ true
+      → covered (b .setup) (next k b q .part) (exposedOperator k (b .setup) q) ≡ true
   unfolding stateChecks
   passed-19 k e h = not-false _ (spared-for _ _ _ e (clear-at 9 (stateChecks b k q) h))
 
@@ -166,11 +166,11 @@ module _ (b : Book) (q : Request) where
 
 -- an accepted call: the next book and the number that it gives, with every check passed
 pub record Passed (b : Book) (c : Call) : Type 0 where
-  pub book : step b c .book ≡ next (kindIn c) b (requestIn c)
-  pub outcome : step b c .outcome ≡ accepted (given (kindIn c) b (requestIn c))
+  pub book : step b c .book ≡ next (callKind c) b (callRequest c)
+  pub outcome : step b c .outcome ≡ accepted (given (callKind c) b (callRequest c))
   pub read : Clear (readChecks (c .bytes))
-  pub input : Clear (inputChecks b c (kindIn c) (requestIn c))
-  pub state : Clear (stateChecks b (kindIn c) (requestIn c))
+  pub input : Clear (inputChecks b c (callKind c) (callRequest c))
+  pub state : Clear (stateChecks b (callKind c) (callRequest c))
 
 -- a refused call: why, and the book and both buffers as they were
 pub record Kept (b : Book) (c : Call) : Type 0 where
@@ -181,7 +181,7 @@ pub record Kept (b : Book) (c : Call) : Type 0 where
   pub balances : step b c .balances ≡ c .balances
 
 -- the request says the call's kind
-pub passed-kind : {b : Book} {c : Call} → Passed b c → kindNumber (kindIn c) ≡ requestIn c .kind
+pub passed-kind : {b : Book} {c : Call} → Passed b c → kindNumber (callKind c) ≡ callRequest c .kind
 unfolding requestOf
 passed-kind {c} p = kind-number (fieldIn (c .bytes) 0) (passed-3 (c .bytes) (p .read))
 
@@ -189,8 +189,8 @@ pub passed : (b : Book) (c : Call) → refusal b c ≡ none → Passed b c
 unfolding step answer refusal checks
 passed b c e =
     let r = readChecks (c .bytes) in
-    let i = inputChecks b c (kindIn c) (requestIn c) in
-    let s = stateChecks b (kindIn c) (requestIn c) in
+    let i = inputChecks b c (callKind c) (callRequest c) in
+    let s = stateChecks b (callKind c) (callRequest c) in
     let outer = clear-split (r ++ i) s (clear (checks b c) e) in
     let inner = clear-split r i (outer .0) in
     record { book = rw e; outcome = rw e; read = inner .0; input = inner .1; state = outer .1 }

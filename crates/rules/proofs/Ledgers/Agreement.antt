@@ -13,9 +13,9 @@ use Rattle.rules.specs.Books.{Part, Book, noRow}
 use Rattle.rules.specs.Opening.{opened}
 use Rattle.rules.specs.Requests.{Kind, register, confirm, withdraw, guarantee, openBatch, undo, keep, closeGate, schedule, settle, kindNumber}
 use Rattle.rules.specs.Registration.{moved, confirms}
-use Rattle.rules.specs.Calls.{Call, kindIn, requestIn, next, numberFrom, confirmedNumber, scheduled, inputChecks, stateChecks, step, apply}
+use Rattle.rules.specs.Calls.{Call, callKind, callRequest, next, numberFrom, confirmedNumber, scheduled, inputChecks, stateChecks, step, apply}
 use Rattle.rules.specs.Lists.{accepts, after, runs, heard}
-use Rattle.rules.specs.Ledger.{Page, Ledger, blank, newLedger, tradeOf, turn, feed, fed, fedAll, traded, ledgerAfter}
+use Rattle.rules.specs.Ledger.{Page, Ledger, blank, newLedger, tradeOf, pageAfter, feed, fed, fedAll, traded, ledgerAfter}
 use Rattle.rules.proofs.Basics.Searches.{each-nth}
 use Rattle.rules.proofs.Checks.Clearing.{Clear}
 use Rattle.rules.proofs.Checks.Passed.{Passed, Kept, passed-kind, step-cases, passed-11, passed-12, passed-13, passed-16-confirm}
@@ -79,7 +79,7 @@ undone phase xs o p g e s = rw e at s
 
 next-agrees : (k : Kind) (b : Book) (c : Call) (q : Request) (l : Ledger) → kindNumber k ≡ q .kind → Clear (inputChecks b c k q)
     → Clear (stateChecks b k q) → Ranged b → Agrees b l → Agrees (next k b q) (feed k q l)
-unfolding apply feed turn confirms
+unfolding apply feed pageAfter confirms
 next-agrees register b c q l e i h r g =
     record { setup = g .setup; part = rows-added-agrees (b .part) (l .page) (cons refl nil) (g .part); schedules = g .schedules; saved = g .saved }
 next-agrees confirm b c q l e i h r g =
@@ -140,7 +140,7 @@ step-agrees b c l r g = go (step-cases b c)
     go : Kept b c ⊎ Passed b c → Agrees (step b c .book) (fed (c .bytes) (accepts step b c) l)
     go (inl kept) = rw (kept .book, kept .outcome) g
     go (inr p) =
-        rw (p .book, p .outcome) (next-agrees (kindIn c) b c (requestIn c) l (passed-kind p) (p .input) (p .state) r g)
+        rw (p .book, p .outcome) (next-agrees (callKind c) b c (callRequest c) l (passed-kind p) (p .input) (p .state) r g)
 
 pub list-agrees : (b : Book) (l : Ledger) (cs : List Call) → Ranged b → Agrees b l → Agrees (after step b cs) (fedAll l (heard step b cs))
 unfolding after fedAll heard runs

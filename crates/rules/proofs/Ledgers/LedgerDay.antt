@@ -17,7 +17,7 @@ use Rattle.rules.specs.Requests.{settle}
 use Rattle.rules.specs.Registration.{netOf, available}
 use Rattle.rules.specs.Readings.{position, netReading, exposureReading}
 use Rattle.rules.specs.Settlement.{pricesIn, results, balances, registeredTotal, balanceFigure}
-use Rattle.rules.specs.Calls.{Call, drawnUp, Settled, kindIn, _oneOf_, workedOut, settles, refusal, step, settlement}
+use Rattle.rules.specs.Calls.{Call, drawnUp, Settled, callKind, _oneOf_, workedOut, settles, refusal, step, settlement}
 use Rattle.rules.specs.Lists.{after, heard}
 use Rattle.rules.specs.Ledger.{Ledger, newLedger, feed, fed, fedAll, ledgerNet, ledgerExposure, ledgerAvailable, ledgerAfter}
 use Rattle.rules.proofs.Ledgers.Ranged.{Ranged, opened-ranged, last-ranged}
@@ -58,7 +58,7 @@ module _ (b : Book) (c : Call) (l : Ledger) (w : Settled) (owned : Owned (b .set
   worked-go : (o : Option Refusal) → workedOut b c o ≡ some w → SettledBy l c w
   unfolding workedOut settles
   worked-go (some x) h = absurd (never w h)
-  worked-go none h = settles-go (kindIn c oneOf (settle ∷ [])) h
+  worked-go none h = settles-go (callKind c oneOf (settle ∷ [])) h
 
   pub settled-by : settlement b c ≡ some w → SettledBy l c w
   unfolding settlement
@@ -96,12 +96,12 @@ module _ (s : List ℕ) (cs : List Call) where
 
   -- every reading of net
   pub day-net : (a h : ℕ) → within 1 a (accountCount (setupOf s)) ≡ true → within 1 h (periods (setupOf s)) ≡ true
-      → netReading dayBook a h ≡ NetReading.Stands (position (ledgerNet dayLedger a h))
+      → netReading dayBook a h ≡ NetReading.Read (position (ledgerNet dayLedger a h))
   day-net a h i j = net-read-is-the-ledgers dayBook dayLedger agrees a h (rw day-setup i) (rw day-setup j)
 
   -- every reading of exposure
   pub day-exposure : (o : ℕ) → within 1 o (operatorCount (setupOf s)) ≡ true
-      → exposureReading dayBook o ≡ ExposureReading.Stands (milliCents (ledgerExposure dayLedger o))
+      → exposureReading dayBook o ≡ ExposureReading.Read (milliCents (ledgerExposure dayLedger o))
   day-exposure o i = exposure-read-is-the-ledgers dayBook dayLedger agrees o (rw day-setup i)
 
   -- what is available

@@ -13,7 +13,7 @@ use Rattle.rules.specs.declared.ExposureReading.{ExposureReading}
 use Rattle.rules.specs.Basics.{within}
 use Rattle.rules.specs.Verdicts.{firstToApply}
 use Rattle.rules.specs.Books.{Book, accountCount, operatorCount, periods}
-use Rattle.rules.specs.Registration.{covers, counted, pending, waiting, netOf, accountHour, exposure, available}
+use Rattle.rules.specs.Registration.{includesHour, counted, pending, waiting, netOf, accountHour, exposure, available}
 use Rattle.rules.specs.Readings.{position, netReading, exposureReading}
 use Rattle.rules.specs.Settlement.{settled, results, balances, registeredTotal}
 use Rattle.rules.specs.Ledger.{Ledger, ledgerNet, ledgerWaiting, ledgerHour, ledgerExposure, ledgerAvailable, ledgerSettled}
@@ -32,11 +32,11 @@ module _ (b : Book) (l : Ledger) (g : Agrees b l) where
   waiting-is-the-ledgers side a h = rw (g .part .pending) (total-entries _ _ held ended 1 (b .part .rows))
     where
       held : (r : Row) → pending r ≡ true
-          → counted (λ r. pending r && covers h r && eqb (r .proposer) a && eqb (r .side) side) r
-          ≡ counted (λ r. covers h r && eqb (r .proposer) a && eqb (r .side) side) r
+          → counted (λ r. pending r && includesHour h r && eqb (r .proposer) a && eqb (r .side) side) r
+          ≡ counted (λ r. includesHour h r && eqb (r .proposer) a && eqb (r .side) side) r
       held r e = rw e
 
-      ended : (r : Row) → pending r ≡ false → counted (λ r. pending r && covers h r && eqb (r .proposer) a && eqb (r .side) side) r ≡ 0
+      ended : (r : Row) → pending r ≡ false → counted (λ r. pending r && includesHour h r && eqb (r .proposer) a && eqb (r .side) side) r ≡ 0
       ended r e = rw e
 
   pub hour-is-the-ledgers : (a h : ℕ) → accountHour (b .part .rows) a h ≡ ledgerHour l a h
@@ -59,13 +59,13 @@ module _ (b : Book) (l : Ledger) (g : Agrees b l) where
 
   -- a net position that is read is the ledger's
   pub net-read-is-the-ledgers : (a h : ℕ) → within 1 a (accountCount (l .setup)) ≡ true → within 1 h (periods (l .setup)) ≡ true
-      → netReading b a h ≡ NetReading.Stands (position (ledgerNet l a h))
+      → netReading b a h ≡ NetReading.Read (position (ledgerNet l a h))
   unfolding netReading firstToApply
   net-read-is-the-ledgers a h i j = rw (g .setup, i, j, net-is-the-ledgers a h)
 
   -- and so is an exposure
   pub exposure-read-is-the-ledgers : (o : ℕ) → within 1 o (operatorCount (l .setup)) ≡ true
-      → exposureReading b o ≡ ExposureReading.Stands (milliCents (ledgerExposure l o))
+      → exposureReading b o ≡ ExposureReading.Read (milliCents (ledgerExposure l o))
   unfolding exposureReading firstToApply
   exposure-read-is-the-ledgers o i = rw (exposure-is-the-ledgers o, g .setup, i)
 

@@ -16,7 +16,7 @@ use Rattle.rules.specs.Books.{Part, Book, accountCount, pointCount, coun
 use Rattle.rules.specs.Opening.{opened}
 use Rattle.rules.specs.Requests.{Kind, register, confirm, withdraw, guarantee, openBatch, undo, keep, closeGate, schedule, settle, kindNumber, wantedMap, inRange, faultyBit}
 use Rattle.rules.specs.Registration.{withStatus, proposed}
-use Rattle.rules.specs.Calls.{Call, kindIn, requestIn, Change, addRows, setStatus, setGuarantee, savePart, restorePart, dropSaved, shutGate, addSchedule, endDay, scheduled, change, restored, apply, inputChecks, step}
+use Rattle.rules.specs.Calls.{Call, callKind, callRequest, Change, addRows, setStatus, setGuarantee, savePart, restorePart, dropSaved, shutGate, addSchedule, endDay, scheduled, change, restored, apply, inputChecks, step}
 use Rattle.rules.specs.Lists.{after}
 use Rattle.rules.proofs.Basics.Tests.{within-true}
 use Rattle.rules.proofs.Basics.Searches.{each-snoc, each-append}
@@ -155,7 +155,7 @@ step-ranged b c g = go (step-cases b c)
   where
     go : Kept b c ⊎ Passed b c → Ranged (step b c .book)
     go (inl kept) = rw (kept .book) g
-    go (inr p) = rw (p .book) (apply-ranged (change (kindIn c) b (requestIn c)) b (change-adds (kindIn c) b c (requestIn c) (passed-kind p) (p .input)) g)
+    go (inr p) = rw (p .book) (apply-ranged (change (callKind c) b (callRequest c)) b (change-adds (callKind c) b c (callRequest c) (passed-kind p) (p .input)) g)
 
 pub last-ranged : (b : Book) (cs : List Call) → Ranged b → Ranged (after step b cs)
 unfolding after

@@ -15,7 +15,7 @@ use Rattle.rules.specs.Basics.{if_then_else_, total, every}
 use Rattle.rules.specs.Verdicts.{accepted}
 use Rattle.rules.specs.Books.{Part, Book, withPart, withSaved}
 use Rattle.rules.specs.Requests.{Kind, register, confirm, withdraw, guarantee, openBatch, undo, keep, closeGate, schedule, settle}
-use Rattle.rules.specs.Calls.{Call, requestIn, kindIn, restored, confirmedNumber, next, given, _oneOf_, stateChecks, step, apply, restorePart}
+use Rattle.rules.specs.Calls.{Call, callRequest, callKind, restored, confirmedNumber, next, given, _oneOf_, stateChecks, step, apply, restorePart}
 use Rattle.rules.specs.Lists.{after, acceptsAs, rowsRegistered, endsNoBatch, UndoneBatch, CutOut, runs}
 use Rattle.rules.proofs.Basics.Tests.{and-both, and-spared}
 use Rattle.rules.proofs.Checks.Clearing.{Clear}
@@ -30,8 +30,8 @@ use Rattle.rules.proofs.Lists.CallLists.{after-append, cut-out, kept-re
 pub the-kind : (k j : Kind) → k oneOf (j ∷ []) ≡ true → k ≡ j
 the-kind k j h = same-kind k j (sym (or-false _) ∙ h)
 
-passed-as : (b : Book) (c : Call) (k : Kind) → acceptsAs step (k ∷ []) b c ≡ true → Passed b c × (kindIn c ≡ k)
-passed-as b c k h = let w = and-both _ _ .0 h in (accepts-passed b c (w .0), the-kind (kindIn c) k (w .1))
+passed-as : (b : Book) (c : Call) (k : Kind) → acceptsAs step (k ∷ []) b c ≡ true → Passed b c × (callKind c ≡ k)
+passed-as b c k h = let w = and-both _ _ .0 h in (accepts-passed b c (w .0), the-kind (callKind c) k (w .1))
 
 -- ---- while a batch is open
 
@@ -88,7 +88,7 @@ within-go : {o : Book} {n : ℕ} (b : Book) (c : Call) → acceptsAs step (undo 
     → Within o (rowsOf b c + n) (step b c .book)
 within-go b c e w (inl kept) = rw (kept-refused kept, kept .book, zero-add) w
 within-go b c e w (inr p) =
-    rw (passed-accepted p, p .book) (within-next w (requestIn c) (kindIn c) (and-spared _ _ (passed-accepted p) e) (p .state))
+    rw (passed-accepted p, p .book) (within-next w (callRequest c) (callKind c) (and-spared _ _ (passed-accepted p) e) (p .state))
 
 within-after : {o : Book} {n : ℕ} (b : Book) (cs : List Call) → endsNoBatch step b cs ≡ true → Within o n b
     → Within o (rowsRegistered step b cs + n) (after step b cs)
@@ -105,25 +105,25 @@ within-open b q e = record { part = b .part; book = refl; phase = e; numbers = o
 -- ---- an undone batch
 
 module _ (b : Book) (opening : Call) (between : List Call) (undoing : Call) (batch : UndoneBatch step b opening between undoing) where
-  opened-batch : Passed b opening × (kindIn opening ≡ openBatch)
+  opened-batch : Passed b opening × (callKind opening ≡ openBatch)
   opened-batch = passed-as b opening openBatch (batch .opens)
 
-  undone-batch : Passed (after step b (opening ∷ between)) undoing × (kindIn undoing ≡ undo)
+  undone-batch : Passed (after step b (opening ∷ between)) undoing × (callKind undoing ≡ undo)
   undone-batch = passed-as (after step b (opening ∷ between)) undoing undo (batch .undoes)
 
-  step-open : step b opening .book ≡ next openBatch b (requestIn opening)
-  step-open = opened-batch .0 .book ∙ ap (λ (k : Kind). next k b (requestIn opening)) (opened-batch .1)
+  step-open : step b opening .book ≡ next openBatch b (callRequest opening)
+  step-open = opened-batch .0 .book ∙ ap (λ (k : Kind). next k b (callRequest opening)) (opened-batch .1)
 
   phase-open : b .phase ≡ 1
-  phase-open = passed-11 b (requestIn opening) openBatch (rw (opened-batch .1) at (opened-batch .0 .state))
+  phase-open = passed-11 b (callRequest opening) openBatch (rw (opened-batch .1) at (opened-batch .0 .state))
 
   saved-none : b .saved ≡ none
-  saved-none = passed-12 b (requestIn opening) openBatch refl (rw (opened-batch .1) at (opened-batch .0 .state))
+  saved-none = passed-12 b (callRequest opening) openBatch refl (rw (opened-batch .1) at (opened-batch .0 .state))
 
   within-batch : Within b (rowsRegistered step (after step b (opening ∷ [])) between) (after step b (opening ∷ between))
   unfolding after
   within-batch =
-      let start : Within b 0 (step b opening .book) = rw step-open (within-open b (requestIn opening) phase-open) in
+      let start : Within b 0 (step b opening .book) = rw step-open (within-open b (callRequest opening) phase-open) in
       rw add-zero at (within-after (step b opening .book) between (batch .goes-on) start)
 
   undo-within : (m : ℕ) (x : Book) (q : Request) → Within b m x → next undo x q ≡ b
@@ -136,8 +136,8 @@ module _ (b : Book) (opening : Call) (between : List Call) (undoing : Call) (bat
   undo-restores =
       after-append step b (opening ∷ between) (undoing ∷ [])
       ∙ undone-batch .0 .book
-      ∙ ap (λ (k : Kind). next k (after step b (opening ∷ between)) (requestIn undoing)) (undone-batch .1)
-      ∙ undo-within _ _ (requestIn undoing) within-batch
+      ∙ ap (λ (k : Kind). next k (after step b (opening ∷ between)) (callRequest undoing)) (undone-batch .1)
+      ∙ undo-within _ _ (callRequest undoing) within-batch
 
   -- and gives the number of rows registered since
   pub undo-counts : step (after step b (opening ∷ between)) undoing .outcome ≡ accepted (rowsRegistered step (after step b (opening ∷ [])) between)
@@ -148,7 +148,7 @@ module _ (b : Book) (opening : Call) (between : List Call) (undoing : Call) (bat
       let count : length (x .part .rows) - length (restored (x .saved) (x .part) .rows) ≡ rowsRegistered step (after step b (opening ∷ [])) between
       = rw saved (omega (arith, ap (λ (y : Book). length (y .part .rows)) (within-batch .book), within-batch .numbers)) in
       undone-batch .0 .outcome
-      ∙ ap (λ (k : Kind). accepted (given k x (requestIn undoing))) (undone-batch .1)
+      ∙ ap (λ (k : Kind). accepted (given k x (callRequest undoing))) (undone-batch .1)
       ∙ ap accepted count
 
 -- the undone batch cut out of a list, whatever stands before and after it

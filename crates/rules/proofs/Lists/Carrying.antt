@@ -5,7 +5,7 @@ use mathlib.Core.List.{List, [], _∷_, map, map-map}
 use mathlib.Core.Bool.{Bool, _&&_}
 use Rattle.rules.specs.Basics.{every, Each, nil, cons}
 use Rattle.rules.specs.Requests.{Kind, openBatch, undo}
-use Rattle.rules.specs.Calls.{Call, Answer, carried, kindIn, _oneOf_}
+use Rattle.rules.specs.Calls.{Call, Answer, carried, callKind, _oneOf_}
 use Rattle.rules.specs.Lists.{Run, isAcceptance, runs, after, acceptsAs, heard, endsNoBatch, UndoneBatch}
 use Rattle.rules.proofs.Lists.CallLists.{after-keeps}
 
@@ -50,7 +50,7 @@ module _ {A B : Type 0} {answer : A → Call → Answer A} {other : B → Call �
     ends-carried = rw (runs-carried, every-map)
 
   pub accepts-carried : (ks : List Kind) (a : A) (c : Call) → Good a → acceptsAs other ks (form a) c ≡ acceptsAs answer ks a c
-  accepts-carried ks a c g = ap (λ (x : Answer B). isAcceptance (x .outcome .verdict) && kindIn c oneOf ks) (k .alike a c g)
+  accepts-carried ks a c g = ap (λ (x : Answer B). isAcceptance (x .outcome .verdict) && callKind c oneOf ks) (k .alike a c g)
 
   -- a batch undone on the other form is undone on the one
   pub undone-carried : (a : A) (opening : Call) (between : List Call) (undoing : Call) → Each Sort (opening ∷ between) → Good a

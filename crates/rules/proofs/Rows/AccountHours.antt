@@ -14,7 +14,7 @@ use Rattle.rules.specs.declared.Row.{Row}
 use Rattle.rules.specs.declared.AccountHour.{AccountHour}
 use Rattle.rules.specs.Basics.{if_then_else_, total, find, nth, upTo, Each}
 use Rattle.rules.specs.Books.{Setup, noRow, periods, marginsAt, estimateAt}
-use Rattle.rules.specs.Registration.{pending, confirmed, covers, counted, withStatus, mark, closed, moved, waiting, buyer, seller, bought, sold, netOf, pendingSales, pendingPurchases, accountHour, takes, takesAll, keepsMargins, brokenHour, brokenBy, exposureOf, exposure, exposureWith}
+use Rattle.rules.specs.Registration.{pending, confirmed, includesHour, counted, withStatus, mark, closed, moved, waiting, buyer, seller, bought, sold, netOf, pendingSales, pendingPurchases, accountHour, afterTrade, afterTrades, keepsMargins, brokenHour, brokenBy, exposureOf, exposure, exposureWith}
 use Rattle.rules.proofs.Basics.Totals.{total-zero, total-cong, total-same, total-append, total-snoc, total-set, total-map}
 use Rattle.rules.proofs.Basics.Searches.{each-map}
 
@@ -22,18 +22,18 @@ use Rattle.rules.proofs.Basics.Searches.{each-map}
 
 -- what a confirmed row adds to what the account, as that party, moved in the hour
 abbrev pub share : (Row → ℕ) → ℕ → ℕ → Row → ℕ
-share party a h = counted (λ r. covers h r && eqb (party r) a)
+share party a h = counted (λ r. includesHour h r && eqb (party r) a)
 
 -- what a pending row of that side adds to what waits on the account in the hour
 abbrev pub weight : ℕ → ℕ → ℕ → Row → ℕ
-weight side a h = counted (λ r. covers h r && eqb (r .proposer) a && eqb (r .side) side)
+weight side a h = counted (λ r. includesHour h r && eqb (r .proposer) a && eqb (r .side) side)
 
 -- the same, of any status
 unfoldable movedShare : (Row → ℕ) → ℕ → ℕ → Row → ℕ
-movedShare party a h = counted (λ r. confirmed r && covers h r && eqb (party r) a)
+movedShare party a h = counted (λ r. confirmed r && includesHour h r && eqb (party r) a)
 
 unfoldable waitingShare : ℕ → ℕ → ℕ → Row → ℕ
-waitingShare side a h = counted (λ r. pending r && covers h r && eqb (r .proposer) a && eqb (r .side) side)
+waitingShare side a h = counted (λ r. pending r && includesHour h r && eqb (r .proposer) a && eqb (r .side) side)
 
 -- ---- sums over rows of which one is marked
 
@@ -67,9 +67,9 @@ module _ (party : Row → ℕ) (a h : ℕ) where
   moved-closed r false e = refl
 
   pub moved-snoc : (rows : List Row) (r : Row)
-      → moved party (rows ++ r ∷ []) a h ≡ moved party rows a h + counted (λ r. confirmed r && covers h r && eqb (party r) a) r
+      → moved party (rows ++ r ∷ []) a h ≡ moved party rows a h + counted (λ r. confirmed r && includesHour h r && eqb (party r) a) r
   unfolding moved
-  moved-snoc rows r = total-snoc (counted (λ r. confirmed r && covers h r && eqb (party r) a)) rows r
+  moved-snoc rows r = total-snoc (counted (λ r. confirmed r && includesHour h r && eqb (party r) a)) rows r
 
   -- rows that are added as pending move nothing
   pub moved-added : (rows : List Row) {added : List Row} → Each (λ r. pending r ≡ true) added → moved party (rows ++ added) a h ≡ moved party rows a h
@@ -125,9 +125,9 @@ module _ (side a h : ℕ) where
 
   pub waiting-snoc : (rows : List Row) (r : Row)
       → waiting side (rows ++ r ∷ []) a h
-      ≡ waiting side rows a h + counted (λ r. pending r && covers h r && eqb (r .proposer) a && eqb (r .side) side) r
+      ≡ waiting side rows a h + counted (λ r. pending r && includesHour h r && eqb (r .proposer) a && eqb (r .side) side) r
   unfolding waiting
-  waiting-snoc rows r = total-snoc (counted (λ r. pending r && covers h r && eqb (r .proposer) a && eqb (r .side) side)) rows r
+  waiting-snoc rows r = total-snoc (counted (λ r. pending r && includesHour h r && eqb (r .proposer) a && eqb (r .side) side)) rows r
 
   -- a pending row that is confirmed or withdrawn no longer waits
   pub waiting-end : (rows : List Row) (n status : ℕ) → pending (nth rows n noRow) ≡ true → eqb status 1 ≡ false
@@ -150,7 +150,7 @@ module _ (side a h : ℕ) where
 
   -- a row weighs on its proposer only
   pub weight-of-others : (r : Row) → eqb (r .proposer) a ≡ false → weight side a h r ≡ 0
-  weight-of-others r e = rw e (go (covers h r))
+  weight-of-others r e = rw e (go (includesHour h r))
     where
       go : (t : Bool) → (if t && false && eqb (r .side) side then r .quantity .0 else 0) ≡ 0
       go true = refl
@@ -201,18 +201,18 @@ hour-confirm rows n a h e o =
     rw (b, s, waiting-of-others 1 a h rows n 2 e refl o, waiting-of-others 2 a h rows n 2 e refl o)
 
 -- with one row more it is the hour after that trade
-pub hour-takes : (rows : List Row) (r : Row) (a h : ℕ) → accountHour (rows ++ r ∷ []) a h ≡ takes a h (accountHour rows a h) r
-unfolding takes
+pub hour-takes : (rows : List Row) (r : Row) (a h : ℕ) → accountHour (rows ++ r ∷ []) a h ≡ afterTrade a h (accountHour rows a h) r
+unfolding afterTrade
 hour-takes rows r a h =
     rw (moved-snoc buyer a h rows r, moved-snoc seller a h rows r, waiting-snoc 1 a h rows r, waiting-snoc 2 a h rows r)
 
 -- with rows more it is the hour after those trades
-pub hour-takes-all : (rows added : List Row) (a h : ℕ) → accountHour (rows ++ added) a h ≡ takesAll a h (accountHour rows a h) added
+pub hour-takes-all : (rows added : List Row) (a h : ℕ) → accountHour (rows ++ added) a h ≡ afterTrades a h (accountHour rows a h) added
 hour-takes-all rows [] a h = rw append-nil
 hour-takes-all rows (r ∷ rs) a h =
     ap (λ (l : List Row). accountHour l a h) (sym (append-assoc rows (r ∷ []) rs))
     ∙ hour-takes-all (rows ++ r ∷ []) rs a h
-    ∙ ap (λ (x : AccountHour). takesAll a h x rs) (hour-takes rows r a h)
+    ∙ ap (λ (x : AccountHour). afterTrades a h x rs) (hour-takes rows r a h)
 
 -- so a margin that they break is broken with them in, and so exposed are operators with them in
 pub broken-added : (u : Setup) (rows added : List Row) (a : ℕ) → brokenHour u (rows ++ added) a ≡ brokenBy u rows added a
@@ -226,8 +226,8 @@ exposure-added u rows added o =
 
 -- confirm, for another account than the proposer: it takes the row as one that is confirmed
 pub hour-takes-confirmed : (rows : List Row) (n a h : ℕ) → pending (nth rows n noRow) ≡ true → eqb (nth rows n noRow .proposer) a ≡ false
-    → accountHour (mark n 2 rows) a h ≡ takes a h (accountHour rows a h) (withStatus 2 (nth rows n noRow))
-unfolding takes
+    → accountHour (mark n 2 rows) a h ≡ afterTrade a h (accountHour rows a h) (withStatus 2 (nth rows n noRow))
+unfolding afterTrade
 hour-takes-confirmed rows n a h e o =
     hour-confirm rows n a h e o ∙ rw (add-zero (waiting 1 rows a h), add-zero (waiting 2 rows a h))
 

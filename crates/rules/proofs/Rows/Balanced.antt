@@ -8,7 +8,7 @@ use lib.Dec.{eqb}
 use lib.IntN.{ℤ, pos, subℕ, _+ℤ_}
 use Rattle.rules.specs.declared.Row.{Row}
 use Rattle.rules.specs.Basics.{if_then_else_, total, sumOf, upTo, Each}
-use Rattle.rules.specs.Registration.{confirmed, covers, buyer, seller, counted, moved, bought, sold, netOf, figure}
+use Rattle.rules.specs.Registration.{confirmed, includesHour, buyer, seller, counted, moved, bought, sold, netOf, figure}
 use Rattle.rules.proofs.Basics.Differences.{difference-add, difference-none}
 use Rattle.rules.proofs.Basics.Searches.{each-map}
 use Rattle.rules.proofs.Basics.Totals.{total-same, swap, shared}
@@ -45,15 +45,15 @@ parties n r p c s =
 
 -- what confirmed rows move in the hour
 abbrev pub movedAll : ℕ → List Row → ℕ
-movedAll h rows = total (counted (λ r. confirmed r && covers h r)) rows
+movedAll h rows = total (counted (λ r. confirmed r && includesHour h r)) rows
 
 -- over all accounts, whichever party is asked for
 pub moved-all : (party : Row → ℕ) (n h : ℕ) (rows : List Row) → Each (λ r. (1 ≤ party r) × (party r ≤ n)) rows
     → total (λ a. moved party rows a h) (upTo n) ≡ movedAll h rows
 unfolding moved
 moved-all party n h rows e =
-    swap (λ a. counted (λ r. confirmed r && covers h r && eqb (party r) a)) (upTo n) rows
-    ∙ total-same _ _ (λ r p. shared n (party r) (r .quantity .0) (confirmed r && covers h r) (p .0) (p .1)) e
+    swap (λ a. counted (λ r. confirmed r && includesHour h r && eqb (party r) a)) (upTo n) rows
+    ∙ total-same _ _ (λ r p. shared n (party r) (r .quantity .0) (confirmed r && includesHour h r) (p .0) (p .1)) e
 
 pub balanced : (n h : ℕ) (rows : List Row) → Each (Parties n) rows
     → total (λ a. bought rows a h) (upTo n) ≡ total (λ a. sold rows a h) (upTo n)

@@ -16,7 +16,7 @@ use Rattle.rules.specs.Basics.{nth, entries, joined, Each, cons}
 use Rattle.rules.specs.declared.Counts.{Counts}
 use Rattle.rules.specs.declared.Account.{Account}
 use Rattle.rules.specs.Books.{countsOf, noAccount}
-use Rattle.rules.specs.Opening.{countsIn, setupOf, estimatesIn, operatorsIn, accountsIn, pointsIn, priceIn, operatorIn, accountIn, pointIn, accountsFrom, pointsFrom, accountFrom, Value, valuesOf, priceWidth, operatorEntry, marginWidth, accountEntry, pointEntry}
+use Rattle.rules.specs.Opening.{countsIn, setupOf, estimatesIn, operatorsIn, accountsIn, pointsIn, priceIn, operatorIn, accountIn, pointIn, accountsOffset, pointsOffset, accountOffset, Value, valuesOf, priceWidth, operatorEntry, marginWidth, accountEntry, pointEntry}
 use Rattle.rules.proofs.Basics.Products.{stride}
 
 -- ---- entries by number
@@ -139,17 +139,17 @@ unfolding accountEntry
 account-wide n = omega arith
 
 -- an account's entry ends before the points begin
-pub account-inside : (n : Counts) (a : ℕ) → 1 ≤ a → a ≤ n .accounts → accountFrom n a + accountEntry n ≤ pointsFrom n
+pub account-inside : (n : Counts) (a : ℕ) → 1 ≤ a → a ≤ n .accounts → accountOffset n a + accountEntry n ≤ pointsOffset n
 account-inside n a low high = omega (arith, stride (accountEntry n) (a - 1) (n .accounts) (omega arith))
 
 -- an account that was read at its own place is the one of its number; another number has none
 module _ (s : List ℕ) (n : Counts) (counted : n ≡ countsIn s) (a : ℕ) where
-  pub account-numbered : {at : ℕ} {x : Account} → at ≡ accountFrom n a → x ≡ accountIn (take (accountEntry n) (drop at s))
+  pub account-numbered : {at : ℕ} {x : Account} → at ≡ accountOffset n a → x ≡ accountIn (take (accountEntry n) (drop at s))
       → 1 ≤ a → a ≤ n .accounts → x ≡ nth (accountsIn s) a noAccount
   unfolding accountsIn
   account-numbered place read low high =
-      entry-by-number (accountEntry n) accountIn (n .accounts) a (accountsFrom n) (accountsFrom n) s noAccount refl low high (rw (← place) read)
-      ∙ ap (λ (c : Counts). nth (entries (accountEntry c) accountIn (c .accounts) (drop (accountsFrom c) s)) a noAccount) counted
+      entry-by-number (accountEntry n) accountIn (n .accounts) a (accountsOffset n) (accountsOffset n) s noAccount refl low high (rw (← place) read)
+      ∙ ap (λ (c : Counts). nth (entries (accountEntry c) accountIn (c .accounts) (drop (accountsOffset c) s)) a noAccount) counted
 
   pub no-account-zero : a < 1 → nth (accountsIn s) a noAccount ≡ noAccount
   unfolding accountsIn

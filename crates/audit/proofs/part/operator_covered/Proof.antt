@@ -40,9 +40,9 @@ returns : tie.Need-returns
 returns c rows sums =
     let available = c .before in
     let read = available .before in
-    let owner = read .before in
+    let entry = read .before in
     c .at-most .ensures
-    ∙ covered-read _ _ rows _ _ _ _ _ (omega arith) (omega arith) (owner .before .exposure-of .ensures rows sums) (owner .operator .ensures) (read .get-u64 .ensures) (available .available .ensures)
+    ∙ covered-read _ _ rows _ _ _ _ _ (omega arith) (omega arith) (entry .before .exposure-of .ensures rows sums) (entry .operator .ensures) (read .get-u64 .ensures) (available .available .ensures)
 
 pub operator-covered-spec : {M : Type 1} → statement M
 operator-covered-spec =

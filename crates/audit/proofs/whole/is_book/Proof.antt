@@ -3,60 +3,60 @@ use mathlib.Core.Path.{sym, _∙_}
 use native.Mathlib.Omega.{arith}
 use borrow.Author.Tests.{not-true, not-false}
 use Rattle.wire.proofs.NumberLaws.{bytes-known}
-use Rattle.audit.proofs.PartStands.{few-rows}
-use Rattle.audit.proofs.StandLaws.{setup-known}
-use Rattle.audit.proofs.BookStands.{not-sized, one-falls, rest-decides}
+use Rattle.audit.proofs.PartValidity.{few-rows}
+use Rattle.audit.proofs.ValidityLaws.{setup-known}
+use Rattle.audit.proofs.BookValidity.{not-sized, one-falls, rest-decides}
 use borrow.Author.Needs.{needs}
-use Rattle.image.specs.Layout.{presentAt}
+use Rattle.image.specs.Layout.{presentOffset}
 use Rattle.audit.proofs.whole.is_book.Statement.{statement}
 use Rattle.audit.proofs.whole.is_book.Tie as tie
 
 returns : tie.Need-returns
 returns c = not-sized _ (bytes-known _ (c .before .shared-slice-known .given)) (c .if1 .taken)
 
-setup-stands-requires : tie.Need-setup-stands-requires
-setup-stands-requires c κs = search needs
+setup-valid-requires : tie.Need-setup-valid-requires
+setup-valid-requires c κs = search needs
 
 returns-2 : tie.Need-returns-2
 returns-2 c =
     let tested = c .before in
-    one-falls _ (bytes-known _ (tested .before .before .shared-slice-known .given)) (λ d. d .setup-stands) (sym (tested .setup-stands .ensures) ∙ not-true _ (c .if2 .taken))
+    one-falls _ (bytes-known _ (tested .before .before .shared-slice-known .given)) (λ d. d .setup-valid) (sym (tested .setup-valid .ensures) ∙ not-true _ (c .if2 .taken))
 
 is-part-requires : tie.Need-is-part-requires
 is-part-requires c κs =
     let tested = c .before in
-    let known = setup-known _ (tested .before .if1 .left) (sym (tested .setup-stands .ensures) ∙ not-false _ (c .if2 .left)) in
+    let known = setup-known _ (tested .before .if1 .left) (sym (tested .setup-valid .ensures) ∙ not-false _ (c .if2 .left)) in
     (known, omega arith)
 
 returns-3 : tie.Need-returns-3
 returns-3 c =
     let tested = c .before in
-    one-falls _ (bytes-known _ (tested .before .before .before .before .shared-slice-known .given)) (λ d. d .part-stands) (sym (tested .is-part .ensures) ∙ not-true _ (c .if3 .taken))
+    one-falls _ (bytes-known _ (tested .before .before .before .before .shared-slice-known .given)) (λ d. d .part-valid) (sym (tested .is-part .ensures) ∙ not-true _ (c .if3 .taken))
 
-saved-stands-requires : tie.Need-saved-stands-requires
-saved-stands-requires c κs =
+saved-valid-requires : tie.Need-saved-valid-requires
+saved-valid-requires c κs =
     let part = c .before in
     let stands = part .before in
     let tested = stands .before in (
-      setup-known _ (tested .before .if1 .left) (sym (tested .setup-stands .ensures) ∙ not-false _ (stands .if2 .left)),
-      few-rows _ _ presentAt (sym (part .is-part .ensures) ∙ not-false _ (c .if3 .left)),
+      setup-known _ (tested .before .if1 .left) (sym (tested .setup-valid .ensures) ∙ not-false _ (stands .if2 .left)),
+      few-rows _ _ presentOffset (sym (part .is-part .ensures) ∙ not-false _ (c .if3 .left)),
     )
 
 returns-4 : tie.Need-returns-4
 returns-4 c =
     let tested = c .before in
-    one-falls _ (bytes-known _ (tested .before .before .before .before .before .before .shared-slice-known .given)) (λ d. d .saved-stands) (sym (tested .saved-stands .ensures) ∙ not-true _ (c .if4 .taken))
+    one-falls _ (bytes-known _ (tested .before .before .before .before .before .before .shared-slice-known .given)) (λ d. d .saved-valid) (sym (tested .saved-valid .ensures) ∙ not-true _ (c .if4 .taken))
 
-schedules-stand-requires : tie.Need-schedules-stand-requires
-schedules-stand-requires c κs =
+schedules-valid-requires : tie.Need-schedules-valid-requires
+schedules-valid-requires c κs =
     let stands = c .before .before .before .before in
     let tested = stands .before in
-    setup-known _ (tested .before .if1 .left) (sym (tested .setup-stands .ensures) ∙ not-false _ (stands .if2 .left))
+    setup-known _ (tested .before .if1 .left) (sym (tested .setup-valid .ensures) ∙ not-false _ (stands .if2 .left))
 
-phase-stands-requires : tie.Need-phase-stands-requires
-phase-stands-requires c κs =
+phase-valid-requires : tie.Need-phase-valid-requires
+phase-valid-requires c κs =
     let stands = c .before .before .before in
-    (search needs, few-rows _ _ presentAt (sym (stands .before .is-part .ensures) ∙ not-false _ (stands .if3 .left)))
+    (search needs, few-rows _ _ presentOffset (sym (stands .before .is-part .ensures) ∙ not-false _ (stands .if3 .left)))
 
 sub-all-zero : tie.Need-sub-all-zero
 sub-all-zero c = search needs
@@ -73,24 +73,24 @@ returns-5 c =
     let setup = part .before .before in
     let sized = setup .before .before in
     rest-decides _ (bytes-known _ (sized .before .shared-slice-known .given)) (sized .if1 .left)
-    (sym (setup .before .setup-stands .ensures) ∙ not-false _ (setup .if2 .left))
+    (sym (setup .before .setup-valid .ensures) ∙ not-false _ (setup .if2 .left))
     (sym (part .before .is-part .ensures) ∙ not-false _ (part .if3 .left))
-    (sym (saved .before .saved-stands .ensures) ∙ not-false _ (saved .if4 .left))
-    (schedules .schedules-stand .ensures) (phase .phase-stands .ensures) (c .all-zero .ensures)
+    (sym (saved .before .saved-valid .ensures) ∙ not-false _ (saved .if4 .left))
+    (schedules .schedules-valid .ensures) (phase .phase-valid .ensures) (c .all-zero .ensures)
 
 pub is-book-spec : {M : Type 1} → statement M
 is-book-spec =
     tie.close
     (tie.spec
     returns
-    setup-stands-requires
+    setup-valid-requires
     returns-2
     is-part-requires
     returns-3
-    saved-stands-requires
+    saved-valid-requires
     returns-4
-    schedules-stand-requires
-    phase-stands-requires
+    schedules-valid-requires
+    phase-valid-requires
     sub-all-zero
     all-zero-requires
     returns-5)

@@ -10,7 +10,7 @@ use Rattle.wire.specs.Regions.{splice}
 use Rattle.rules.specs.declared.Request.{Request}
 use Rattle.rules.specs.Requests.{closeGate}
 use Rattle.rules.proofs.Checks.Clearing.{checked-same}
-use Rattle.image.specs.Layout.{phaseAt}
+use Rattle.image.specs.Layout.{phaseOffset}
 use Rattle.image.specs.Valid.{bookIn}
 use Rattle.book.specs.Kinds.{decided}
 use Rattle.book.proofs.StateLaws.{book-length}
@@ -55,7 +55,7 @@ same-length-2 : tie.Need-same-length-2
 same-length-2 c = search needs
 
 returns-2 : tie.Need-returns-2
-returns-2 c = closed-answered _ _ (c .before .before .before .before .before .before .before .before .before .before .before .before .before .before .before .pre) _ (free (c .before .before .before .before .before .before .before .before .before .before)) (c .before .before .before .before .before .before .before .before .row-count .ensures .0) (c .before .before .put-u8 .ensures ∙ ap (λ (x : List ℕ). splice x phaseAt (le 1 2)) (c .before .before .before .before .before .before .end-rows .ensures))
+returns-2 c = closed-answered _ _ (c .before .before .before .before .before .before .before .before .before .before .before .before .before .before .before .pre) _ (free (c .before .before .before .before .before .before .before .before .before .before)) (c .before .before .before .before .before .before .before .before .row-count .ensures .0) (c .before .before .put-u8 .ensures ∙ ap (λ (x : List ℕ). splice x phaseOffset (le 1 2)) (c .before .before .before .before .before .before .end-rows .ensures))
 
 pub close-gate-spec : {M : Type 1} → statement M
 close-gate-spec =

@@ -6,7 +6,7 @@ use mathlib.Core.Logic.{inl}
 use native.Mathlib.Omega.{arith}
 use Rattle.wire.specs.Numbers.{le}
 use Rattle.wire.specs.Regions.{splice}
-use Rattle.image.specs.Layout.{flagAt}
+use Rattle.image.specs.Layout.{flagOffset}
 use Rattle.book.proofs.StateLaws.{book-length}
 use Rattle.batches.proofs.BatchLaws.{present-rows-end, saved-past-rows}
 use borrow.Author.Needs.{needs}
@@ -30,7 +30,7 @@ same-length : tie.Need-same-length
 same-length c = search needs
 
 returns : tie.Need-returns
-returns c = rw (c .before .before .before .before .before .before .before .before .before .before .if1 .taken) (c .before .before .put-u8 .ensures ∙ ap (λ (x : List ℕ). splice x flagAt (le 1 1)) (c .before .before .before .before .before .before .copy-part .ensures))
+returns c = rw (c .before .before .before .before .before .before .before .before .before .before .if1 .taken) (c .before .before .put-u8 .ensures ∙ ap (λ (x : List ℕ). splice x flagOffset (le 1 1)) (c .before .before .before .before .before .before .copy-part .ensures))
 
 returns-2 : tie.Need-returns-2
 returns-2 c = search needs

@@ -15,7 +15,7 @@ use Rattle.rules.specs.Basics.{isSome}
 use Rattle.rules.specs.Limits.{mostHours}
 use Rattle.rules.specs.Requests.{undo, requestOf}
 use Rattle.rules.proofs.Checks.Clearing.{checked-same}
-use Rattle.image.specs.Layout.{flagAt, savedAt, partSize}
+use Rattle.image.specs.Layout.{flagOffset, savedOffset, partSize}
 use Rattle.image.specs.Valid.{bookIn}
 use Rattle.book.specs.Kinds.{decided}
 use Rattle.book.proofs.StateLaws.{book-length}
@@ -77,7 +77,7 @@ same-length-2 : tie.Need-same-length-2
 same-length-2 c = search needs
 
 returns-2 : tie.Need-returns-2
-returns-2 c = undone-answered _ _ (c .before .before .before .before .before .before .before .before .before .before .before .before .before .before .before .before .before .pre) _ (free (c .before .before .before .before .before .before .before .before .before .before .before .before)) (rw (c .before .before .before .before .before .before .before .before .before .before .row-count .ensures .0, c .before .before .before .before .before .before .before .before .saved-row-count .ensures .0)) (c .before .before .end-batch .ensures ∙ ap (λ (x : List ℕ). splice (splice x (savedAt mostHours) (zeros (partSize mostHours))) flagAt (le 1 0)) (c .before .before .before .before .before .before .copy-part .ensures))
+returns-2 c = undone-answered _ _ (c .before .before .before .before .before .before .before .before .before .before .before .before .before .before .before .before .before .pre) _ (free (c .before .before .before .before .before .before .before .before .before .before .before .before)) (rw (c .before .before .before .before .before .before .before .before .before .before .row-count .ensures .0, c .before .before .before .before .before .before .before .before .saved-row-count .ensures .0)) (c .before .before .end-batch .ensures ∙ ap (λ (x : List ℕ). splice (splice x (savedOffset mostHours) (zeros (partSize mostHours))) flagOffset (le 1 0)) (c .before .before .before .before .before .before .copy-part .ensures))
 
 pub undo-spec : {M : Type 1} → statement M
 undo-spec =

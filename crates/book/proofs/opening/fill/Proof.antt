@@ -12,24 +12,24 @@ counts-requires c κs =
     let k = c .before in
     openable _ (bytes-known _ (k .shared-slice-known .given)) (k .before .pre .0) refl .long
 
-operators-from-requires : tie.Need-operators-from-requires
-operators-from-requires c κs = search needs
+operators-offset-requires : tie.Need-operators-offset-requires
+operators-offset-requires c κs = search needs
 
 put-setup-requires : tie.Need-put-setup-requires
 put-setup-requires c κs =
     let k = c .before .before .before .before in
     let o = openable _ (bytes-known _ (k .shared-slice-known .given)) (k .before .pre .0) (c .before .before .counts .ensures) in
-    (omega (arith, c .before .operators-from .ensures), omega arith)
+    (omega (arith, c .before .operators-offset .ensures), omega arith)
 
 put-u8-requires : tie.Need-put-u8-requires
 put-u8-requires c κs = search needs
 
-lodge-requires : tie.Need-lodge-requires
-lodge-requires c κs =
+put-guarantees-requires : tie.Need-put-guarantees-requires
+put-guarantees-requires c κs =
     let f = c .before .before .before .before .before .before .before .before .before in
     let k = f .before .before .before in
     let o = openable _ (bytes-known _ (k .shared-slice-known .given)) (k .before .pre .0) (f .before .counts .ensures) in
-    (omega (arith, f .operators-from .ensures), omega arith)
+    (omega (arith, f .operators-offset .ensures), omega arith)
 
 same-length : tie.Need-same-length
 same-length c = search needs
@@ -38,17 +38,17 @@ returns : tie.Need-returns
 returns c =
     let f = c .before .before .before .before .before .before .before .before .before .before .before .before in
     let k = f .before .before .before in
-    written-fresh _ (bytes-known _ (k .shared-slice-known .given)) (k .before .pre .0) (f .before .counts .ensures) (f .operators-from .ensures) (k .before .pre .1)
-    (c .before .before .before .before .before .before .before .before .before .before .put-setup .ensures) (c .before .before .before .before .before .before .put-u8 .ensures) (c .before .before .lodge .ensures)
+    written-fresh _ (bytes-known _ (k .shared-slice-known .given)) (k .before .pre .0) (f .before .counts .ensures) (f .operators-offset .ensures) (k .before .pre .1)
+    (c .before .before .before .before .before .before .before .before .before .before .put-setup .ensures) (c .before .before .before .before .before .before .put-u8 .ensures) (c .before .before .put-guarantees .ensures)
 
 pub fill-spec : {M : Type 1} → statement M
 fill-spec =
     tie.close
     (tie.spec
     counts-requires
-    operators-from-requires
+    operators-offset-requires
     put-setup-requires
     put-u8-requires
-    lodge-requires
+    put-guarantees-requires
     same-length
     returns)

@@ -9,15 +9,15 @@ clear-requires c κs = search needs
 copy-in-requires : tie.Need-copy-in-requires
 copy-in-requires c κs = search needs
 
-unlodge-requires : tie.Need-unlodge-requires
-unlodge-requires c κs = search needs
+clear-guarantees-requires : tie.Need-clear-guarantees-requires
+clear-guarantees-requires c κs = search needs
 
 same-length : tie.Need-same-length
 same-length c = search needs
 
 returns : tie.Need-returns
-returns c = rw (c .before .before .unlodge .ensures, c .before .before .before .before .before .before .copy-in .ensures, c .before .before .before .before .before .before .before .before .before .before .clear .ensures)
+returns c = rw (c .before .before .clear-guarantees .ensures, c .before .before .before .before .before .before .copy-in .ensures, c .before .before .before .before .before .before .before .before .before .before .clear .ensures)
 
 pub put-setup-spec : {M : Type 1} → statement M
 put-setup-spec =
-    tie.close (tie.spec clear-requires copy-in-requires unlodge-requires same-length returns)
+    tie.close (tie.spec clear-requires copy-in-requires clear-guarantees-requires same-length returns)

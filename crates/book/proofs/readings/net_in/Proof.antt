@@ -59,7 +59,7 @@ returns-3 c =
     let tested = else1 .before in
     let counted = tested .before in
     let start = counted .before .before in
-    ap NetReading.Stands (c .position-of .ensures)
+    ap NetReading.Read (c .position-of .ensures)
     ∙ sym (net-stands (start .args .book .now) (start .pre) (counted .counts .result) (counted .counts .ensures) (start .args .account) (start .args .hour)
     (sym (tested .outside .ensures) ∙ else1 .if1 .left) (sym (tested2 .outside2 .ensures) ∙ else2 .if2 .left) (read .stored-net .result) (read .stored-net .ensures))
 

@@ -37,8 +37,8 @@ loop-holds c =
     let start = c .before .before .before in
     (c .row-count .ensures .0, c .row-count .ensures .1, search needs, search needs, length-no-waits _ (start .pre .0), waiting-first _ _ _ _ (start .pre .0), refl)
 
-take-own-requires : tie.Need-take-own-requires Inv-loop μ-loop
-take-own-requires c κs =
+add-own-requires : tie.Need-add-own-requires Inv-loop μ-loop
+add-own-requires c κs =
     let l = c .before .before .loop in
     let start = c .before .before .before .before .before .before in
     (l .inv .4, λ k low. omega (arith, l .inv .5 .bounded k), start .pre .1, l .inv .2, omega (arith, l .inv .0))
@@ -58,8 +58,8 @@ loop-again c =
       search needs,
       search needs,
       search needs,
-      waiting-next _ _ (l .number) _ _ (l .inv .2) (omega (arith, l .inv .0)) (t .take-own .ensures .0) (l .inv .5),
-      told-next _ _ (l .number) (l .found) (t .take-own .result) (l .inv .2) (omega (arith, l .inv .0)) (t .take-own .ensures .1) (l .inv .6),
+      waiting-next _ _ (l .number) _ _ (l .inv .2) (omega (arith, l .inv .0)) (t .add-own .ensures .0) (l .inv .5),
+      told-next _ _ (l .number) (l .found) (t .add-own .result) (l .inv .2) (omega (arith, l .inv .0)) (t .add-own .ensures .1) (l .inv .6),
     )
 
 same-length : tie.Need-same-length Inv-loop μ-loop
@@ -79,7 +79,7 @@ fill-waits-spec =
     μ-loop
     row-count-requires
     loop-holds
-    take-own-requires
+    add-own-requires
     add-number
     loop-less
     loop-again

@@ -2,10 +2,10 @@
 use mathlib.Core.Path.{ap, _∙_}
 use native.Mathlib.Omega.{arith}
 use borrow.Author.Needs.{needs}
-use Rattle.rules.specs.Opening.{accountsFrom, accountEntry}
+use Rattle.rules.specs.Opening.{accountsOffset, accountEntry}
 use Rattle.book.specs.Worth.{addedRows}
 use Rattle.book.proofs.StateLaws.{book-length}
-use Rattle.book.proofs.WorthParts.{exposure-joined, takeable-slight}
+use Rattle.book.proofs.WorthParts.{exposure-joined, trade-quantity}
 use Rattle.book.proofs.worth.exposure_with.Statement.{statement}
 use Rattle.book.proofs.worth.exposure_with.Tie as tie
 
@@ -15,14 +15,14 @@ price-sums-requires c κs = search needs
 counts-requires : tie.Need-counts-requires
 counts-requires c κs = omega (arith, book-length _ (c .before .before .pre .0))
 
-accounts-from-requires : tie.Need-accounts-from-requires
-accounts-from-requires c κs = search needs
+accounts-offset-requires : tie.Need-accounts-offset-requires
+accounts-offset-requires c κs = search needs
 
 account-entry-requires : tie.Need-account-entry-requires
 account-entry-requires c κs = search needs
 
 short-worth-requires : tie.Need-short-worth-requires
-short-worth-requires c κs = let pre = c .before .before .before .before .before .pre in (pre .0, takeable-slight _ (pre .1))
+short-worth-requires c κs = let pre = c .before .before .before .before .before .pre in (pre .0, trade-quantity _ (pre .1))
 
 slice-aggregate-sales-worth : tie.Need-slice-aggregate-sales-worth
 slice-aggregate-sales-worth c = search needs
@@ -39,7 +39,7 @@ added-sale-requires c κs =
     let counted = places .before .before in
     let read = counted .counts .ensures in
     let pre = counted .before .before .before .pre in
-    (pre .0, counted .before .price-sums .ensures, (places .before .accounts-from .ensures ∙ ap accountsFrom read, places .account-entry .ensures .0 ∙ ap accountEntry read), pre .1)
+    (pre .0, counted .before .price-sums .ensures, (places .before .accounts-offset .ensures ∙ ap accountsOffset read, places .account-entry .ensures .0 ∙ ap accountEntry read), pre .1)
 
 plus-requires : tie.Need-plus-requires
 plus-requires c κs = search needs
@@ -63,7 +63,7 @@ exposure-with-spec =
     (tie.spec
     price-sums-requires
     counts-requires
-    accounts-from-requires
+    accounts-offset-requires
     account-entry-requires
     short-worth-requires
     slice-aggregate-sales-worth

@@ -10,8 +10,8 @@ returns : tie.Need-returns
 returns c =
     let start = c .before .before .before .before .before in (sym (sale-skipped _ (start .args .operator) (start .args .r) (c .if1 .taken)), omega arith)
 
-owner-requires : tie.Need-owner-requires
-owner-requires c κs =
+entry-operator-requires : tie.Need-entry-operator-requires
+entry-operator-requires c κs =
     let start = c .before .before .before .before .before in
     let known = start .pre .3 .proposer-known (sale-waits (start .args .r) (c .if1 .left)) in
     (start .pre .0, start .pre .2, known .0, known .1)
@@ -30,12 +30,12 @@ returns-2 c =
     let waits = read .before .if1 .left in
     let start = c .before .before .before .before .before .before .before .before in
     let span = spanned _ _ (start .args .r) (cheap-in _ (start .pre .0)) (book-is-sound _ (start .pre .0) .setup-sound .hours-high) (start .pre .1) (start .pre .3 .hours-known (sale-waits (start .args .r) waits)) in
-    sale-priced _ (start .args .operator) _ (start .args .r) _ _ span (start .pre .3 .quantity-high) waits (read .owner .ensures) (c .before .if2 .taken) (c .span-worth .ensures)
+    sale-priced _ (start .args .operator) _ (start .args .r) _ _ span (start .pre .3 .quantity-high) waits (read .entry-operator .ensures) (c .before .if2 .taken) (c .span-worth .ensures)
 
 returns-3 : tie.Need-returns-3
 returns-3 c =
     let start = c .before .before .before .before .before .before .before in
-    (sym (sale-of-others _ (start .args .operator) (start .args .r) _ (c .before .owner .ensures) (c .if2 .left)), omega arith)
+    (sym (sale-of-others _ (start .args .operator) (start .args .r) _ (c .before .entry-operator .ensures) (c .if2 .left)), omega arith)
 
 pub sale-of-spec : {M : Type 1} → statement M
-sale-of-spec = tie.close (tie.spec returns owner-requires span-worth-requires returns-2 returns-3)
+sale-of-spec = tie.close (tie.spec returns entry-operator-requires span-worth-requires returns-2 returns-3)

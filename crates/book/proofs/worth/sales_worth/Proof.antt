@@ -7,7 +7,7 @@ use lib.ListN.{length, drop}
 use borrow.Author.Needs.{needs}
 use Rattle.rules.specs.Basics.{total}
 use Rattle.rules.specs.Limits.{mostEnergy, mostPrice, mostHours, mostRows}
-use Rattle.rules.specs.Opening.{accountsFrom, accountEntry}
+use Rattle.rules.specs.Opening.{accountsOffset, accountEntry}
 use Rattle.image.specs.Valid.{bookIn}
 use Rattle.book.specs.Worth.{AccountsAt, saleWorth}
 use Rattle.book.proofs.StateLaws.{book-length}
@@ -32,8 +32,8 @@ abbrev μ-loop : tie.MeasureT-loop
 counts-requires : tie.Need-counts-requires Inv-loop μ-loop
 counts-requires c κs = omega (arith, book-length _ (c .before .before .pre .0))
 
-accounts-from-requires : tie.Need-accounts-from-requires Inv-loop μ-loop
-accounts-from-requires c κs = search needs
+accounts-offset-requires : tie.Need-accounts-offset-requires Inv-loop μ-loop
+accounts-offset-requires c κs = search needs
 
 account-entry-requires : tie.Need-account-entry-requires Inv-loop μ-loop
 account-entry-requires c κs = search needs
@@ -44,7 +44,7 @@ row-count-requires c κs = search needs
 loop-holds : tie.Need-loop-holds Inv-loop μ-loop
 loop-holds c =
     let read = c .before .before .before .counts .ensures in (
-      (c .before .before .accounts-from .ensures ∙ ap accountsFrom read, c .before .account-entry .ensures .0 ∙ ap accountEntry read),
+      (c .before .before .accounts-offset .ensures ∙ ap accountsOffset read, c .before .account-entry .ensures .0 ∙ ap accountEntry read),
       c .row-count .ensures .0,
       c .row-count .ensures .1,
       omega arith,
@@ -92,7 +92,7 @@ sales-worth-spec =
     Inv-loop
     μ-loop
     counts-requires
-    accounts-from-requires
+    accounts-offset-requires
     account-entry-requires
     row-count-requires
     loop-holds

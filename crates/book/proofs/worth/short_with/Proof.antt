@@ -3,20 +3,20 @@ use Prim.Native.Nat.{_-_}
 use mathlib.Core.Path.{ap, _∙_}
 use borrow.Author.Needs.{needs}
 use Rattle.rules.specs.declared.AccountHour.{AccountHour}
-use Rattle.book.specs.Worth.{shortTaken}
+use Rattle.book.specs.Worth.{shortAfter}
 use Rattle.book.proofs.ShortLaws.{short-still}
 use Rattle.book.proofs.worth.short_with.Statement.{statement}
 use Rattle.book.proofs.worth.short_with.Tie as tie
 
-take-requires : tie.Need-take-requires
-take-requires c κs = search needs
+after-trade-requires : tie.Need-after-trade-requires
+after-trade-requires c κs = search needs
 
 short-requires : tie.Need-short-requires
 short-requires c κs = search needs
 
 returns : tie.Need-returns
-unfolding shortTaken
-returns c = c .short .ensures ∙ ap (λ (x : AccountHour). x .net .sold .0 - x .net .bought .0) (c .before .take .ensures)
+unfolding shortAfter
+returns c = c .short .ensures ∙ ap (λ (x : AccountHour). x .net .sold .0 - x .net .bought .0) (c .before .after-trade .ensures)
 
 short-requires-2 : tie.Need-short-requires-2
 short-requires-2 c κs = search needs
@@ -26,4 +26,4 @@ returns-2 c = short-still _ _ _ _ _ (c .before .if1 .left) (c .short2 .ensures)
 
 pub short-with-spec : {M : Type 1} → statement M
 short-with-spec =
-    tie.close (tie.spec take-requires short-requires returns short-requires-2 returns-2)
+    tie.close (tie.spec after-trade-requires short-requires returns short-requires-2 returns-2)

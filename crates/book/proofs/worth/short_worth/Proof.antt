@@ -7,7 +7,7 @@ use Rattle.rules.specs.declared.Counts.{Counts}
 use Rattle.rules.specs.Basics.{total, counting}
 use Rattle.rules.specs.Limits.{mostEnergy, mostPrice, mostHours, mostAccounts}
 use Rattle.rules.specs.Books.{accountCount}
-use Rattle.rules.specs.Opening.{accountsFrom, accountEntry}
+use Rattle.rules.specs.Opening.{accountsOffset, accountEntry}
 use Rattle.rules.proofs.Basics.CountingLaws.{sum-begins, sum-next, sum-done}
 use Rattle.image.specs.Valid.{bookIn}
 use Rattle.book.specs.Worth.{AccountsAt, addedRows, shortShare, netWith}
@@ -35,8 +35,8 @@ abbrev μ-loop : tie.MeasureT-loop
 counts-requires : tie.Need-counts-requires Inv-loop μ-loop
 counts-requires c κs = omega (arith, book-length _ (c .before .pre .0))
 
-accounts-from-requires : tie.Need-accounts-from-requires Inv-loop μ-loop
-accounts-from-requires c κs = search needs
+accounts-offset-requires : tie.Need-accounts-offset-requires Inv-loop μ-loop
+accounts-offset-requires c κs = search needs
 
 account-entry-requires : tie.Need-account-entry-requires Inv-loop μ-loop
 account-entry-requires c κs = search needs
@@ -48,7 +48,7 @@ loop-holds c =
     let accounts = ap (λ (n : Counts). n .accounts) read ∙ accounts-in _ (start .pre .0) in (
       accounts,
       omega (arith, accounts, book-is-sound _ (start .pre .0) .setup-sound .accounts-high),
-      (c .before .accounts-from .ensures ∙ ap accountsFrom read, c .account-entry .ensures .0 ∙ ap accountEntry read),
+      (c .before .accounts-offset .ensures ∙ ap accountsOffset read, c .account-entry .ensures .0 ∙ ap accountEntry read),
       omega arith,
       omega arith,
       omega arith,
@@ -95,7 +95,7 @@ short-worth-spec =
     Inv-loop
     μ-loop
     counts-requires
-    accounts-from-requires
+    accounts-offset-requires
     account-entry-requires
     loop-holds
     short-share-requires

@@ -46,17 +46,17 @@ loop-holds c =
       broken-by-span _ (pre .0) _ _ (pre .3) (pre .4) (pre .5) (pre .6) (pre .7),
     )
 
-held-hour-requires : tie.Need-held-hour-requires Inv-loop μ-loop
-held-hour-requires c κs =
+account-hour-requires : tie.Need-account-hour-requires Inv-loop μ-loop
+account-hour-requires c κs =
     let l = c .before .before .loop in
     let pre = c .before .before .before .before .before .before .pre in
     (pre .0, pre .1, (pre .3, pre .4), (omega (arith, l .inv .1), omega (arith, pre .7)))
 
-take-requires : tie.Need-take-requires Inv-loop μ-loop
-take-requires c κs =
+after-trade-requires : tie.Need-after-trade-requires Inv-loop μ-loop
+after-trade-requires c κs =
     let l = c .before .before .before .loop in
     let pre = c .before .before .before .before .before .before .before .pre in
-    hour-room _ (pre .0) _ _ _ _ _ (pre .3, pre .4) (omega (arith, l .inv .1), omega (arith, pre .7)) (pre .1) (pre .2) (c .held-hour .ensures)
+    hour-room _ (pre .0) _ _ _ _ _ (pre .3, pre .4) (omega (arith, l .inv .1), omega (arith, pre .7)) (pre .1) (pre .2) (c .account-hour .ensures)
 
 keeps-margins-requires : tie.Need-keeps-margins-requires Inv-loop μ-loop
 keeps-margins-requires c κs = search needs
@@ -72,7 +72,7 @@ loop-again c =
     let k = c .before in
     let x = k .before .before in
     let l = x .before .before .before .loop in
-    let test = breaks-tested _ _ _ _ _ _ _ _ _ (l .inv .0) (x .held-hour .ensures) (k .before .take .ensures) (k .keeps-margins .ensures) in (
+    let test = breaks-tested _ _ _ _ _ _ _ _ _ (l .inv .0) (x .account-hour .ensures) (k .before .after-trade .ensures) (k .keeps-margins .ensures) in (
       l .inv .0,
       omega arith,
       omega arith,
@@ -88,7 +88,7 @@ returns-2 c =
     let k = c .before in
     let x = k .before .before in
     let l = x .before .before .before .loop in
-    let test = breaks-tested _ _ _ _ _ _ _ _ _ (l .inv .0) (x .held-hour .ensures) (k .before .take .ensures) (k .keeps-margins .ensures) in
+    let test = breaks-tested _ _ _ _ _ _ _ _ _ (l .inv .0) (x .account-hour .ensures) (k .before .after-trade .ensures) (k .keeps-margins .ensures) in
     ap broken (sym (l .inv .4 ∙ find-here _ _ _ (omega arith) (test ∙ ap not (c .if2 .left))))
 
 pub first-broken-spec : {M : Type 1} → statement M
@@ -99,8 +99,8 @@ first-broken-spec =
     μ-loop
     margins-requires
     loop-holds
-    held-hour-requires
-    take-requires
+    account-hour-requires
+    after-trade-requires
     keeps-margins-requires
     add-hour
     loop-less

@@ -21,8 +21,8 @@ pick-requires c κs = search needs
 pick-requires-2 : tie.Need-pick-requires-2
 pick-requires-2 c κs = search needs
 
-net-place-requires : tie.Need-net-place-requires
-net-place-requires c κs =
+net-offset-requires : tie.Need-net-offset-requires
+net-offset-requires c κs =
     let pick = c .before .before .before in
     let start = pick .before .before .before .before .before in
     rw (pick .pick .ensures) (first-hour (start .args .r) _ (start .pre .1) (seller-in (start .args .r) (start .pre .1)))
@@ -36,8 +36,8 @@ add-raise-nets c = search needs
 raise-nets-requires : tie.Need-raise-nets-requires
 raise-nets-requires c κs = search needs
 
-net-place-requires-2 : tie.Need-net-place-requires-2
-net-place-requires-2 c κs =
+net-offset-requires-2 : tie.Need-net-offset-requires-2
+net-offset-requires-2 c κs =
     let pick2 = c .before .before .before .before .before .before .before in
     let start = pick2 .before .before .before .before .before .before .before in
     rw (pick2 .pick2 .ensures) (first-hour (start .args .r) _ (start .pre .1) (buyer-in (start .args .r) (start .pre .1)))
@@ -56,7 +56,7 @@ returns c =
     let pick2 = place .before .before in
     let pick = pick2 .before .before in
     let start = pick .before .before .before .before .before in
-    nets-moved _ _ _ (start .args .r) _ _ _ _ _ _ (pick .pick .ensures) (pick2 .pick2 .ensures) (place .net-place .ensures) (place2 .net-place2 .ensures)
+    nets-moved _ _ _ (start .args .r) _ _ _ _ _ _ (pick .pick .ensures) (pick2 .pick2 .ensures) (place .net-offset .ensures) (place2 .net-offset2 .ensures)
     (first .raise-nets .ensures) (c .before .before .raise-nets2 .ensures) (omega arith) (omega (arith, start .pre))
 
 pub move-nets-spec : {M : Type 1} → statement M
@@ -68,11 +68,11 @@ move-nets-spec =
     add-n
     pick-requires
     pick-requires-2
-    net-place-requires
+    net-offset-requires
     sub-raise-nets
     add-raise-nets
     raise-nets-requires
-    net-place-requires-2
+    net-offset-requires-2
     raise-nets-requires-2
     same-length
     returns)

@@ -11,23 +11,23 @@ use Rattle.setup.proofs.entries.account.Tie as tie
 counts-requires : tie.Need-counts-requires
 counts-requires c κs = search needs
 
-account-from-requires : tie.Need-account-from-requires
-account-from-requires c κs = search needs
+account-offset-requires : tie.Need-account-offset-requires
+account-offset-requires c κs = search needs
 
 account-at-requires : tie.Need-account-at-requires
 account-at-requires c κs =
     let start = c .before .before .before in
     let same = c .before .counts .ensures in
     let high = ap (λ (n : Counts). n .accounts) same in
-    omega (arith, c .account-from .ensures, ap setupLength same, account-inside (c .before .counts .result) (start .args .number) (start .pre .1) (omega (arith, start .pre .2)))
+    omega (arith, c .account-offset .ensures, ap setupLength same, account-inside (c .before .counts .result) (start .args .number) (start .pre .1) (omega (arith, start .pre .2)))
 
 returns : tie.Need-returns
 returns c =
     let start = c .before .before .before .before in
     let same = c .before .before .counts .ensures in
     let high = ap (λ (n : Counts). n .accounts) same in
-    account-numbered _ _ same _ (c .before .account-from .ensures) (c .account-at .ensures) (start .pre .1) (omega (arith, start .pre .2))
+    account-numbered _ _ same _ (c .before .account-offset .ensures) (c .account-at .ensures) (start .pre .1) (omega (arith, start .pre .2))
 
 pub account-spec : {M : Type 1} → statement M
 account-spec =
-    tie.close (tie.spec counts-requires account-from-requires account-at-requires returns)
+    tie.close (tie.spec counts-requires account-offset-requires account-at-requires returns)

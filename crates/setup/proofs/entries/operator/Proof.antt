@@ -1,7 +1,7 @@
 -- The entry that was read at its place is the one of that number.
 use mathlib.Core.Path.{_∙_, ap}
 use native.Mathlib.Omega.{arith}
-use Rattle.rules.specs.Opening.{operatorsIn, operatorsFrom, operatorEntry}
+use Rattle.rules.specs.Opening.{operatorsIn, operatorsOffset, operatorEntry}
 use Rattle.rules.proofs.Setups.SetupEntries.{entry-by-number}
 use borrow.Author.Needs.{needs}
 use Rattle.setup.proofs.entries.operator.Statement.{statement}
@@ -10,8 +10,8 @@ use Rattle.setup.proofs.entries.operator.Tie as tie
 counts-requires : tie.Need-counts-requires
 counts-requires c κs = search needs
 
-operators-from-requires : tie.Need-operators-from-requires
-operators-from-requires c κs = search needs
+operators-offset-requires : tie.Need-operators-offset-requires
+operators-offset-requires c κs = search needs
 
 sub-operator-at : tie.Need-sub-operator-at
 sub-operator-at c = search needs
@@ -23,18 +23,18 @@ add-operator-at : tie.Need-add-operator-at
 add-operator-at c = search needs
 
 operator-at-requires : tie.Need-operator-at-requires
-operator-at-requires c κs = omega (arith, c .operators-from .ensures ∙ ap operatorsFrom (c .before .counts .ensures))
+operator-at-requires c κs = omega (arith, c .operators-offset .ensures ∙ ap operatorsOffset (c .before .counts .ensures))
 
 returns : tie.Need-returns
 unfolding operatorsIn
-returns c = let start = c .before .before .before .before in entry-by-number operatorEntry _ _ _ _ _ _ _ (c .before .operators-from .ensures ∙ ap operatorsFrom (c .before .before .counts .ensures)) (start .pre .1) (start .pre .2) (c .operator-at .ensures)
+returns c = let start = c .before .before .before .before in entry-by-number operatorEntry _ _ _ _ _ _ _ (c .before .operators-offset .ensures ∙ ap operatorsOffset (c .before .before .counts .ensures)) (start .pre .1) (start .pre .2) (c .operator-at .ensures)
 
 pub operator-spec : {M : Type 1} → statement M
 operator-spec =
     tie.close
     (tie.spec
     counts-requires
-    operators-from-requires
+    operators-offset-requires
     sub-operator-at
     mul-operator-at
     add-operator-at

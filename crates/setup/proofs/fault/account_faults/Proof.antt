@@ -5,9 +5,9 @@ use lib.ListN.{length, drop}
 use native.Mathlib.Omega.{arith}
 use Rattle.rules.specs.declared.Counts.{Counts}
 use Rattle.rules.specs.Basics.{entries}
-use Rattle.rules.specs.Opening.{accountIn, accountsFrom, accountsIn, accountValues, valuesOf, accountEntry}
+use Rattle.rules.specs.Opening.{accountIn, accountsOffset, accountsIn, accountValues, valuesOf, accountEntry}
 use Rattle.rules.proofs.Basics.Products.{one-more}
-use Rattle.setup.specs.Faults.{judged, accountFaults}
+use Rattle.setup.specs.Faults.{firstFault, accountFaults}
 use Rattle.setup.proofs.FaultLaws.{none-left, first-clear, first-fails, at-counts}
 use borrow.Author.Needs.{needs}
 use Rattle.setup.proofs.fault.account_faults.Statement.{statement}
@@ -16,7 +16,7 @@ use Rattle.setup.proofs.fault.account_faults.Tie as tie
 abbrev Inv-loop : tie.InvT-loop
 Inv-loop setup n entry at₀ left₀ at left =
     (at + accountEntry n * left ≤ length setup)
-    × (judged (valuesOf (accountEntry n) (accountValues (n .operators)) at (entries (accountEntry n) accountIn left (drop at setup)))
+    × (firstFault (valuesOf (accountEntry n) (accountValues (n .operators)) at (entries (accountEntry n) accountIn left (drop at setup)))
     ≡ accountFaults setup)
 
 abbrev μ-loop : tie.MeasureT-loop
@@ -25,15 +25,15 @@ abbrev μ-loop : tie.MeasureT-loop
 account-entry-requires : tie.Need-account-entry-requires Inv-loop μ-loop
 account-entry-requires c κs = search needs
 
-accounts-from-requires : tie.Need-accounts-from-requires Inv-loop μ-loop
-accounts-from-requires c κs = search needs
+accounts-offset-requires : tie.Need-accounts-offset-requires Inv-loop μ-loop
+accounts-offset-requires c κs = search needs
 
 loop-holds : tie.Need-loop-holds Inv-loop μ-loop
 unfolding accountFaults accountsIn
 loop-holds c =
     let start = c .before .before .before in
     let s = start .args .setup .now in
-    (omega (arith, start .pre .whole, c .accounts-from .ensures), at-counts (λ (n : Counts) (at : ℕ). judged (valuesOf (accountEntry n) (accountValues (n .operators)) at (entries (accountEntry n) accountIn (n .accounts) (drop at s)))) accountsFrom (start .pre .counted) (c .accounts-from .ensures))
+    (omega (arith, start .pre .whole, c .accounts-offset .ensures), at-counts (λ (n : Counts) (at : ℕ). firstFault (valuesOf (accountEntry n) (accountValues (n .operators)) at (entries (accountEntry n) accountIn (n .accounts) (drop at s)))) accountsOffset (start .pre .counted) (c .accounts-offset .ensures))
 
 account-at-requires : tie.Need-account-at-requires Inv-loop μ-loop
 account-at-requires c κs =
@@ -89,7 +89,7 @@ account-faults-spec =
     Inv-loop
     μ-loop
     account-entry-requires
-    accounts-from-requires
+    accounts-offset-requires
     loop-holds
     account-at-requires
     account-fault-requires

@@ -5,8 +5,8 @@ use lib.ListN.{length, drop}
 use native.Mathlib.Omega.{arith}
 use Rattle.rules.specs.declared.Counts.{Counts}
 use Rattle.rules.specs.Basics.{entries}
-use Rattle.rules.specs.Opening.{priceIn, estimatesIn, estimateValues, valuesOf, priceWidth, estimatesFrom}
-use Rattle.setup.specs.Faults.{judged, estimateFaults}
+use Rattle.rules.specs.Opening.{priceIn, estimatesIn, estimateValues, valuesOf, priceWidth, estimatesOffset}
+use Rattle.setup.specs.Faults.{firstFault, estimateFaults}
 use Rattle.setup.proofs.FaultLaws.{none-left, first-clear, first-fails}
 use borrow.Author.Needs.{needs}
 use Rattle.setup.proofs.fault.estimate_faults.Statement.{statement}
@@ -15,7 +15,7 @@ use Rattle.setup.proofs.fault.estimate_faults.Tie as tie
 abbrev Inv-loop : tie.InvT-loop
 Inv-loop setup at₀ left₀ at left =
     (at + priceWidth * left ≤ length setup)
-    × (judged (valuesOf priceWidth estimateValues at (entries priceWidth priceIn left (drop at setup)))
+    × (firstFault (valuesOf priceWidth estimateValues at (entries priceWidth priceIn left (drop at setup)))
     ≡ estimateFaults setup)
 
 abbrev μ-loop : tie.MeasureT-loop
@@ -24,7 +24,7 @@ abbrev μ-loop : tie.MeasureT-loop
 loop-holds : tie.Need-loop-holds Inv-loop μ-loop
 unfolding estimateFaults estimatesIn
 loop-holds c =
-    (search needs, ap (λ (n : Counts). judged (valuesOf priceWidth estimateValues estimatesFrom (entries priceWidth priceIn (n .hours) (drop estimatesFrom (c .before .args .setup .now))))) (c .before .pre .counted))
+    (search needs, ap (λ (n : Counts). firstFault (valuesOf priceWidth estimateValues estimatesOffset (entries priceWidth priceIn (n .hours) (drop estimatesOffset (c .before .args .setup .now))))) (c .before .pre .counted))
 
 price-at-requires : tie.Need-price-at-requires Inv-loop μ-loop
 price-at-requires c κs = search needs

@@ -5,8 +5,8 @@ use lib.ListN.{length, drop}
 use native.Mathlib.Omega.{arith}
 use Rattle.rules.specs.declared.Counts.{Counts}
 use Rattle.rules.specs.Basics.{entries}
-use Rattle.rules.specs.Opening.{operatorIn, operatorsFrom, operatorsIn, operatorValues, valuesOf, operatorEntry}
-use Rattle.setup.specs.Faults.{judged, operatorFaults}
+use Rattle.rules.specs.Opening.{operatorIn, operatorsOffset, operatorsIn, operatorValues, valuesOf, operatorEntry}
+use Rattle.setup.specs.Faults.{firstFault, operatorFaults}
 use Rattle.setup.proofs.FaultLaws.{none-left, first-clear, first-fails, at-counts}
 use borrow.Author.Needs.{needs}
 use Rattle.setup.proofs.fault.operator_faults.Statement.{statement}
@@ -14,19 +14,19 @@ use Rattle.setup.proofs.fault.operator_faults.Tie as tie
 
 abbrev Inv-loop : tie.InvT-loop
 Inv-loop setup at₀ left₀ at left =
-    (at + operatorEntry * left ≤ length setup) × (judged (valuesOf operatorEntry operatorValues at (entries operatorEntry operatorIn left (drop at setup))) ≡ operatorFaults setup)
+    (at + operatorEntry * left ≤ length setup) × (firstFault (valuesOf operatorEntry operatorValues at (entries operatorEntry operatorIn left (drop at setup))) ≡ operatorFaults setup)
 
 abbrev μ-loop : tie.MeasureT-loop
 μ-loop setup at₀ left₀ at left = left
 
-operators-from-requires : tie.Need-operators-from-requires Inv-loop μ-loop
-operators-from-requires c κs = search needs
+operators-offset-requires : tie.Need-operators-offset-requires Inv-loop μ-loop
+operators-offset-requires c κs = search needs
 
 loop-holds : tie.Need-loop-holds Inv-loop μ-loop
 unfolding operatorFaults operatorsIn
 loop-holds c =
     let s = c .before .before .args .setup .now in
-    (search needs, at-counts (λ (n : Counts) (at : ℕ). judged (valuesOf operatorEntry operatorValues at (entries operatorEntry operatorIn (n .operators) (drop at s)))) operatorsFrom (c .before .before .pre .counted) (c .operators-from .ensures))
+    (search needs, at-counts (λ (n : Counts) (at : ℕ). firstFault (valuesOf operatorEntry operatorValues at (entries operatorEntry operatorIn (n .operators) (drop at s)))) operatorsOffset (c .before .before .pre .counted) (c .operators-offset .ensures))
 
 operator-at-requires : tie.Need-operator-at-requires Inv-loop μ-loop
 operator-at-requires c κs = search needs
@@ -68,7 +68,7 @@ operator-faults-spec =
     (tie.spec
     Inv-loop
     μ-loop
-    operators-from-requires
+    operators-offset-requires
     loop-holds
     operator-at-requires
     operator-fault-requires

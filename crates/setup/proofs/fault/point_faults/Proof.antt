@@ -5,8 +5,8 @@ use lib.ListN.{length, drop}
 use native.Mathlib.Omega.{arith}
 use Rattle.rules.specs.declared.Counts.{Counts}
 use Rattle.rules.specs.Basics.{entries}
-use Rattle.rules.specs.Opening.{pointIn, pointsFrom, accountsIn, pointsIn, pointValues, valuesOf, pointEntry}
-use Rattle.setup.specs.Faults.{judged, pointFaults}
+use Rattle.rules.specs.Opening.{pointIn, pointsOffset, accountsIn, pointsIn, pointValues, valuesOf, pointEntry}
+use Rattle.setup.specs.Faults.{firstFault, pointFaults}
 use Rattle.setup.proofs.FaultLaws.{none-left, first-clear, first-fails, at-counts}
 use borrow.Author.Needs.{needs}
 use Rattle.setup.proofs.fault.point_faults.Statement.{statement}
@@ -14,19 +14,19 @@ use Rattle.setup.proofs.fault.point_faults.Tie as tie
 
 abbrev Inv-loop : tie.InvT-loop
 Inv-loop setup n at₀ left₀ at left =
-    (at + pointEntry * left ≤ length setup) × (judged (valuesOf pointEntry (pointValues (accountsIn setup) (n .zones)) at (entries pointEntry pointIn left (drop at setup))) ≡ pointFaults setup)
+    (at + pointEntry * left ≤ length setup) × (firstFault (valuesOf pointEntry (pointValues (accountsIn setup) (n .zones)) at (entries pointEntry pointIn left (drop at setup))) ≡ pointFaults setup)
 
 abbrev μ-loop : tie.MeasureT-loop
 μ-loop setup n at₀ left₀ at left = left
 
-points-from-requires : tie.Need-points-from-requires Inv-loop μ-loop
-points-from-requires c κs = search needs
+points-offset-requires : tie.Need-points-offset-requires Inv-loop μ-loop
+points-offset-requires c κs = search needs
 
 loop-holds : tie.Need-loop-holds Inv-loop μ-loop
 unfolding pointFaults pointsIn
 loop-holds c =
     let s = c .before .before .args .setup .now in
-    (search needs, at-counts (λ (n : Counts) (at : ℕ). judged (valuesOf pointEntry (pointValues (accountsIn s) (n .zones)) at (entries pointEntry pointIn (n .points) (drop at s)))) pointsFrom (c .before .before .pre .counted) (c .points-from .ensures .0))
+    (search needs, at-counts (λ (n : Counts) (at : ℕ). firstFault (valuesOf pointEntry (pointValues (accountsIn s) (n .zones)) at (entries pointEntry pointIn (n .points) (drop at s)))) pointsOffset (c .before .before .pre .counted) (c .points-offset .ensures .0))
 
 point-at-requires : tie.Need-point-at-requires Inv-loop μ-loop
 point-at-requires c κs = search needs
@@ -68,7 +68,7 @@ point-faults-spec =
     (tie.spec
     Inv-loop
     μ-loop
-    points-from-requires
+    points-offset-requires
     loop-holds
     point-at-requires
     point-fault-requires

@@ -2,7 +2,7 @@
 use native.Mathlib.Omega.{arith}
 use Rattle.rules.specs.Opening.{accountValues}
 use Rattle.rules.proofs.Setups.SetupEntries.{account-wide}
-use Rattle.setup.specs.Faults.{judgedFrom}
+use Rattle.setup.specs.Faults.{firstFaultFrom}
 use borrow.Author.Needs.{needs}
 use Rattle.setup.proofs.values.account_fault.Statement.{statement}
 use Rattle.setup.proofs.values.account_fault.Tie as tie
@@ -29,7 +29,7 @@ or-fault-requires-4 : tie.Need-or-fault-requires-4
 or-fault-requires-4 c κs = let start = c .before .before .before .before .before .before .before .before .before .before in omega (arith, start .pre, account-wide (start .args .n))
 
 returns : tie.Need-returns
-unfolding accountValues judgedFrom
+unfolding accountValues firstFaultFrom
 returns c =
     let lower = c .before .before .or-fault3 .ensures in
     let kind = c .before .before .before .before .or-fault2 .ensures in

@@ -1,5 +1,5 @@
 -- The two values are judged in the order of their offsets.
-use Rattle.setup.specs.Faults.{judgedFrom}
+use Rattle.setup.specs.Faults.{firstFaultFrom}
 use borrow.Author.Needs.{needs}
 use Rattle.setup.proofs.values.amounts_fault.Statement.{statement}
 use Rattle.setup.proofs.values.amounts_fault.Tie as tie
@@ -23,7 +23,7 @@ or-fault-requires-2 : tie.Need-or-fault-requires-2
 or-fault-requires-2 c κs = search needs
 
 returns : tie.Need-returns
-unfolding judgedFrom
+unfolding firstFaultFrom
 returns c =
     rw (c .or-fault2 .ensures, c .before .before .most-amount2 .ensures, c .before .before .before .before .or-fault .ensures, c .before .before .before .before .before .before .most-amount .ensures)
 

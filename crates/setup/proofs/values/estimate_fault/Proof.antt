@@ -1,6 +1,6 @@
 -- There is one value.
 use Rattle.rules.specs.Opening.{estimateValues}
-use Rattle.setup.specs.Faults.{judgedFrom}
+use Rattle.setup.specs.Faults.{firstFaultFrom}
 use borrow.Author.Needs.{needs}
 use Rattle.setup.proofs.values.estimate_fault.Statement.{statement}
 use Rattle.setup.proofs.values.estimate_fault.Tie as tie
@@ -9,7 +9,7 @@ or-fault-requires : tie.Need-or-fault-requires
 or-fault-requires c κs = search needs
 
 returns : tie.Need-returns
-unfolding estimateValues judgedFrom
+unfolding estimateValues firstFaultFrom
 returns c = c .or-fault .ensures
 
 pub estimate-fault-spec : {M : Type 1} → statement M

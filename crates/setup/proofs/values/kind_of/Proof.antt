@@ -14,19 +14,19 @@ returns-2 : tie.Need-returns-2
 returns-2 c =
     let start = c .before .before .before .before in ap (λ (x : Account). x .kind) (sym (no-account-past _ _ (start .pre .counted) _ (c .if2 .taken)))
 
-account-from-requires : tie.Need-account-from-requires
-account-from-requires c κs = search needs
+account-offset-requires : tie.Need-account-offset-requires
+account-offset-requires c κs = search needs
 
 account-at-requires : tie.Need-account-at-requires
 account-at-requires c κs =
     let start = c .before .before .before .before .before in
-    omega (arith, start .pre .whole, c .account-from .ensures, account-inside (start .args .n) (start .args .number) (omega arith) (omega arith))
+    omega (arith, start .pre .whole, c .account-offset .ensures, account-inside (start .args .n) (start .args .number) (omega arith) (omega arith))
 
 returns-3 : tie.Need-returns-3
 returns-3 c =
     let start = c .before .before .before .before .before .before in
-    ap (λ (x : Account). x .kind) (account-numbered _ _ (start .pre .counted) _ (c .before .account-from .ensures) (c .account-at .ensures) (omega arith) (omega arith))
+    ap (λ (x : Account). x .kind) (account-numbered _ _ (start .pre .counted) _ (c .before .account-offset .ensures) (c .account-at .ensures) (omega arith) (omega arith))
 
 pub kind-of-spec : {M : Type 1} → statement M
 kind-of-spec =
-    tie.close (tie.spec returns returns-2 account-from-requires account-at-requires returns-3)
+    tie.close (tie.spec returns returns-2 account-offset-requires account-at-requires returns-3)

@@ -1,6 +1,6 @@
 -- The two values are judged in the order of their offsets.
 use Rattle.rules.specs.Opening.{operatorValues}
-use Rattle.setup.specs.Faults.{judgedFrom}
+use Rattle.setup.specs.Faults.{firstFaultFrom}
 use borrow.Author.Needs.{needs}
 use Rattle.setup.proofs.values.operator_fault.Statement.{statement}
 use Rattle.setup.proofs.values.operator_fault.Tie as tie
@@ -15,7 +15,7 @@ or-fault-requires-2 : tie.Need-or-fault-requires-2
 or-fault-requires-2 c κs = search needs
 
 returns : tie.Need-returns
-unfolding operatorValues judgedFrom
+unfolding operatorValues firstFaultFrom
 returns c = rw (c .or-fault2 .ensures, c .before .before .or-fault .ensures)
 
 pub operator-fault-spec : {M : Type 1} → statement M

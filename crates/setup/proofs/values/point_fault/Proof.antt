@@ -4,7 +4,7 @@ use Rattle.rules.specs.declared.Counts.{Counts}
 use Rattle.rules.proofs.Setups.SetupEntries.{length-accounts}
 use native.Mathlib.Omega.{arith}
 use Rattle.rules.specs.Opening.{pointValues}
-use Rattle.setup.specs.Faults.{judgedFrom}
+use Rattle.setup.specs.Faults.{firstFaultFrom}
 use borrow.Author.Needs.{needs}
 use Rattle.setup.proofs.values.point_fault.Statement.{statement}
 use Rattle.setup.proofs.values.point_fault.Tie as tie
@@ -31,7 +31,7 @@ amounts-fault-requires : tie.Need-amounts-fault-requires
 amounts-fault-requires c κs = omega (arith, c .before .before .before .before .before .before .before .before .before .before .before .before .before .before .before .pre .1)
 
 returns : tie.Need-returns
-unfolding pointValues judgedFrom
+unfolding pointValues firstFaultFrom
 returns c =
     let zone = c .before .or-fault3 .ensures in
     let kind = c .before .before .before .before .before .or-fault2 .ensures in

@@ -33,8 +33,8 @@ loop-holds c =
 row-at-requires : tie.Need-row-at-requires Inv-loop μ-loop
 row-at-requires c κs = search needs
 
-take-row-requires : tie.Need-take-row-requires Inv-loop μ-loop
-take-row-requires c κs =
+add-row-requires : tie.Need-add-row-requires Inv-loop μ-loop
+add-row-requires c κs =
     let l = c .before .before .before .loop in
     let s = c .before .before .before .before .before .before .args .s .now in
     let step = rows-step s (l .place) (l .left) (l .left - 1) (omega arith) in
@@ -62,7 +62,7 @@ loop-again c =
       search needs,
       search needs,
       each-rest rows,
-      filling-next _ _ _ _ _ _ _ _ step (omega arith) (each-first rows) (rw (t .before .before .row-at .ensures) at (t .take-row .ensures)) (l .inv .4),
+      filling-next _ _ _ _ _ _ _ _ step (omega arith) (each-first rows) (rw (t .before .before .row-at .ensures) at (t .add-row .ensures)) (l .inv .4),
     )
 
 same-length : tie.Need-same-length Inv-loop μ-loop
@@ -79,7 +79,7 @@ fill-spec =
     μ-loop
     loop-holds
     row-at-requires
-    take-row-requires
+    add-row-requires
     add-place
     sub-left
     loop-less

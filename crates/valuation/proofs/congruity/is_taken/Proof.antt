@@ -9,11 +9,11 @@ price-number-requires c κs = search needs
 price-requires : tie.Need-price-requires
 price-requires c κs = search needs
 
-takes-requires : tie.Need-takes-requires
-takes-requires c κs = search needs
+taken-at-requires : tie.Need-taken-at-requires
+taken-at-requires c κs = search needs
 
 returns : tie.Need-returns
-returns c u e = rw (← c .before .before .price-number .ensures, ← c .before .price .ensures u e) (c .takes .ensures)
+returns c u e = rw (← c .before .before .price-number .ensures, ← c .before .price .ensures u e) (c .taken-at .ensures)
 
 pub is-taken-spec : {M : Type 1} → statement M
-is-taken-spec = tie.close (tie.spec price-number-requires price-requires takes-requires returns)
+is-taken-spec = tie.close (tie.spec price-number-requires price-requires taken-at-requires returns)

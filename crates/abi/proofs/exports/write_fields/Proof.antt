@@ -1,0 +1,28 @@
+-- 34 bytes say a request, which is written; any others are refused.
+use mathlib.Core.Path.{refl}
+use borrow.Author.Tests.{eq-eqb, ne-eqb}
+use Rattle.abi.specs.Fields.{fieldsOutcome, fieldsWritten}
+use borrow.Author.Needs.{needs}
+use Rattle.abi.proofs.exports.write_fields.Statement.{statement}
+use Rattle.abi.proofs.exports.write_fields.Tie as tie
+
+returns : tie.Need-returns
+unfolding fieldsOutcome fieldsWritten
+returns c = rw (ne-eqb _ _ (c .if1 .taken)) (refl, refl)
+
+request-in-requires : tie.Need-request-in-requires
+request-in-requires c κs = search needs
+
+write-requires : tie.Need-write-requires
+write-requires c κs = search needs
+
+same-length : tie.Need-same-length
+same-length c = search needs
+
+returns-2 : tie.Need-returns-2
+unfolding fieldsOutcome fieldsWritten
+returns-2 c = rw (eq-eqb _ _ (c .before .before .before .before .before .if1 .left), ← c .before .before .before .before .request-in .ensures) (c .before .before .write .ensures)
+
+pub write-fields-spec : {M : Type 1} → statement M
+write-fields-spec =
+    tie.close (tie.spec returns request-in-requires write-requires same-length returns-2)

@@ -1,0 +1,105 @@
+-- Too many rows are no part; else the tests, in this order, are those of a part.
+use mathlib.Core.Path.{sym, ap, _∙_}
+use native.Mathlib.Omega.{arith}
+use borrow.Author.Tests.{not-true, not-false}
+use Rattle.rules.specs.declared.Counts.{Counts}
+use Rattle.audit.proofs.PartValidity.{too-many-rows, guarantees-fail, rows-fail, sums-decide, rows-tabled, guarantees-small}
+use borrow.Author.Needs.{needs}
+use Rattle.audit.proofs.part.part_valid.Statement.{statement}
+use Rattle.audit.proofs.part.part_valid.Tie as tie
+
+counts-requires : tie.Need-counts-requires
+counts-requires c κs = search needs
+
+add-get-u16 : tie.Need-add-get-u16
+add-get-u16 c = search needs
+
+get-u16-requires : tie.Need-get-u16-requires
+get-u16-requires c κs = search needs
+
+cast-rows : tie.Need-cast-rows
+cast-rows c = search needs
+
+returns : tie.Need-returns
+returns c = too-many-rows _ _ _ (omega (arith, c .before .get-u16 .ensures))
+
+cast-guarantees-valid : tie.Need-cast-guarantees-valid
+cast-guarantees-valid c = search needs
+
+guarantees-valid-requires : tie.Need-guarantees-valid-requires
+guarantees-valid-requires c κs =
+    let counted = c .before .before .before in
+    (search needs, omega (arith, ap (λ (n : Counts). n .operators) (counted .counts .ensures), counted .before .before .before .pre .0 .0 .operators-high))
+
+returns-2 : tie.Need-returns-2
+returns-2 c =
+    let tested = c .before in
+    let read = tested .before .before .before in
+    let counted = read .before in
+    guarantees-fail _ _ _ _ _ (counted .before .before .before .pre .0 .0) (read .get-u16 .ensures) (ap (λ (n : Counts). n .operators) (counted .counts .ensures)) (omega arith)
+    (sym (tested .guarantees-valid .ensures) ∙ not-true _ (c .if2 .taken))
+
+rows-valid-requires : tie.Need-rows-valid-requires
+rows-valid-requires c κs = search needs
+
+returns-3 : tie.Need-returns-3
+returns-3 c =
+    let rows = c .before in
+    let tested-rows = rows .before in
+    let tested = tested-rows .before in
+    let read = tested .before .before .before in
+    let counted = read .before in
+    rows-fail _ _ _ _ _ (counted .before .before .before .pre .0 .0) (read .get-u16 .ensures) (ap (λ (n : Counts). n .operators) (counted .counts .ensures)) (omega arith)
+    (sym (tested .guarantees-valid .ensures) ∙ not-false _ (tested-rows .if2 .left)) (sym (rows .rows-valid .ensures) ∙ not-true _ (c .if3 .taken))
+
+sums-valid-requires : tie.Need-sums-valid-requires
+sums-valid-requires c κs =
+    let sums = c .before in
+    let rows = sums .before in
+    let tested-rows = rows .before in
+    let tested = tested-rows .before in
+    let counted = tested .before .before .before .before in
+    let known = counted .before .before .before .pre .0 .0 in (
+      (
+        known,
+        search needs,
+        search needs,
+        rows-tabled _ _ _ _ known (sym (rows .rows-valid .ensures) ∙ not-false _ (sums .if3 .left)),
+        guarantees-small _ _ _ _ (ap (λ (n : Counts). n .operators) (counted .counts .ensures)) (sym (tested .guarantees-valid .ensures) ∙ not-false _ (tested-rows .if2 .left)),
+      ),
+      counted .before .before .before .pre .1,
+    )
+
+same-length : tie.Need-same-length
+same-length c = search needs
+
+returns-4 : tie.Need-returns-4
+returns-4 c =
+    let done = c .before .before in
+    let sums = done .before .before in
+    let rows = sums .before in
+    let tested-rows = rows .before in
+    let tested = tested-rows .before in
+    let read = tested .before .before .before in
+    let counted = read .before in
+    done .sums-valid .ensures
+    ∙ sums-decide _ _ _ _ _ (counted .before .before .before .pre .0 .0) (read .get-u16 .ensures) (ap (λ (n : Counts). n .operators) (counted .counts .ensures)) (omega arith)
+    (sym (tested .guarantees-valid .ensures) ∙ not-false _ (tested-rows .if2 .left)) (sym (rows .rows-valid .ensures) ∙ not-false _ (sums .if3 .left))
+
+pub part-valid-spec : {M : Type 1} → statement M
+part-valid-spec =
+    tie.close
+    (tie.spec
+    counts-requires
+    add-get-u16
+    get-u16-requires
+    cast-rows
+    returns
+    cast-guarantees-valid
+    guarantees-valid-requires
+    returns-2
+    rows-valid-requires
+    returns-3
+    sums-valid-requires
+    same-length
+    returns-4)

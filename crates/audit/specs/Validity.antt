@@ -1,0 +1,127 @@
+-- A book section by section, as code tests it in its bytes: the set-up first, then what is read by it. Each test looks at its own places.
+-- `top` is the most periods that a day can have, 25 hours today.
+use Prim.Native.Nat.{ℕ, _+_, _-_, _*_, _≤_}
+use mathlib.Core.Path.{_≡_}
+use mathlib.Core.List.{List, [], _∷_}
+use mathlib.Core.Bool.{Bool, not, _&&_, _||_}
+use lib.ListN.{length, getD, take}
+use lib.Dec.{eqb, leb}
+use Rattle.wire.specs.Numbers.{numberAt}
+use Rattle.wire.specs.Regions.{zerosFrom}
+use Rattle.rules.specs.declared.Row.{Row}
+use Rattle.rules.specs.Basics.{if_then_else_, anyPasses, every, allOf, within, Each}
+use Rattle.rules.specs.Limits.{mostPrice, mostGuarantee, thousand, mostOperators, mostRows, mostSchedules, bookSize}
+use Rattle.rules.specs.Books.{Part}
+use Rattle.rules.specs.Opening.{countsIn, operatorsOffset, setupLength, setupOf, estimatesIn, guaranteeWidth}
+use Rattle.rules.specs.Registration.{pending}
+use Rattle.image.specs.Layout.{setupRoom, rowWidth, scheduleWidth, partSize, phaseOffset, flagOffset, scheduleCountOffset, schedulesOffset, presentOffset, savedOffset, rowCountOffset, rowsOffset}
+use Rattle.image.specs.Valid.{setupOk, rowOk, scheduleOk, noTwins, marginsKept, operatorsCovered, partOk, follows}
+use Rattle.image.specs.Cells.{rowsFrom, schedulesFrom, guaranteesFrom, partAt}
+use Rattle.image.specs.Tables.{SetupTabled}
+use Rattle.audit.specs.Exact.{noGuarantees, netsMatch, partExact}
+
+-- ---- the set-up
+
+-- opening would accept it; no guarantee stands in it, and zeros stand behind it
+abbrev pub setupValidTests : List ℕ → List Bool
+setupValidTests s =
+    setupOk (setupOf (take setupRoom s))
+    ∷ noGuarantees s (operatorsOffset (countsIn s)) (countsIn s .operators)
+    ∷ zerosFrom s (setupLength (countsIn s)) (setupRoom - setupLength (countsIn s))
+    ∷ []
+
+unfoldable pub setupValid : List ℕ → Bool
+setupValid s = allOf (setupValidTests s)
+
+-- what is known of a book's bytes once its set-up stands
+pub record SetupKnown (top : ℕ) (s : List ℕ) : Type 0 where
+  pub size : length s ≡ bookSize
+  pub tabled : SetupTabled top s
+  pub operators-high : countsIn s .operators ≤ mostOperators
+  pub prices-high : Each (λ p. p .0 ≤ mostPrice) (estimatesIn s)
+  pub maintenance-high : Each (λ m. m ≤ thousand) (setupOf s .maintenance)
+
+-- ---- a part, the present and the saved one alike
+
+-- how many rows the part that begins at `at` says that it has, and those rows
+abbrev pub rowCount : List ℕ → ℕ → ℕ
+rowCount s at = numberAt s (at + rowCountOffset) 2
+
+abbrev pub rowsOf : List ℕ → ℕ → List Row
+rowsOf s at = rowsFrom s (at + rowsOffset) (rowCount s at)
+
+-- the guarantees at `at` with these rows
+abbrev pub partWith : List ℕ → ℕ → List Row → Part
+partWith s at rows = record { guarantees = guaranteesFrom s at (countsIn s .operators); rows = rows }
+
+-- no guarantee is too great, and zeros stand behind them
+abbrev pub guaranteesValidTests : List ℕ → ℕ → ℕ → List Bool
+guaranteesValidTests s at operators =
+    every (λ g. leb (g .0) mostGuarantee) (guaranteesFrom s at operators)
+    ∷ zerosFrom s (at + guaranteeWidth * operators) (guaranteeWidth * mostOperators - guaranteeWidth * operators)
+    ∷ []
+
+unfoldable pub guaranteesValid : List ℕ → ℕ → ℕ → Bool
+guaranteesValid s at operators = allOf (guaranteesValidTests s at operators)
+
+-- the n rows are in range, no two pending ones alike, and zeros stand behind them
+abbrev pub rowsValidTests : List ℕ → ℕ → ℕ → List Bool
+rowsValidTests s at n =
+    every (rowOk (setupOf s)) (rowsFrom s (at + rowsOffset) n)
+    ∷ zerosFrom s (at + rowsOffset + rowWidth * n) (rowWidth * mostRows - rowWidth * n)
+    ∷ noTwins (rowsFrom s (at + rowsOffset) n)
+    ∷ []
+
+unfoldable pub rowsValid : List ℕ → ℕ → ℕ → Bool
+rowsValid s at n = allOf (rowsValidTests s at n)
+
+-- the nets are those of the rows, which keep the margins and are covered
+abbrev pub sumsValidTests : ℕ → List ℕ → ℕ → List Row → List Bool
+sumsValidTests top s at rows =
+    netsMatch top rows s at
+    ∷ marginsKept (setupOf s) rows
+    ∷ operatorsCovered (setupOf s) (partWith s at rows)
+    ∷ []
+
+unfoldable pub sumsValid : ℕ → List ℕ → ℕ → List Row → Bool
+sumsValid top s at rows = allOf (sumsValidTests top s at rows)
+
+-- the part is valid, and its bytes are its image
+unfoldable pub partValid : ℕ → List ℕ → ℕ → Bool
+partValid top s at = partOk (setupOf s) (partAt top (countsIn s .operators) s at) && partExact top (countsIn s .operators) s at
+
+-- the saved part: zeros without a batch; with one a part, whose rows the present ones follow
+unfoldable pub savedValid : ℕ → List ℕ → Bool
+savedValid top s =
+    if eqb (getD s flagOffset 0) 0
+    then zerosFrom s (savedOffset top) (partSize top)
+    else (partValid top s (savedOffset top) && follows (rowsOf s (savedOffset top)) (rowsOf s presentOffset))
+
+-- ---- schedules and phase
+
+-- there are no more schedules than may stand, each in range, and zeros stand behind them
+abbrev pub schedulesValidTests : List ℕ → List Bool
+schedulesValidTests s =
+    let n = numberAt s scheduleCountOffset 2 in
+    leb n mostSchedules
+    ∷ every (scheduleOk (setupOf s)) (schedulesFrom s schedulesOffset n)
+    ∷ zerosFrom s (schedulesOffset + scheduleWidth * n) (scheduleWidth * mostSchedules - scheduleWidth * n)
+    ∷ []
+
+unfoldable pub schedulesValid : List ℕ → Bool
+schedulesValid s = allOf (schedulesValidTests s)
+
+-- none pending after phase 1, schedules only after it, an open batch only in it
+abbrev pub phaseValidTests : List ℕ → List Bool
+phaseValidTests s =
+    let phase = getD s phaseOffset 0 in
+    let flag = getD s flagOffset 0 in
+    within 1 phase 3
+    ∷ leb flag 1
+    ∷ (eqb phase 1 || not (anyPasses pending (rowsOf s presentOffset)))
+    ∷ (not (eqb phase 1) || eqb (numberAt s scheduleCountOffset 2) 0)
+    ∷ (eqb phase 1 || eqb flag 0)
+    ∷ []
+
+unfoldable pub phaseValid : List ℕ → Bool
+phaseValid s = allOf (phaseValidTests s)

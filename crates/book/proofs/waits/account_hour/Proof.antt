@@ -1,0 +1,30 @@
+-- The net position stands in the book, and each of the two cells is what waits on its side.
+use mathlib.Core.Path.{_∙_}
+use native.Mathlib.Omega.{arith}
+use Rattle.book.proofs.WaitLaws.{side-hour}
+use borrow.Author.Needs.{needs}
+use Rattle.book.proofs.waits.account_hour.Statement.{statement}
+use Rattle.book.proofs.waits.account_hour.Tie as tie
+
+net-at-requires : tie.Need-net-at-requires
+net-at-requires c κs = search needs
+
+wait-at-requires : tie.Need-wait-at-requires
+wait-at-requires c κs =
+    let pre = c .before .before .before .pre in
+    (pre .1 .whole, side-hour _ (pre .0) 1 _ (omega arith) (omega arith) (pre .3))
+
+wait-at-requires-2 : tie.Need-wait-at-requires-2
+wait-at-requires-2 c κs =
+    let pre = c .before .before .before .before .pre in
+    (pre .1 .whole, side-hour _ (pre .0) 2 _ (omega arith) (omega arith) (pre .3))
+
+returns : tie.Need-returns
+returns c =
+    let pre = c .before .before .before .before .before .pre in
+    let sales = c .before .wait-at .ensures ∙ pre .1 .waits-at 1 _ (side-hour _ (pre .0) 1 _ (omega arith) (omega arith) (pre .3)) in
+    let purchases = c .wait-at2 .ensures ∙ pre .1 .waits-at 2 _ (side-hour _ (pre .0) 2 _ (omega arith) (omega arith) (pre .3)) in
+    rw (c .before .before .net-at .ensures, sales, purchases)
+
+pub account-hour-spec : {M : Type 1} → statement M
+account-hour-spec = tie.close (tie.spec net-at-requires wait-at-requires wait-at-requires-2 returns)

@@ -1,0 +1,23 @@
+-- Bytes that are a book are read as one, and others are not.
+use mathlib.Core.Path.{sym, _∙_}
+use borrow.Author.Needs.{needs}
+use Rattle.book.specs.Answers.{exposureAnswer}
+use Rattle.day.proofs.interface.exposure.Statement.{statement}
+use Rattle.day.proofs.interface.exposure.Tie as tie
+
+is-book-requires : tie.Need-is-book-requires
+is-book-requires c κs = search needs
+
+exposure-in-requires : tie.Need-exposure-in-requires
+exposure-in-requires c κs = sym (c .before .is-book .ensures) ∙ c .if1 .taken
+
+returns : tie.Need-returns
+unfolding exposureAnswer
+returns c = rw (sym (c .before .before .is-book .ensures) ∙ c .before .if1 .taken) (c .exposure-in .ensures)
+
+returns-2 : tie.Need-returns-2
+unfolding exposureAnswer
+returns-2 c = rw (sym (c .before .is-book .ensures) ∙ c .if1 .left)
+
+pub exposure-spec : {M : Type 1} → statement M
+exposure-spec = tie.close (tie.spec is-book-requires exposure-in-requires returns returns-2)

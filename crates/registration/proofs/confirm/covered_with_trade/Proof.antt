@@ -1,0 +1,40 @@
+-- A sale that is confirmed leaves every operator covered. Of a purchase, which weighs nothing while it waits, what is owed is the exposure
+-- of the account's operator with the trade taken.
+use mathlib.Core.Path.{_∙_}
+use borrow.Author.Needs.{needs}
+use Rattle.rules.specs.Basics.{nil, cons}
+use Rattle.registration.proofs.ConfirmLaws.{purchase-frees-none, trade-trade-in-range, sale-covered}
+use Rattle.registration.proofs.confirm.covered_with_trade.Statement.{statement}
+use Rattle.registration.proofs.confirm.covered_with_trade.Tie as tie
+
+returns : tie.Need-returns
+returns c =
+    let pre = c .before .before .before .pre in
+    sale-covered _ _ (pre .0) (pre .1) _ (pre .2) _ (pre .3) (pre .4) (c .if1 .taken)
+
+operator-of-requires : tie.Need-operator-of-requires
+operator-of-requires c κs = search needs
+
+exposure-with-requires : tie.Need-exposure-with-requires
+exposure-with-requires c κs =
+    let pre = c .before .before .before .before .pre in
+    (pre .0, cons (trade-trade-in-range _ _ (pre .0) (pre .1) _ (pre .2)) nil)
+
+covered-in-force-requires : tie.Need-covered-in-force-requires
+covered-in-force-requires c κs = search needs
+
+returns-2 : tie.Need-returns-2
+returns-2 c =
+    let operator = c .before .before in
+    c .covered-in-force .ensures
+    ∙ rw (c .before .exposure-with .ensures .0, operator .operator-of .ensures .0) (purchase-frees-none _ _ _ _ _ (operator .before .if1 .left))
+
+pub covered-with-trade-spec : {M : Type 1} → statement M
+covered-with-trade-spec =
+    tie.close
+    (tie.spec
+    returns
+    operator-of-requires
+    exposure-with-requires
+    covered-in-force-requires
+    returns-2)

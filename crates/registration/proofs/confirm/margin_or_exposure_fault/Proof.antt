@@ -1,0 +1,69 @@
+-- The search for a broken margin, and then the exposure with the trade taken and the row waiting no longer.
+use mathlib.Core.Path.{sym, ap, _∙_}
+use Rattle.rules.specs.Verdicts.{checked}
+use Rattle.registration.proofs.ConfirmLaws.{named-waits, caller-in-book, trade-energy, trade-hours, trade-breaks, trade-uncovered, covered-with-trade}
+use borrow.Author.Needs.{needs}
+use Rattle.registration.proofs.confirm.margin_or_exposure_fault.Statement.{statement}
+use Rattle.registration.proofs.confirm.margin_or_exposure_fault.Tie as tie
+
+confirmed-row-requires : tie.Need-confirmed-row-requires
+confirmed-row-requires c κs = search needs
+
+broken-hour-requires : tie.Need-broken-hour-requires
+broken-hour-requires c κs =
+    let pre = c .before .before .pre in
+    let caller = caller-in-book _ _ _ (pre .0) (pre .1) in
+    let waits = named-waits _ _ _ (pre .0) (pre .1) in
+    let hours = trade-hours _ _ (pre .0) waits _ (c .confirmed-row .ensures) in
+    (pre .0, trade-energy _ _ (pre .0) waits _ (c .confirmed-row .ensures), caller .0, caller .1, hours .0, hours .1, hours .2)
+
+enum-known-hour : tie.Need-enum-known-hour
+enum-known-hour c = search needs
+
+returns : tie.Need-returns
+returns c =
+    let hour = c .before .before .before in
+    let trade = hour .before in
+    let pre = trade .before .before .pre in
+    ap checked (sym (trade-breaks _ _ _ (pre .0) (pre .1) _ (trade .confirmed-row .ensures) _ (sym (c .before .hour .given .1) ∙ hour .broken-hour .ensures)))
+
+enum-told : tie.Need-enum-told
+enum-told c = search needs
+
+covered-with-trade-requires : tie.Need-covered-with-trade-requires
+covered-with-trade-requires c κs =
+    let trade = c .before .before .before in
+    let pre = trade .before .before .pre in
+    let caller = caller-in-book _ _ _ (pre .0) (pre .1) in
+    (pre .0, named-waits _ _ _ (pre .0) (pre .1), trade .confirmed-row .ensures, caller .0, caller .1)
+
+returns-2 : tie.Need-returns-2
+returns-2 c =
+    let told = c .before .before in
+    let hour = told .before .before in
+    let trade = hour .before in
+    let pre = trade .before .before .pre in
+    ap checked (sym (covered-with-trade _ _ _ (pre .0) (pre .1) _ (trade .confirmed-row .ensures) (sym (told .enum-told .given .1) ∙ hour .broken-hour .ensures) _
+    (c .before .covered-with-trade .ensures) (c .if1 .taken)))
+
+returns-3 : tie.Need-returns-3
+returns-3 c =
+    let told = c .before .before in
+    let hour = told .before .before in
+    let trade = hour .before in
+    let pre = trade .before .before .pre in
+    ap checked (sym (trade-uncovered _ _ _ (pre .0) (pre .1) _ (trade .confirmed-row .ensures) (sym (told .enum-told .given .1) ∙ hour .broken-hour .ensures) _
+    (c .before .covered-with-trade .ensures) (c .if1 .left)))
+
+pub margin-or-exposure-fault-spec : {M : Type 1} → statement M
+margin-or-exposure-fault-spec =
+    tie.close
+    (tie.spec
+    confirmed-row-requires
+    broken-hour-requires
+    enum-known-hour
+    returns
+    enum-told
+    covered-with-trade-requires
+    returns-2
+    returns-3)

@@ -1,0 +1,32 @@
+-- The guarantee in force stands in its 8 bytes of the present part.
+use mathlib.Core.Path.{refl, ap, _∙_}
+use native.Mathlib.Omega.{arith}
+use Rattle.units.specs.Units.{cents}
+use Rattle.book.proofs.StateLaws.{book-length}
+use Rattle.registration.proofs.CoverLaws.{guarantee-stands}
+use borrow.Author.Needs.{needs}
+use Rattle.registration.proofs.cover.guarantee_in_force.Statement.{statement}
+use Rattle.registration.proofs.cover.guarantee_in_force.Tie as tie
+
+sub-at : tie.Need-sub-at
+sub-at c = search needs
+
+mul-at : tie.Need-mul-at
+mul-at c = search needs
+
+add-at : tie.Need-add-at
+add-at c = search needs
+
+get-u64-requires : tie.Need-get-u64-requires
+get-u64-requires c κs = let n = book-length _ (c .before .pre .0) in omega arith
+
+returns : tie.Need-returns
+returns c =
+    let start = c .before .before in
+    let pre = start .pre in
+    let stands = guarantee-stands _ (pre .0) (start .args .number) (pre .1) (pre .2) _ refl in
+    let read = c .get-u64 .ensures ∙ stands .0 in
+    (ap cents read, omega (arith, read, stands .1))
+
+pub guarantee-in-force-spec : {M : Type 1} → statement M
+guarantee-in-force-spec = tie.close (tie.spec sub-at mul-at add-at get-u64-requires returns)

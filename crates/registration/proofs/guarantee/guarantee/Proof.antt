@@ -1,0 +1,76 @@
+-- What was checked is what the state decides, and what is written is the book with the guarantee replaced.
+use mathlib.Core.Path.{refl, sym, _∙_}
+use mathlib.Core.Option.{none, some}
+use native.Mathlib.Omega.{arith}
+use Rattle.rules.specs.Requests.{guarantee}
+use Rattle.rules.proofs.Checks.Clearing.{checked-same}
+use Rattle.book.proofs.StateLaws.{book-length}
+use Rattle.book.proofs.Answers.{refused-answered}
+use Rattle.registration.proofs.GuaranteeLaws.{ready-guarantee, guarantee-answered}
+use borrow.Author.Needs.{needs}
+use Rattle.registration.proofs.guarantee.guarantee.Statement.{statement}
+use Rattle.registration.proofs.guarantee.guarantee.Tie as tie
+
+guarantee-fault-requires : tie.Need-guarantee-fault-requires
+guarantee-fault-requires c κs = search needs
+
+enum-known-r : tie.Need-enum-known-r
+enum-known-r c = search needs
+
+same-length : tie.Need-same-length
+same-length c = search needs
+
+returns : tie.Need-returns
+returns c =
+    refused-answered guarantee _ _ (c .before .before .before .before .before .before .pre .0) _ (checked-same _ (some _) (sym (c .before .before .before .guarantee-fault .ensures) ∙ c .before .r .given .1))
+
+enum-told : tie.Need-enum-told
+enum-told c = search needs
+
+cast-put-u64 : tie.Need-cast-put-u64
+cast-put-u64 c = search needs
+
+sub-put-u64 : tie.Need-sub-put-u64
+sub-put-u64 c =
+    let low = ready-guarantee _ _ (c .before .before .before .before .before .before .before .before .pre .1) .0 in omega arith
+
+mul-put-u64 : tie.Need-mul-put-u64
+mul-put-u64 c = search needs
+
+add-put-u64 : tie.Need-add-put-u64
+add-put-u64 c = search needs
+
+put-u64-requires : tie.Need-put-u64-requires
+put-u64-requires c κs =
+    let pre = c .before .before .before .before .before .before .before .before .pre in
+    let n = book-length _ (pre .0) in
+    let r = ready-guarantee _ _ (pre .1) in
+    omega arith
+
+same-length-2 : tie.Need-same-length-2
+same-length-2 c = search needs
+
+returns-2 : tie.Need-returns-2
+returns-2 c =
+    let told = c .before .before .before .before .before .before in
+    let fault = told .before .before in
+    let pre = fault .before .before .before .pre in
+    guarantee-answered _ _ (pre .0) _ _ (pre .1) (checked-same _ none (sym (fault .guarantee-fault .ensures) ∙ told .enum-told .given .1)) refl
+    (c .before .before .put-u64 .ensures)
+
+pub guarantee-spec : {M : Type 1} → statement M
+guarantee-spec =
+    tie.close
+    (tie.spec
+    guarantee-fault-requires
+    enum-known-r
+    same-length
+    returns
+    enum-told
+    cast-put-u64
+    sub-put-u64
+    mul-put-u64
+    add-put-u64
+    put-u64-requires
+    same-length-2
+    returns-2)

@@ -1,0 +1,31 @@
+-- A purchase that waits exposes nobody. Of a sale, what is owed is the exposure of the account's operator with the row taken.
+use mathlib.Core.Path.{_∙_}
+use borrow.Author.Needs.{needs}
+use Rattle.rules.specs.Basics.{nil, cons}
+use Rattle.image.proofs.Keeping.Easing.{purchase-exposes-none}
+use Rattle.registration.proofs.CoverLaws.{still-covered}
+use Rattle.registration.proofs.register.covered_with_row.Statement.{statement}
+use Rattle.registration.proofs.register.covered_with_row.Tie as tie
+
+returns : tie.Need-returns
+returns c =
+    let pre = c .before .before .before .pre in
+    still-covered _ _ _ (pre .0) (pre .3) (pre .4) (purchase-exposes-none _ _ _ _ (pre .2) (c .if1 .taken))
+
+operator-of-requires : tie.Need-operator-of-requires
+operator-of-requires c κs = search needs
+
+exposure-with-requires : tie.Need-exposure-with-requires
+exposure-with-requires c κs = let pre = c .before .before .before .before .pre in (pre .0, cons (pre .1) nil)
+
+covered-in-force-requires : tie.Need-covered-in-force-requires
+covered-in-force-requires c κs = search needs
+
+returns-2 : tie.Need-returns-2
+returns-2 c =
+    c .covered-in-force .ensures ∙ rw (c .before .exposure-with .ensures .0, c .before .before .operator-of .ensures .0)
+
+pub covered-with-row-spec : {M : Type 1} → statement M
+covered-with-row-spec =
+    tie.close
+    (tie.spec returns operator-of-requires exposure-with-requires covered-in-force-requires returns-2)

@@ -1,0 +1,75 @@
+-- What was checked is what the state decides, and what is written is the book with the row proposed.
+use mathlib.Core.Path.{sym, _∙_}
+use mathlib.Core.Option.{none, some}
+use native.Mathlib.Omega.{arith}
+use Rattle.rules.specs.Requests.{register}
+use Rattle.rules.proofs.Checks.Clearing.{checked-same}
+use Rattle.book.proofs.StateLaws.{book-length}
+use Rattle.book.proofs.Answers.{refused-answered}
+use Rattle.registration.proofs.RegisterLaws.{ready-fits, few-rows, registered-answered}
+use borrow.Author.Needs.{needs}
+use Rattle.registration.proofs.register.register.Statement.{statement}
+use Rattle.registration.proofs.register.register.Tie as tie
+
+register-fault-requires : tie.Need-register-fault-requires
+register-fault-requires c κs = search needs
+
+enum-known-r : tie.Need-enum-known-r
+enum-known-r c = search needs
+
+same-length : tie.Need-same-length
+same-length c = search needs
+
+returns : tie.Need-returns
+returns c =
+    refused-answered register _ _ (c .before .before .before .before .before .before .pre .0) _ (checked-same _ (some _) (sym (c .before .before .before .register-fault .ensures) ∙ c .before .r .given .1))
+
+enum-told : tie.Need-enum-told
+enum-told c = search needs
+
+row-count-requires : tie.Need-row-count-requires
+row-count-requires c κs = search needs
+
+proposed-row-requires : tie.Need-proposed-row-requires
+proposed-row-requires c κs = search needs
+
+append-row-requires : tie.Need-append-row-requires
+append-row-requires c κs =
+    let told = c .before .before .before .before in
+    let fault = told .before .before in
+    let pre = fault .before .before .before .pre in
+    let few = few-rows _ _ (checked-same _ none (sym (fault .register-fault .ensures) ∙ told .enum-told .given .1)) in
+    (book-length _ (pre .0), omega (arith, few, c .before .before .row-count .ensures .0), ready-fits _ _ _ (pre .0) (pre .1) (c .before .proposed-row .ensures))
+
+add-t15 : tie.Need-add-t15
+add-t15 c = search needs
+
+same-length-2 : tie.Need-same-length-2
+same-length-2 c = search needs
+
+returns-2 : tie.Need-returns-2
+returns-2 c =
+    let row = c .before .before .before .before in
+    let told = row .before .before .before in
+    let fault = told .before .before in
+    let pre = fault .before .before .before .pre in
+    let free = checked-same _ none (sym (fault .register-fault .ensures) ∙ told .enum-told .given .1) in
+    let count = row .before .row-count .ensures .0 in
+    registered-answered _ _ (pre .0) _ _ (pre .1) free count (omega (arith, few-rows _ _ free, count))
+    (rw (row .proposed-row .ensures) at (c .before .before .append-row .ensures))
+
+pub register-spec : {M : Type 1} → statement M
+register-spec =
+    tie.close
+    (tie.spec
+    register-fault-requires
+    enum-known-r
+    same-length
+    returns
+    enum-told
+    row-count-requires
+    proposed-row-requires
+    append-row-requires
+    add-t15
+    same-length-2
+    returns-2)

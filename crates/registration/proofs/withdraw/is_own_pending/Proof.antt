@@ -1,0 +1,41 @@
+-- Past the last number there is no row; before it the status and the proposer stand at the row's place.
+use mathlib.Core.Path.{sym}
+use native.Mathlib.Omega.{arith}
+use Rattle.book.proofs.StateLaws.{book-length}
+use Rattle.registration.proofs.Withdrawals.{no-such-number, own-pending}
+use borrow.Author.Needs.{needs}
+use Rattle.registration.proofs.withdraw.is_own_pending.Statement.{statement}
+use Rattle.registration.proofs.withdraw.is_own_pending.Tie as tie
+
+row-count-requires : tie.Need-row-count-requires
+row-count-requires c κs = search needs
+
+returns : tie.Need-returns
+returns c = sym (no-such-number _ _ (omega arith))
+
+row-offset-requires : tie.Need-row-offset-requires
+row-offset-requires c κs = search needs
+
+add-get-u8 : tie.Need-add-get-u8
+add-get-u8 c = search needs
+
+get-u8-requires : tie.Need-get-u8-requires
+get-u8-requires c κs = let n = book-length _ (c .before .before .before .before .before .pre .0) in omega arith
+
+get-u8-requires-2 : tie.Need-get-u8-requires-2
+get-u8-requires-2 c κs = let n = book-length _ (c .before .before .before .before .before .before .pre .0) in omega arith
+
+returns-2 : tie.Need-returns-2
+returns-2 c = own-pending _ _ _ _ _ (c .before .before .before .before .before .before .before .before .pre .0) (c .before .before .before .before .before .before .before .before .pre .1) (omega arith) (c .before .before .before .row-offset .ensures) (c .before .before .get-u8 .ensures) (c .before .get-u82 .ensures)
+
+pub is-own-pending-spec : {M : Type 1} → statement M
+is-own-pending-spec =
+    tie.close
+    (tie.spec
+    row-count-requires
+    returns
+    row-offset-requires
+    add-get-u8
+    get-u8-requires
+    get-u8-requires-2
+    returns-2)

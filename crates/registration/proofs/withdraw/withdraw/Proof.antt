@@ -1,0 +1,63 @@
+-- What was checked is what the state decides, and what is written is the book with the row withdrawn.
+use mathlib.Core.Path.{sym, _∙_}
+use mathlib.Core.Option.{none, some}
+use native.Mathlib.Omega.{arith}
+use Rattle.rules.specs.Requests.{withdraw}
+use Rattle.rules.proofs.Checks.Clearing.{checked-same}
+use Rattle.book.proofs.StateLaws.{book-length}
+use Rattle.book.proofs.Answers.{refused-answered}
+use Rattle.book.proofs.Readiness.{ready-number}
+use Rattle.registration.proofs.Acceptances.{withdrawn-answered}
+use borrow.Author.Needs.{needs}
+use Rattle.registration.proofs.withdraw.withdraw.Statement.{statement}
+use Rattle.registration.proofs.withdraw.withdraw.Tie as tie
+
+withdrawal-fault-requires : tie.Need-withdrawal-fault-requires
+withdrawal-fault-requires c κs = (c .before .before .pre .0, ready-number _ _ (c .before .before .pre .1) .0)
+
+enum-known-r : tie.Need-enum-known-r
+enum-known-r c = search needs
+
+same-length : tie.Need-same-length
+same-length c = search needs
+
+returns : tie.Need-returns
+returns c = refused-answered withdraw _ _ (c .before .before .before .before .before .before .pre .0) _ (checked-same _ (some _) (sym (c .before .before .before .withdrawal-fault .ensures) ∙ c .before .r .given .1))
+
+enum-told : tie.Need-enum-told
+enum-told c = search needs
+
+row-offset-requires : tie.Need-row-offset-requires
+row-offset-requires c κs = ready-number _ _ (c .before .before .before .before .before .before .pre .1)
+
+add-put-u8 : tie.Need-add-put-u8
+add-put-u8 c = search needs
+
+put-u8-requires : tie.Need-put-u8-requires
+put-u8-requires c κs =
+    let n = book-length _ (c .before .before .before .before .before .before .before .pre .0) in
+    let r = ready-number _ _ (c .before .before .before .before .before .before .before .pre .1) in
+    omega arith
+
+same-length-2 : tie.Need-same-length-2
+same-length-2 c = search needs
+
+returns-2 : tie.Need-returns-2
+returns-2 c =
+    let start = c .before .before .before .before .before .before .before .before .before .before in
+    withdrawn-answered _ _ (start .pre .0) _ _ (checked-same _ none (sym (c .before .before .before .before .before .before .before .withdrawal-fault .ensures) ∙ c .before .before .before .before .before .enum-told .given .1)) (omega arith) (c .before .before .put-u8 .ensures)
+
+pub withdraw-spec : {M : Type 1} → statement M
+withdraw-spec =
+    tie.close
+    (tie.spec
+    withdrawal-fault-requires
+    enum-known-r
+    same-length
+    returns
+    enum-told
+    row-offset-requires
+    add-put-u8
+    put-u8-requires
+    same-length-2
+    returns-2)

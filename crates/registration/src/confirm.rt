@@ -1,0 +1,168 @@
+// Confirm: a pending row becomes a trade, and moves the net positions of its seller and its buyer.
+ghost use mathlib.Core.Path.{_≡_};
+ghost use mathlib.Core.Bool.{true};
+ghost use mathlib.Core.List.{[], _∷_};
+ghost use Prim.Native.Nat.{_+_, _-_, _^_, _≤_};
+ghost use lib.ListN.{length};
+ghost use lib.Dec.{leb};
+ghost use Rattle.wire.specs.Numbers.{le};
+ghost use Rattle.wire.specs.Regions.{splice};
+ghost use Rattle.wire.specs.Parts.{sweep};
+ghost use Rattle.rules.specs.Basics.{nth};
+ghost use Rattle.rules.specs.Limits.{mostRows, mostHours, bookSize};
+ghost use Rattle.rules.specs.Books.{noRow, operatorOf, accountCount};
+ghost use Rattle.rules.specs.Verdicts.{checked};
+ghost use Rattle.rules.specs.Requests.{confirm};
+ghost use Rattle.rules.specs.Registration.{seller, buyer, withStatus, mirrors, available, exposureWith};
+ghost use Rattle.rules.specs.Calls.{confirmedNumber};
+ghost use Rattle.image.specs.Layout.{presentOffset, rowOffset, statusOffset, netOffset, netWidth};
+ghost use Rattle.image.specs.Changes.{raised};
+ghost use Rattle.image.specs.Valid.{isBook, bookIn, bookBytes};
+ghost use Rattle.image.specs.Tables.{Tabled};
+ghost use Rattle.book.specs.Worth.{saleWorth};
+ghost use Rattle.book.specs.Kinds.{decided, outcomeOn, bookAfter, Ready};
+ghost use Rattle.registration.specs.Confirming.{Confirming, WaitsIn};
+use crate::cover::covered_in_force;
+use crate::margins::Broken;
+use crate::margins::broken_hour;
+use crate::positions::move_nets;
+use crate::search::pending_number;
+use book::state::CONFIRMED;
+use book::state::REGISTRATION;
+use book::state::operator_of;
+use book::state::phase;
+use book::state::row_offset;
+use book::worth::Added;
+use book::worth::exposure_with;
+use image::rows::STATUS_OFFSET;
+use image::rows::row_at;
+use rules::Checked;
+use rules::Outcome;
+use rules::Refusal;
+use rules::Request;
+use rules::Row;
+use rules::Verdict;
+use wire::numbers::put_u8;
+
+// The number of the row that the request confirms, or 0.
+fn confirmed_number(book: &[u8], request: Request) -> u16
+    requires { ⌜ isBook (now book) ≡ true ⌝ }
+    ensures { λ r. ⌜ r ≡ confirmedNumber (bookIn (now (book .entry))) request ⌝ }
+    ensures bound { λ r. ⌜ r ≤ length (bookIn (now (book .entry)) .part .rows) ⌝ }
+{
+    pending_number(book, request.other, request.account, request.code)
+}
+
+// The row of a number.
+fn numbered_row(book: &[u8], number: u16) -> Row
+    requires { ⌜ (isBook (now book) ≡ true) × (1 ≤ number) × (number ≤ length (bookIn (now book) .part .rows)) ⌝ }
+    ensures { λ r. ⌜ r ≡ nth (bookIn (now (book .entry)) .part .rows) number noRow ⌝ }
+{
+    row_at(book, row_offset(number))
+}
+
+// The request has the row's terms from the other side.
+fn is_mirrored(r: Row, request: Request) -> bool
+    ensures { λ b. ⌜ b ≡ mirrors request r ⌝ }
+{
+    (r.side != request.side)
+        & (r.first == request.first)
+        & (r.last == request.last)
+        & (r.quantity.0 == request.quantity.0)
+}
+
+// The row once it is confirmed.
+fn confirmed_row(r: Row) -> Row
+    ensures { λ x. ⌜ x ≡ withStatus 2 r ⌝ }
+{
+    let quantity = r.quantity;
+    Row {
+        proposer: r.proposer,
+        counterparty: r.counterparty,
+        code: r.code,
+        side: r.side,
+        first: r.first,
+        last: r.last,
+        quantity,
+        status: CONFIRMED,
+    }
+}
+
+// Whether the guarantee of the account's operator covers its exposure once the row is a trade: it is taken, and waits no longer.
+fn covered_with_trade(book: &[u8], row: Row, trade: Row, number: u8) -> bool
+    requires { ⌜ (isBook (now book) ≡ true) × WaitsIn (bookIn (now book)) row × (trade ≡ withStatus 2 row) × (1 ≤ number) × (number ≤ accountCount (bookIn (now book) .setup)) ⌝ }
+    ensures { λ r. ⌜ r ≡ leb (exposureWith (bookIn (now (book .entry)) .setup) (bookIn (now (book .entry)) .part .rows) (trade ∷ []) (operatorOf (bookIn (now (book .entry)) .setup) number) - saleWorth (bookIn (now (book .entry)) .setup) (operatorOf (bookIn (now (book .entry)) .setup) number) row) (available (bookIn (now (book .entry)) .setup) (bookIn (now (book .entry)) .part) (operatorOf (bookIn (now (book .entry)) .setup) number)) ⌝ }
+{
+    // What a seller has pending turns into net and its buyer's net rises, and a book covers what its rows weigh.
+    if row.side == 1 {
+        return true;
+    }
+    // A purchase that waits weighs nothing.
+    let operator = operator_of(book, number);
+    let owed = exposure_with(book, operator, Added::One(trade));
+    covered_in_force(book, owed, operator)
+}
+
+// What confirm is refused for where it mirrors the row that it names: margins and exposure as they would be.
+fn margin_or_exposure_fault(book: &[u8], request: Request, row: Row) -> Checked
+    requires { ⌜ (isBook (now book) ≡ true) × Confirming (bookIn (now book)) request row ⌝ }
+    ensures { λ r. ⌜ r ≡ checked (decided confirm (bookIn (now (book .entry))) request) ⌝ }
+{
+    let trade = confirmed_row(row);
+    if let Broken::Hour(hour) = broken_hour(book, trade, request.account) {
+        return Checked::Fails(Refusal::MarginBroken { hour });
+    }
+    if covered_with_trade(book, row, trade, request.account) {
+        return Checked::Clear;
+    }
+    Checked::Fails(Refusal::Uncovered)
+}
+
+// What confirm is refused for; `number` is that of the row which it names.
+fn confirm_fault(book: &[u8], request: Request, number: u16) -> Checked
+    requires { ⌜ isBook (now book) ≡ true ⌝ }
+    requires { ⌜ number ≡ confirmedNumber (bookIn (now book)) request ⌝ }
+    ensures { λ r. ⌜ r ≡ checked (decided confirm (bookIn (now (book .entry))) request) ⌝ }
+{
+    if phase(book) != REGISTRATION {
+        return Checked::Fails(Refusal::WrongPhase);
+    }
+    if number == 0 {
+        return Checked::Fails(Refusal::NoSuchRow);
+    }
+    let row = numbered_row(book, number);
+    if is_mirrored(row, request) {
+        return margin_or_exposure_fault(book, request, row);
+    }
+    Checked::Fails(Refusal::NotMirrored)
+}
+
+// The row of that number becomes a trade: its status, then the net positions of its seller and its buyer.
+fn put_trade(book: &mut [u8], number: u16, row: Row)
+    requires { ⌜ (length (now book) ≡ bookSize) × (1 ≤ number) × (number ≤ mostRows) × Tabled mostHours row × (1 ≤ row .quantity .0) ⌝ }
+    ensures { λ _. ⌜ now (book .exit) ≡ sweep (raised netWidth (row .quantity .0)) netWidth (sweep (raised netWidth (256 ^ netWidth - row .quantity .0)) netWidth (splice (now (book .entry)) (presentOffset + rowOffset (number - 1) + statusOffset) (le 1 2)) (presentOffset + netOffset mostHours (seller row) (row .first)) (row .last - row .first + 1)) (presentOffset + netOffset mostHours (buyer row) (row .first)) (row .last - row .first + 1) ⌝ }
+{
+    put_u8(book, row_offset(number) + STATUS_OFFSET, CONFIRMED);
+    move_nets(book, row);
+}
+
+// Kind 2: the row that the request names and mirrors is confirmed, under its number.
+pub fn confirm(book: &mut [u8], request: Request) -> Outcome
+    requires { ⌜ isBook (now book) ≡ true ⌝ }
+    requires { ⌜ Ready confirm (bookIn (now book)) request ⌝ }
+    ensures answer { λ o. ⌜ o ≡ outcomeOn confirm (bookIn (now (book .entry))) request ⌝ }
+    ensures bytes { λ _. ⌜ now (book .exit) ≡ bookBytes (bookAfter confirm (bookIn (now (book .entry))) request) ⌝ }
+    ensures still { λ _. ⌜ isBook (now (book .exit)) ≡ true ⌝ }
+{
+    let number = confirmed_number(book, request);
+    if let Checked::Fails(r) = confirm_fault(book, request, number) {
+        return Outcome {
+            verdict: Verdict::Refused(r),
+        };
+    }
+    let row = numbered_row(book, number);
+    put_trade(book, number, row);
+    Outcome {
+        verdict: Verdict::Accepted { number },
+    }
+}

@@ -1,0 +1,155 @@
+// Register: makes a pending row with the next number.
+ghost use mathlib.Core.Path.{_≡_};
+ghost use mathlib.Core.Bool.{true, false};
+ghost use mathlib.Core.List.{[], _∷_};
+ghost use Prim.Native.Nat.{_+_, _*_, _≤_, _<_};
+ghost use lib.ListN.{length};
+ghost use lib.Dec.{leb};
+ghost use Rattle.wire.specs.Numbers.{le};
+ghost use Rattle.wire.specs.Regions.{splice};
+ghost use Rattle.wire.specs.Parts.{Small};
+ghost use Rattle.rules.specs.Basics.{anyPasses};
+ghost use Rattle.rules.specs.Limits.{mostRows, bookSize};
+ghost use Rattle.rules.specs.Verdicts.{checked};
+ghost use Rattle.rules.specs.Requests.{register};
+ghost use Rattle.rules.specs.Books.{operatorOf, accountCount};
+ghost use Rattle.rules.specs.Registration.{pending, alike, proposed, available, exposureWith};
+ghost use Rattle.image.specs.Layout.{rowWidths, presentOffset, rowOffset, rowCountOffset};
+ghost use Rattle.image.specs.Image.{rowValues, rowBytes};
+ghost use Rattle.image.specs.Valid.{isBook, bookIn, bookBytes};
+ghost use Rattle.book.specs.Waits.{WaitsOf};
+ghost use Rattle.book.specs.Worth.{TradeInRange};
+ghost use Rattle.book.specs.Kinds.{decided, outcomeOn, bookAfter, Ready};
+use crate::cover::covered_in_force;
+use crate::margins::Broken;
+use crate::margins::first_broken;
+use book::state::PENDING;
+use book::state::REGISTRATION;
+use book::state::operator_of;
+use book::state::phase;
+use book::state::row_count;
+use book::waits::fill_waits;
+use book::waits::no_waits;
+use book::worth::Added;
+use book::worth::exposure_with;
+use image::layout::MOST_ROWS;
+use image::layout::PRESENT_OFFSET;
+use image::layout::ROW_COUNT_OFFSET;
+use image::layout::ROW_WIDTH;
+use image::layout::ROWS_OFFSET;
+use image::rows::row_bytes;
+use rules::Checked;
+use rules::Outcome;
+use rules::Refusal;
+use rules::Request;
+use rules::Row;
+use rules::Verdict;
+use wire::numbers::put_u16;
+use wire::regions::copy_in;
+
+// The row that the request proposes.
+fn proposed_row(request: Request) -> Row
+    ensures { λ r. ⌜ r ≡ proposed request ⌝ }
+{
+    let quantity = request.quantity;
+    Row {
+        proposer: request.account,
+        counterparty: request.other,
+        code: request.code,
+        side: request.side,
+        first: request.first,
+        last: request.last,
+        quantity,
+        status: PENDING,
+    }
+}
+
+// Whether the guarantee of the account's operator covers its exposure once the row is taken.
+fn covered_with_row(book: &[u8], row: Row, number: u8) -> bool
+    requires { ⌜ (isBook (now book) ≡ true) × TradeInRange (bookIn (now book) .setup) row × (pending row ≡ true) × (1 ≤ number) × (number ≤ accountCount (bookIn (now book) .setup)) ⌝ }
+    ensures { λ r. ⌜ r ≡ leb (exposureWith (bookIn (now (book .entry)) .setup) (bookIn (now (book .entry)) .part .rows) (row ∷ []) (operatorOf (bookIn (now (book .entry)) .setup) number)) (available (bookIn (now (book .entry)) .setup) (bookIn (now (book .entry)) .part) (operatorOf (bookIn (now (book .entry)) .setup) number)) ⌝ }
+{
+    // A purchase that waits weighs nothing, and a book covers what its rows weigh.
+    if row.side != 1 {
+        return true;
+    }
+    let operator = operator_of(book, number);
+    let owed = exposure_with(book, operator, Added::One(row));
+    covered_in_force(book, owed, operator)
+}
+
+// What register is refused for where its row is no twin and has a number: margins, by what waits on the account, and exposure as they would be.
+fn margin_or_exposure_fault(book: &[u8], waits: &[u32], request: Request) -> Checked
+    requires { ⌜ (isBook (now book) ≡ true) × WaitsOf (bookIn (now book) .part .rows) (request .account) (now waits) × Ready register (bookIn (now book)) request × (bookIn (now book) .phase ≡ 1) × (anyPasses (alike (request .account) (request .other) (request .code)) (bookIn (now book) .part .rows) ≡ false) × (length (bookIn (now book) .part .rows) < mostRows) ⌝ }
+    ensures { λ r. ⌜ r ≡ checked (decided register (bookIn (now (book .entry))) request) ⌝ }
+{
+    let row = proposed_row(request);
+    if let Broken::Hour(hour) = first_broken(book, waits, row, request.account) {
+        return Checked::Fails(Refusal::MarginBroken { hour });
+    }
+    if covered_with_row(book, row, request.account) {
+        return Checked::Clear;
+    }
+    Checked::Fails(Refusal::Uncovered)
+}
+
+// What register is refused for.
+fn register_fault(book: &[u8], request: Request) -> Checked
+    requires { ⌜ isBook (now book) ≡ true ⌝ }
+    requires { ⌜ Ready register (bookIn (now book)) request ⌝ }
+    ensures { λ r. ⌜ r ≡ checked (decided register (bookIn (now (book .entry))) request) ⌝ }
+{
+    if phase(book) != REGISTRATION {
+        return Checked::Fails(Refusal::WrongPhase);
+    }
+    // What waits on the account is summed while a row alike is looked for.
+    let mut waits = no_waits();
+    if fill_waits(
+        &mut waits,
+        book,
+        request.account,
+        request.other,
+        request.code,
+    ) {
+        return Checked::Fails(Refusal::AlreadyPending);
+    }
+    if MOST_ROWS <= row_count(book) as usize {
+        return Checked::Fails(Refusal::RowsFull);
+    }
+    margin_or_exposure_fault(book, &waits, request)
+}
+
+// Puts a row after the `n` that stand, and counts it.
+fn append_row(book: &mut [u8], n: u16, r: Row)
+    requires { ⌜ (length (now book) ≡ bookSize) × (n < mostRows) × Small rowWidths (rowValues r) ⌝ }
+    ensures { λ _. ⌜ now (book .exit) ≡ splice (splice (now (book .entry)) (presentOffset + rowOffset n) (rowBytes r)) (presentOffset + rowCountOffset) (le 2 (n + 1)) ⌝ }
+{
+    let bytes = row_bytes(r);
+    copy_in(
+        book,
+        PRESENT_OFFSET + (ROWS_OFFSET + ROW_WIDTH * (n as usize)),
+        &bytes,
+    );
+    put_u16(book, PRESENT_OFFSET + ROW_COUNT_OFFSET, n + 1);
+}
+
+// Kind 1: the row that the request proposes is pending under the next number.
+pub fn register(book: &mut [u8], request: Request) -> Outcome
+    requires { ⌜ isBook (now book) ≡ true ⌝ }
+    requires { ⌜ Ready register (bookIn (now book)) request ⌝ }
+    ensures answer { λ o. ⌜ o ≡ outcomeOn register (bookIn (now (book .entry))) request ⌝ }
+    ensures bytes { λ _. ⌜ now (book .exit) ≡ bookBytes (bookAfter register (bookIn (now (book .entry))) request) ⌝ }
+    ensures still { λ _. ⌜ isBook (now (book .exit)) ≡ true ⌝ }
+{
+    if let Checked::Fails(r) = register_fault(book, request) {
+        return Outcome {
+            verdict: Verdict::Refused(r),
+        };
+    }
+    let n = row_count(book);
+    let row = proposed_row(request);
+    append_row(book, n, row);
+    Outcome {
+        verdict: Verdict::Accepted { number: n + 1 },
+    }
+}

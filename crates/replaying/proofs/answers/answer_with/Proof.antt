@@ -1,0 +1,86 @@
+-- As many schedules and operators as the book had before the call, which a settle does not change, are read from the buffers.
+use Prim.Native.Nat.{ℕ, _*_}
+use mathlib.Core.Path.{ap}
+use native.Mathlib.Omega.{arith}
+use lib.ListN.{length, length-replicate}
+use Rattle.rules.specs.Limits.{mostSchedules, mostOperators}
+use Rattle.book.proofs.StateLaws.{book-length, book-valid}
+use Rattle.settlement.proofs.Refusals.{operators-counted, operators-few}
+use Rattle.items.proofs.WrittenLaws.{written-as}
+use Rattle.replaying.proofs.AnswerLaws.{answer-prints, answer-small}
+use borrow.Author.Needs.{needs}
+use Rattle.valuation.specs.Tables.{balanceWidth}
+use Rattle.replaying.proofs.answers.answer_with.Statement.{statement}
+use Rattle.replaying.proofs.answers.answer_with.Tie as tie
+
+counts-requires : tie.Need-counts-requires
+counts-requires c κs = let n = book-length _ (c .before .before .before .before .before .before .pre .0) in omega arith
+
+schedule-count-requires : tie.Need-schedule-count-requires
+schedule-count-requires c κs = search needs
+
+cast-standing : tie.Need-cast-standing
+cast-standing c = search needs
+
+call-item-requires : tie.Need-call-item-requires
+call-item-requires c κs = search needs
+
+settles-requires : tie.Need-settles-requires
+settles-requires c κs = search needs
+
+cast-put-answer : tie.Need-cast-put-answer
+cast-put-answer c = search needs
+
+put-answer-requires : tie.Need-put-answer-requires
+put-answer-requires c κs =
+    let pre = c .before .before .before .before .before .before .before .before .before .before .before .before .before .before .before .before .before .before .before .before .before .before .before .before .pre in
+    let counted = c .before .before .before .before .before .before .before .before .before .before .before .before .before .before .before .before .before .counts .ensures in
+    let called = c .before .before .before .before .before .before .before .before .before .before .before .call-item .ensures in
+    let few = operators-few _ (pre .0) _ counted in
+    let (room, zeros) = pre .1 in
+    let results = ap length (zeros .0) in
+    let balances = ap length (zeros .1) in
+    let lent = called .1 .1 in
+    ((omega (arith, length-replicate {A = ℕ} mostSchedules 0), few, omega (arith, length-replicate {A = ℕ} (balanceWidth * mostOperators) 0), omega arith), answer-small _ (book-valid _ (pre .0)) _ (called .0) (c .before .before .before .before .settles .ensures) _ (operators-counted _ (pre .0) _ counted) (lent .1 .0))
+
+same-length : tie.Need-same-length
+same-length c = search needs
+
+same-length-2 : tie.Need-same-length-2
+same-length-2 c = search needs
+
+same-length-3 : tie.Need-same-length-3
+same-length-3 c = search needs
+
+same-length-4 : tie.Need-same-length-4
+same-length-4 c = search needs
+
+returns : tie.Need-returns
+returns c =
+    let pre = c .before .before .before .before .before .before .before .before .before .before .before .before .before .before .before .before .before .before .before .before .before .before .before .before .before .before .before .pre in
+    let counted = c .before .before .before .before .before .before .before .before .before .before .before .before .before .before .before .before .before .before .before .before .counts .ensures in
+    let called = c .before .before .before .before .before .before .before .before .before .before .before .before .before .before .call-item .ensures in
+    let (answer, left) = called in
+    let (book, lent) = left in
+    let (results, rest) = lent in
+    let (balances, still) = rest in
+    let put = c .before .before .put-answer .ensures in
+    let few = operators-few _ (pre .0) _ counted in
+    (written-as _ (answer-prints _ (book-valid _ (pre .0)) _ answer (c .before .before .before .before .before .before .before .settles .ensures) _ _ _ (c .before .before .before .before .before .before .before .before .before .before .before .before .before .before .before .before .before .before .schedule-count .ensures .0) (operators-counted _ (pre .0) _ counted) results balances) (put .0), (omega arith, (book, still)))
+
+pub answer-with-spec : {M : Type 1} → statement M
+answer-with-spec =
+    tie.close
+    (tie.spec
+    counts-requires
+    schedule-count-requires
+    cast-standing
+    call-item-requires
+    settles-requires
+    cast-put-answer
+    put-answer-requires
+    same-length
+    same-length-2
+    same-length-3
+    same-length-4
+    returns)

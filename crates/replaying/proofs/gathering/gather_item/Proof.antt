@@ -1,0 +1,75 @@
+-- The item's lines stand behind those that were gathered, and what its step leaves is still to come.
+use mathlib.Core.Path.{refl}
+use native.Mathlib.Omega.{arith}
+use lib.ListN.{length-take, length-drop}
+use Rattle.wire.proofs.NumberLaws.{bytes-known}
+use Rattle.replaying.proofs.GatherLaws.{item-left, item-whole}
+use borrow.Author.Needs.{needs}
+use Rattle.replaying.proofs.gathering.gather_item.Statement.{statement}
+use Rattle.replaying.proofs.gathering.gather_item.Tie as tie
+
+sub-replay-item : tie.Need-sub-replay-item
+sub-replay-item c = search needs
+
+part-replay-item-start : tie.Need-part-replay-item-start
+part-replay-item-start c = search needs
+
+part-replay-item-end : tie.Need-part-replay-item-end
+part-replay-item-end c = search needs
+
+replay-item-requires : tie.Need-replay-item-requires
+replay-item-requires c κs =
+    let start = c .before .before .before .before .before in
+    (start .pre .1 .onward (start .pre .0 .0) .0, simp (length-take, length-drop) (omega arith))
+
+add-t14 : tie.Need-add-t14
+add-t14 c = search needs
+
+add-t11 : tie.Need-add-t11
+add-t11 c = search needs
+
+same-length : tie.Need-same-length
+same-length c = search needs
+
+same-length-2 : tie.Need-same-length-2
+same-length-2 c = search needs
+
+returns : tie.Need-returns
+returns c =
+    let start = c .before .before .before .before .before .before .before .before .before .before .before in
+    let on = start .pre .1 .onward (start .pre .0 .0) in
+    let bytes = bytes-known _ (c .before .before .before .before .before .before .before .before .before .before .shared-slice-known .given) in
+    let (answer, left) = c .before .before .before .before .before .replay-item .ensures in
+    let (book, lines) = left in
+    let (out, rest) = lines in
+    let (bound, goes) = rest in
+    let (still, onward) = goes in
+    let whole = item-whole _ _ _ _ (start .pre .0 .0) bytes (on .0) (start .pre .1 .room) _ _ answer book out in (
+      item-left _ _ _ _ (start .pre .0 .0) bytes (on .0) (start .pre .1 .room) answer book out,
+      (
+        record {
+          whole = whole;
+          underway =
+              record {
+                room = omega (arith, same-length-2 c);
+                counted = omega arith;
+                onward = λ t. let f = onward t in (still, f .1, omega arith);
+              };
+        },
+        refl,
+      ),
+    )
+
+pub gather-item-spec : {M : Type 1} → statement M
+gather-item-spec =
+    tie.close
+    (tie.spec
+    sub-replay-item
+    part-replay-item-start
+    part-replay-item-end
+    replay-item-requires
+    add-t14
+    add-t11
+    same-length
+    same-length-2
+    returns)

@@ -1,0 +1,60 @@
+-- Every account passes the test where every account that is left does.
+use Prim.Native.Nat.{_+_, _-_, _≤_}
+use mathlib.Core.Path.{_≡_, _∙_, sym, refl}
+use native.Mathlib.Omega.{arith}
+use borrow.Author.Needs.{needs}
+use Rattle.rules.specs.Basics.{every, counting, upTo}
+use Rattle.rules.specs.Limits.{mostAccounts}
+use Rattle.rules.proofs.Basics.CountingLaws.{every-done, every-next, every-fails}
+use Rattle.tables.specs.Sums.{netStored, netsStored}
+use Rattle.tables.proofs.sums.nets_match.Statement.{statement}
+use Rattle.tables.proofs.sums.nets_match.Tie as tie
+
+abbrev Inv-loop : tie.InvT-loop
+Inv-loop s nets table top account₀ account =
+    (1 ≤ account)
+    × (account ≤ mostAccounts + 1)
+    × (netsStored top s nets table ≡ every (λ a. every (netStored top s nets table a) (upTo top)) (counting (mostAccounts + 1 - account) account))
+
+abbrev μ-loop : tie.MeasureT-loop
+μ-loop s nets table top account₀ account = mostAccounts + 1 - account
+
+loop-holds : tie.Need-loop-holds Inv-loop μ-loop
+unfolding netsStored
+loop-holds c = (search needs, search needs, refl)
+
+account-nets-match-requires : tie.Need-account-nets-match-requires Inv-loop μ-loop
+account-nets-match-requires c κs = search needs
+
+add-account : tie.Need-add-account Inv-loop μ-loop
+add-account c = search needs
+
+loop-less : tie.Need-loop-less Inv-loop μ-loop
+loop-less c = search needs
+
+loop-again : tie.Need-loop-again Inv-loop μ-loop
+loop-again c =
+    let l = c .before .before .before .loop in
+    (search needs, search needs, l .inv .2 ∙ every-next _ _ _ _ (omega arith) (sym (c .before .account-nets-match .ensures) ∙ c .if1 .taken))
+
+returns : tie.Need-returns Inv-loop μ-loop
+returns c =
+    let l = c .before .before .before .loop in
+    sym (l .inv .2 ∙ every-fails _ _ _ (omega arith) (sym (c .before .account-nets-match .ensures) ∙ c .if1 .left))
+
+returns-2 : tie.Need-returns-2 Inv-loop μ-loop
+returns-2 c = sym (c .before .loop .inv .2 ∙ every-done _ _ _ (omega arith))
+
+pub nets-match-spec : {M : Type 1} → statement M
+nets-match-spec =
+    tie.close
+    (tie.spec
+    Inv-loop
+    μ-loop
+    loop-holds
+    account-nets-match-requires
+    add-account
+    loop-less
+    loop-again
+    returns
+    returns-2)
