@@ -2,8 +2,11 @@
 use Prim.Native.Nat.{ℕ, _+_, _*_, _/_, _%_, _<_}
 use mathlib.Core.Path.{_≡_, ap, _∙_}
 use native.Mathlib.Omega.{arith}
-use Rattle.rules.specs.Verdicts.{Numbers}
-use Rattle.abi.specs.Packing.{packed, unpacked}
+use mathlib.Core.List.{List}
+use Rattle.rules.specs.declared.Outcome.{Outcome}
+use Rattle.rules.specs.Verdicts.{Numbers, numbers}
+use Rattle.rules.specs.Calls.{Answer, Gives}
+use Rattle.abi.specs.Packing.{packed, unpacked, Packs, GivesPacked}
 
 pub apart : (number first second : ℕ) → number < 256 → first < 65_536 → second < 65_536
     → _≡_ {A = Numbers} (unpacked (packed (number, first, second))) (number, first, second)
@@ -19,6 +22,17 @@ apart number first second a b c =
 
 -- the sum that the code makes of them is their one number
 pub packs : (number first second : ℕ) (x : Numbers) → number < 256 → first < 65_536 → second < 65_536 → _≡_ {A = Numbers} (number, first, second) x
-    → (number + 256 * (first + 65_536 * second) ≡ packed x) × (unpacked (number + 256 * (first + 65_536 * second)) ≡ x)
+    → Packs x (number + 256 * (first + 65_536 * second))
 unfolding packed
-packs number first second x a b c e = (ap packed e, apart number first second a b c ∙ e)
+packs number first second x a b c e = record { one-number = ap packed e; says-again = apart number first second a b c ∙ e }
+
+-- an answer whose outcome is packed
+pub given-packed : (a : Answer (List ℕ)) (o : Outcome) (r : ℕ) (book results balances : List ℕ) → Gives a o book results balances → Packs (numbers o) r
+    → GivesPacked a r book results balances
+given-packed a o r book results balances g p =
+    record {
+      outcome-packed = rw (g .outcome-given) at p;
+      book-left = g .book-left;
+      results-left = g .results-left;
+      balances-left = g .balances-left;
+    }

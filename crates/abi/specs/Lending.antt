@@ -1,6 +1,7 @@
--- Readings told to a lent buffer: its first bytes are filled and no others changed. 10 where it is shorter than what is written; a refusal
+-- Readings lent to a buffer: its first bytes are filled and no others changed. 10 where it is shorter than what is written; a refusal
 -- changes no byte.
 use Prim.Native.Nat.{ℕ}
+use mathlib.Core.Path.{_≡_}
 use mathlib.Core.List.{List, [], _∷_}
 use mathlib.Core.Option.{Option, none, some}
 use lib.ListN.{length}
@@ -13,8 +14,9 @@ use Rattle.rules.specs.declared.Refusal.{Refusal}
 use Rattle.rules.specs.declared.Refusal.the-variants.{BufferShort}
 use Rattle.rules.specs.Verdicts.{Numbers, ReadOut, numbers, firstToApply, outcomeOf, _⇒_}
 use Rattle.rules.specs.Requests.{filled, unlessRefused}
+use Rattle.abi.specs.Packing.{Packs}
 
--- ---- bytes told to a buffer
+-- ---- bytes put into a buffer
 
 unfoldable pub lentRefusal : List ℕ → List ℕ → Option Refusal
 lentRefusal said buffer = firstToApply ((ltb (length buffer) (length said) ⇒ BufferShort) ∷ [])
@@ -34,6 +36,11 @@ lentNumbers say (n, some x) buffer = numbers (lentOutcome (say x) buffer)
 abbrev pub lentInto : {A : Type 0} → (A → List ℕ) → ReadOut A → List ℕ → List ℕ
 lentInto say (n, none) buffer = buffer
 lentInto say (n, some x) buffer = lentBytes (say x) buffer
+
+-- a reading that is given so: its numbers packed, and what it leaves of the buffer
+pub record Lends {A : Type 0} (say : A → List ℕ) (x : ReadOut A) (buffer : List ℕ) (r : ℕ) (left : List ℕ) : Type 0 where
+  pub numbers-packed : Packs (lentNumbers say x buffer) r
+  pub buffer-left : left ≡ lentInto say x buffer
 
 -- a net position: its figure in 8 bytes, signed
 abbrev pub netBytes : ℤ → List ℕ

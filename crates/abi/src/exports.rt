@@ -6,9 +6,9 @@ ghost use Rattle.rules.specs.Requests.{reading, requestReadOut};
 ghost use Rattle.rules.specs.Readings.{netReadOut, exposureReadOut};
 ghost use Rattle.image.specs.Valid.{isBook};
 ghost use Rattle.book.specs.Answers.{openBytes, netAnswer, exposureAnswer};
-ghost use Rattle.day.specs.Answers.{callAnswer, callWith};
-ghost use Rattle.abi.specs.Packing.{packed, unpacked};
-ghost use Rattle.abi.specs.Lending.{lentNumbers, lentInto, netBytes, exposureBytes};
+ghost use Rattle.day.specs.Answers.{callOn};
+ghost use Rattle.abi.specs.Packing.{Packs, GivesPacked};
+ghost use Rattle.abi.specs.Lending.{Lends, netBytes, exposureBytes};
 ghost use Rattle.abi.specs.Fields.{requestBytes, fieldsOutcome, fieldsWritten};
 use crate::fields::FIELDS_SIZE;
 use crate::fields::request_in;
@@ -23,8 +23,7 @@ use rules::Verdict;
 // Opens a book from the bytes of a set-up.
 #[no_mangle]
 pub extern "C" fn energy_book_open(setup: &[u8], book: &mut [u8]) -> u64
-    ensures answer { λ r. ⌜ r ≡ packed (numbers (openOutcome (now (setup .entry)) (now (book .entry)))) ⌝ }
-    ensures apart { λ r. ⌜ unpacked r ≡ numbers (openOutcome (now (setup .entry)) (now (book .entry))) ⌝ }
+    ensures answer { λ r. ⌜ Packs (numbers (openOutcome (now (setup .entry)) (now (book .entry)))) r ⌝ }
     ensures filled { λ _. ⌜ now (book .exit) ≡ openBytes (now (setup .entry)) (now (book .entry)) ⌝ }
 {
     pack(day::interface::open(setup, book))
@@ -47,11 +46,9 @@ pub extern "C" fn energy_book_call(
     results: &mut [u8],
     balances: &mut [u8],
 ) -> u64
-    ensures answer { λ r. ⌜ r ≡ packed (numbers (callAnswer (now (book .entry)) (callWith (now (bytes .entry)) (now (prices .entry)) (now (results .entry)) (now (balances .entry))) .outcome)) ⌝ }
-    ensures apart { λ r. ⌜ unpacked r ≡ numbers (callAnswer (now (book .entry)) (callWith (now (bytes .entry)) (now (prices .entry)) (now (results .entry)) (now (balances .entry))) .outcome) ⌝ }
-    ensures book { λ _. ⌜ now (book .exit) ≡ callAnswer (now (book .entry)) (callWith (now (bytes .entry)) (now (prices .entry)) (now (results .entry)) (now (balances .entry))) .book ⌝ }
-    ensures results { λ _. ⌜ now (results .exit) ≡ callAnswer (now (book .entry)) (callWith (now (bytes .entry)) (now (prices .entry)) (now (results .entry)) (now (balances .entry))) .results ⌝ }
-    ensures balances { λ _. ⌜ now (balances .exit) ≡ callAnswer (now (book .entry)) (callWith (now (bytes .entry)) (now (prices .entry)) (now (results .entry)) (now (balances .entry))) .balances ⌝ }
+    ensures answer { λ r. ⌜ GivesPacked
+        (callOn (now (book .entry)) (now (bytes .entry)) (now (prices .entry)) (now (results .entry)) (now (balances .entry)))
+        r (now (book .exit)) (now (results .exit)) (now (balances .exit)) ⌝ }
 {
     pack(day::calls::call(bytes, book, prices, results, balances))
 }
@@ -59,9 +56,7 @@ pub extern "C" fn energy_book_call(
 // The net position of an account in an hour, as a signed figure in the first 8 bytes of the buffer.
 #[no_mangle]
 pub extern "C" fn energy_book_net(book: &[u8], account: u8, hour: u8, figure: &mut [u8]) -> u64
-    ensures answer { λ r. ⌜ r ≡ packed (lentNumbers netBytes (netReadOut (netAnswer (now (book .entry)) account hour)) (now (figure .entry))) ⌝ }
-    ensures apart { λ r. ⌜ unpacked r ≡ lentNumbers netBytes (netReadOut (netAnswer (now (book .entry)) account hour)) (now (figure .entry)) ⌝ }
-    ensures filled { λ _. ⌜ now (figure .exit) ≡ lentInto netBytes (netReadOut (netAnswer (now (book .entry)) account hour)) (now (figure .entry)) ⌝ }
+    ensures { λ r. ⌜ Lends netBytes (netReadOut (netAnswer (now (book .entry)) account hour)) (now (figure .entry)) r (now (figure .exit)) ⌝ }
 {
     let reading = day::interface::net(book, account, hour);
     pack(lend_net(reading, figure))
@@ -70,9 +65,7 @@ pub extern "C" fn energy_book_net(book: &[u8], account: u8, hour: u8, figure: &m
 // The exposure of an operator, in the first 8 bytes of the buffer.
 #[no_mangle]
 pub extern "C" fn energy_book_exposure(book: &[u8], operator: u8, figure: &mut [u8]) -> u64
-    ensures answer { λ r. ⌜ r ≡ packed (lentNumbers exposureBytes (exposureReadOut (exposureAnswer (now (book .entry)) operator)) (now (figure .entry))) ⌝ }
-    ensures apart { λ r. ⌜ unpacked r ≡ lentNumbers exposureBytes (exposureReadOut (exposureAnswer (now (book .entry)) operator)) (now (figure .entry)) ⌝ }
-    ensures filled { λ _. ⌜ now (figure .exit) ≡ lentInto exposureBytes (exposureReadOut (exposureAnswer (now (book .entry)) operator)) (now (figure .entry)) ⌝ }
+    ensures { λ r. ⌜ Lends exposureBytes (exposureReadOut (exposureAnswer (now (book .entry)) operator)) (now (figure .entry)) r (now (figure .exit)) ⌝ }
 {
     let reading = day::interface::exposure(book, operator);
     pack(lend_exposure(reading, figure))
@@ -81,9 +74,7 @@ pub extern "C" fn energy_book_exposure(book: &[u8], operator: u8, figure: &mut [
 // What a record says: the fields of its request, in the first 34 bytes of the buffer.
 #[no_mangle]
 pub extern "C" fn energy_book_read(bytes: &[u8], fields: &mut [u8]) -> u64
-    ensures answer { λ r. ⌜ r ≡ packed (lentNumbers requestBytes (requestReadOut (reading (now (bytes .entry)))) (now (fields .entry))) ⌝ }
-    ensures apart { λ r. ⌜ unpacked r ≡ lentNumbers requestBytes (requestReadOut (reading (now (bytes .entry)))) (now (fields .entry)) ⌝ }
-    ensures filled { λ _. ⌜ now (fields .exit) ≡ lentInto requestBytes (requestReadOut (reading (now (bytes .entry)))) (now (fields .entry)) ⌝ }
+    ensures { λ r. ⌜ Lends requestBytes (requestReadOut (reading (now (bytes .entry)))) (now (fields .entry)) r (now (fields .exit)) ⌝ }
 {
     let said = day::interface::read(bytes);
     pack(lend_request(said, fields))
@@ -106,8 +97,7 @@ fn write_fields(fields: &[u8], buffer: &mut [u8]) -> Outcome
 // Writes the record of the request that the fields say into the first bytes of the buffer.
 #[no_mangle]
 pub extern "C" fn energy_book_write(fields: &[u8], buffer: &mut [u8]) -> u64
-    ensures answer { λ r. ⌜ r ≡ packed (numbers (fieldsOutcome (now (fields .entry)) (now (buffer .entry)))) ⌝ }
-    ensures apart { λ r. ⌜ unpacked r ≡ numbers (fieldsOutcome (now (fields .entry)) (now (buffer .entry))) ⌝ }
+    ensures answer { λ r. ⌜ Packs (numbers (fieldsOutcome (now (fields .entry)) (now (buffer .entry)))) r ⌝ }
     ensures filled { λ _. ⌜ now (buffer .exit) ≡ fieldsWritten (now (fields .entry)) (now (buffer .entry)) ⌝ }
 {
     pack(write_fields(fields, buffer))

@@ -1,14 +1,13 @@
-// The doors of `abi` without the check that the bytes are a book, which the caller answers for. A holder that keeps its bytes to itself
+// The functions of `abi` without the check that the bytes are a book, which the caller answers for. A holder that keeps its bytes to itself
 // can: opening makes a book, and each call leaves one (`still`), so what it opened, or once tested with `energy_book_is_book`, and then
 // changed by calls only, is a book. On other bytes nothing is promised.
 ghost use mathlib.Core.Path.{_≡_};
 ghost use mathlib.Core.Bool.{true};
-ghost use Rattle.rules.specs.Verdicts.{numbers};
 ghost use Rattle.rules.specs.Readings.{netReading, netReadOut, exposureReading, exposureReadOut};
 ghost use Rattle.image.specs.Valid.{isBook, bookIn};
-ghost use Rattle.day.specs.Answers.{callAnswer, callWith};
-ghost use Rattle.abi.specs.Packing.{packed, unpacked};
-ghost use Rattle.abi.specs.Lending.{lentNumbers, lentInto, netBytes, exposureBytes};
+ghost use Rattle.day.specs.Answers.{callOn};
+ghost use Rattle.abi.specs.Packing.{GivesPacked};
+ghost use Rattle.abi.specs.Lending.{Lends, netBytes, exposureBytes};
 use abi::lending::lend_exposure;
 use abi::lending::lend_net;
 use abi::packing::pack;
@@ -23,11 +22,9 @@ pub extern "C" fn energy_book_call_in(
     balances: &mut [u8],
 ) -> u64
     requires { ⌜ isBook (now book) ≡ true ⌝ }
-    ensures answer { λ r. ⌜ r ≡ packed (numbers (callAnswer (now (book .entry)) (callWith (now (bytes .entry)) (now (prices .entry)) (now (results .entry)) (now (balances .entry))) .outcome)) ⌝ }
-    ensures apart { λ r. ⌜ unpacked r ≡ numbers (callAnswer (now (book .entry)) (callWith (now (bytes .entry)) (now (prices .entry)) (now (results .entry)) (now (balances .entry))) .outcome) ⌝ }
-    ensures book { λ _. ⌜ now (book .exit) ≡ callAnswer (now (book .entry)) (callWith (now (bytes .entry)) (now (prices .entry)) (now (results .entry)) (now (balances .entry))) .book ⌝ }
-    ensures results { λ _. ⌜ now (results .exit) ≡ callAnswer (now (book .entry)) (callWith (now (bytes .entry)) (now (prices .entry)) (now (results .entry)) (now (balances .entry))) .results ⌝ }
-    ensures balances { λ _. ⌜ now (balances .exit) ≡ callAnswer (now (book .entry)) (callWith (now (bytes .entry)) (now (prices .entry)) (now (results .entry)) (now (balances .entry))) .balances ⌝ }
+    ensures answer { λ r. ⌜ GivesPacked
+        (callOn (now (book .entry)) (now (bytes .entry)) (now (prices .entry)) (now (results .entry)) (now (balances .entry)))
+        r (now (book .exit)) (now (results .exit)) (now (balances .exit)) ⌝ }
     ensures still { λ _. ⌜ isBook (now (book .exit)) ≡ true ⌝ }
 {
     pack(day::calls::call_in(bytes, book, prices, results, balances))
@@ -37,9 +34,7 @@ pub extern "C" fn energy_book_call_in(
 #[no_mangle]
 pub extern "C" fn energy_book_net_in(book: &[u8], account: u8, hour: u8, figure: &mut [u8]) -> u64
     requires { ⌜ isBook (now book) ≡ true ⌝ }
-    ensures answer { λ r. ⌜ r ≡ packed (lentNumbers netBytes (netReadOut (netReading (bookIn (now (book .entry))) account hour)) (now (figure .entry))) ⌝ }
-    ensures apart { λ r. ⌜ unpacked r ≡ lentNumbers netBytes (netReadOut (netReading (bookIn (now (book .entry))) account hour)) (now (figure .entry)) ⌝ }
-    ensures filled { λ _. ⌜ now (figure .exit) ≡ lentInto netBytes (netReadOut (netReading (bookIn (now (book .entry))) account hour)) (now (figure .entry)) ⌝ }
+    ensures { λ r. ⌜ Lends netBytes (netReadOut (netReading (bookIn (now (book .entry))) account hour)) (now (figure .entry)) r (now (figure .exit)) ⌝ }
 {
     let reading = day::interface::net_in(book, account, hour);
     pack(lend_net(reading, figure))
@@ -49,9 +44,7 @@ pub extern "C" fn energy_book_net_in(book: &[u8], account: u8, hour: u8, figure:
 #[no_mangle]
 pub extern "C" fn energy_book_exposure_in(book: &[u8], operator: u8, figure: &mut [u8]) -> u64
     requires { ⌜ isBook (now book) ≡ true ⌝ }
-    ensures answer { λ r. ⌜ r ≡ packed (lentNumbers exposureBytes (exposureReadOut (exposureReading (bookIn (now (book .entry))) operator)) (now (figure .entry))) ⌝ }
-    ensures apart { λ r. ⌜ unpacked r ≡ lentNumbers exposureBytes (exposureReadOut (exposureReading (bookIn (now (book .entry))) operator)) (now (figure .entry)) ⌝ }
-    ensures filled { λ _. ⌜ now (figure .exit) ≡ lentInto exposureBytes (exposureReadOut (exposureReading (bookIn (now (book .entry))) operator)) (now (figure .entry)) ⌝ }
+    ensures { λ r. ⌜ Lends exposureBytes (exposureReadOut (exposureReading (bookIn (now (book .entry))) operator)) (now (figure .entry)) r (now (figure .exit)) ⌝ }
 {
     let reading = day::interface::exposure_in(book, operator);
     pack(lend_exposure(reading, figure))

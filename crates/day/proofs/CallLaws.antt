@@ -13,7 +13,7 @@ use Rattle.rules.specs.declared.Reading.the-variants.{Read, Unread}
 use Rattle.rules.specs.Basics.{bit}
 use Rattle.rules.specs.Verdicts.{refused}
 use Rattle.rules.specs.Requests.{room, reading, fieldBytes, write}
-use Rattle.rules.specs.Calls.{Call, Answer, carried, step}
+use Rattle.rules.specs.Calls.{Call, Answer, Gives, carried, step}
 use Rattle.rules.proofs.Records.RoundTrip.{read-writes-back}
 use Rattle.image.specs.Valid.{bookBytes, isBook, bookIn}
 use Rattle.settlement.specs.Settling.{settleRecord, settleCall}
@@ -40,39 +40,37 @@ settle-answered s bytes prices results balances q h b e k =
     call-on-book s (callWith bytes prices results balances) h
     ∙ ap (λ (x : List ℕ). carried bookBytes (step (bookIn s) (callWith x prices results balances))) (settle-record bytes q b e k)
 
--- ---- an answer in parts
+-- ---- an answer that is given
 
--- the outcome, and the bytes of the book and of the two buffers
-abbrev pub InParts : Answer (List ℕ) → Outcome → List ℕ → List ℕ → List ℕ → Type 0
-InParts x o t results balances = (o ≡ x .outcome) × ((t ≡ x .book) × ((results ≡ x .results) × (balances ≡ x .balances)))
+given : (x : Answer (List ℕ)) → Gives x (x .outcome) (x .book) (x .results) (x .balances)
+given x = record { outcome-given = refl; book-left = refl; results-left = refl; balances-left = refl }
 
--- the same, and the bytes are a book
-abbrev pub BookInParts : Answer (List ℕ) → Outcome → List ℕ → List ℕ → List ℕ → Type 0
-BookInParts x o t results balances =
-    (o ≡ x .outcome) × ((t ≡ x .book) × ((results ≡ x .results) × ((balances ≡ x .balances) × (isBook t ≡ true))))
+-- it is given, and the bytes are a book
+abbrev pub GivesBook : Answer (List ℕ) → Outcome → List ℕ → List ℕ → List ℕ → Type 0
+GivesBook x o t results balances = Gives x o t results balances × (isBook t ≡ true)
 
 -- of bytes that are no book
-pub no-book-parts : (s : List ℕ) (c : Call) → isBook s ≡ false → InParts (callAnswer s c) (refused NotABook) s (c .results) (c .balances)
-no-book-parts s c h = rw (call-on-no-book s c h) (refl, (refl, (refl, refl)))
+pub no-book-given : (s : List ℕ) (c : Call) → isBook s ≡ false → Gives (callAnswer s c) (refused NotABook) s (c .results) (c .balances)
+no-book-given s c h = rw (call-on-no-book s c h) (given _)
 
 module _ (s : List ℕ) (c : Call) (h : isBook s ≡ true) where
   -- of a record that says nothing
-  pub unread-parts : (r : Refusal) → reading (c .bytes) ≡ Unread r → BookInParts (callAnswer s c) (refused r) s (c .results) (c .balances)
-  unread-parts r e =
-      rw (call-refused s c h r (record-refused (bookIn s) c r (unread-checks (c .bytes) r e))) (refl, (refl, (refl, (refl, h))))
+  pub unread-given : (r : Refusal) → reading (c .bytes) ≡ Unread r → GivesBook (callAnswer s c) (refused r) s (c .results) (c .balances)
+  unread-given r e =
+      rw (call-refused s c h r (record-refused (bookIn s) c r (unread-checks (c .bytes) r e))) (given _, h)
 
   -- of a request of kinds 1 to 9
-  pub said-parts : (q : Request) → reading (c .bytes) ≡ Read q → (q .kind ≡ 10 → ⊥) → (o : Outcome) (t : List ℕ) → AnsweredSaying q s o t
-      → BookInParts (callAnswer s c) o t (c .results) (c .balances)
-  said-parts q e other o t x =
+  pub said-given : (q : Request) → reading (c .bytes) ≡ Read q → (q .kind ≡ 10 → ⊥) → (o : Outcome) (t : List ℕ) → AnsweredSaying q s o t
+      → GivesBook (callAnswer s c) o t (c .results) (c .balances)
+  said-given q e other o t x =
       let n = other-kind (c .bytes) q e other in
       let stay = buffers-stay s c h q e (n .0) (n .1) in
-      (x .0 c e, (x .1 .0 c e, (sym (stay .0), (sym (stay .1), x .1 .1))))
+      (record { outcome-given = x .0 c e; book-left = x .1 .0 c e; results-left = sym (stay .0); balances-left = sym (stay .1) }, x .1 .1)
 
 -- of a settle
-pub settle-parts : (s bytes prices results balances : List ℕ) (q : Request) → isBook s ≡ true → Bytes bytes → reading bytes ≡ Read q → q .kind ≡ 10
+pub settle-given : (s bytes prices results balances : List ℕ) (q : Request) → isBook s ≡ true → Bytes bytes → reading bytes ≡ Read q → q .kind ≡ 10
     → (o : Outcome) (t newResults newBalances : List ℕ)
-    → BookInParts (carried bookBytes (step (bookIn s) (settleCall prices results balances))) o t newResults newBalances
-    → BookInParts (callAnswer s (callWith bytes prices results balances)) o t newResults newBalances
-settle-parts s bytes prices results balances q h b e k o t newResults newBalances x =
+    → GivesBook (carried bookBytes (step (bookIn s) (settleCall prices results balances))) o t newResults newBalances
+    → GivesBook (callAnswer s (callWith bytes prices results balances)) o t newResults newBalances
+settle-given s bytes prices results balances q h b e k o t newResults newBalances x =
     rw (settle-answered s bytes prices results balances q h b e k) x

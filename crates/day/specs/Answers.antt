@@ -14,3 +14,7 @@ callAnswer s c = if isBook s then carried bookBytes (step (bookIn s) c) else ref
 -- a call by the bytes that it is lent: its record, the price table, and the buffers for results and balances
 abbrev pub callWith : List ℕ → List ℕ → List ℕ → List ℕ → Call
 callWith bytes prices results balances = record { bytes = bytes; prices = prices; results = results; balances = balances }
+
+-- what that call answers
+abbrev pub callOn : List ℕ → List ℕ → List ℕ → List ℕ → List ℕ → Answer (List ℕ)
+callOn book bytes prices results balances = callAnswer book (callWith bytes prices results balances)

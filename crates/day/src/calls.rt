@@ -1,8 +1,9 @@
 // A call: of any bytes, and of bytes that are known to be a book.
 ghost use mathlib.Core.Path.{_≡_};
 ghost use mathlib.Core.Bool.{true};
+ghost use Rattle.rules.specs.Calls.{Gives};
 ghost use Rattle.image.specs.Valid.{isBook};
-ghost use Rattle.day.specs.Answers.{callAnswer, callWith};
+ghost use Rattle.day.specs.Answers.{callOn};
 use crate::kinds::answer;
 use audit::whole::is_book;
 use records::reader::read;
@@ -13,7 +14,7 @@ use rules::Verdict;
 use rules::kinds::SETTLE;
 use settlement::settle::settle;
 
-// The inner door: a call on bytes that are known to be a book. It leaves a book.
+// A call on bytes that are known to be a book. It leaves a book.
 pub fn call_in(
     bytes: &[u8],
     book: &mut [u8],
@@ -22,10 +23,9 @@ pub fn call_in(
     balances: &mut [u8],
 ) -> Outcome
     requires { ⌜ isBook (now book) ≡ true ⌝ }
-    ensures answer { λ o. ⌜ o ≡ callAnswer (now (book .entry)) (callWith (now (bytes .entry)) (now (prices .entry)) (now (results .entry)) (now (balances .entry))) .outcome ⌝ }
-    ensures book { λ _. ⌜ now (book .exit) ≡ callAnswer (now (book .entry)) (callWith (now (bytes .entry)) (now (prices .entry)) (now (results .entry)) (now (balances .entry))) .book ⌝ }
-    ensures results { λ _. ⌜ now (results .exit) ≡ callAnswer (now (book .entry)) (callWith (now (bytes .entry)) (now (prices .entry)) (now (results .entry)) (now (balances .entry))) .results ⌝ }
-    ensures balances { λ _. ⌜ now (balances .exit) ≡ callAnswer (now (book .entry)) (callWith (now (bytes .entry)) (now (prices .entry)) (now (results .entry)) (now (balances .entry))) .balances ⌝ }
+    ensures answer { λ o. ⌜ Gives
+        (callOn (now (book .entry)) (now (bytes .entry)) (now (prices .entry)) (now (results .entry)) (now (balances .entry)))
+        o (now (book .exit)) (now (results .exit)) (now (balances .exit)) ⌝ }
     ensures still { λ _. ⌜ isBook (now (book .exit)) ≡ true ⌝ }
 {
     let said = read(bytes);
@@ -42,7 +42,7 @@ pub fn call_in(
     }
 }
 
-// The public door: a call on any bytes, refused (1) where they are no book.
+// A call on any bytes, refused (1) where they are no book.
 pub fn call(
     bytes: &[u8],
     book: &mut [u8],
@@ -50,10 +50,9 @@ pub fn call(
     results: &mut [u8],
     balances: &mut [u8],
 ) -> Outcome
-    ensures answer { λ o. ⌜ o ≡ callAnswer (now (book .entry)) (callWith (now (bytes .entry)) (now (prices .entry)) (now (results .entry)) (now (balances .entry))) .outcome ⌝ }
-    ensures book { λ _. ⌜ now (book .exit) ≡ callAnswer (now (book .entry)) (callWith (now (bytes .entry)) (now (prices .entry)) (now (results .entry)) (now (balances .entry))) .book ⌝ }
-    ensures results { λ _. ⌜ now (results .exit) ≡ callAnswer (now (book .entry)) (callWith (now (bytes .entry)) (now (prices .entry)) (now (results .entry)) (now (balances .entry))) .results ⌝ }
-    ensures balances { λ _. ⌜ now (balances .exit) ≡ callAnswer (now (book .entry)) (callWith (now (bytes .entry)) (now (prices .entry)) (now (results .entry)) (now (balances .entry))) .balances ⌝ }
+    ensures answer { λ o. ⌜ Gives
+        (callOn (now (book .entry)) (now (bytes .entry)) (now (prices .entry)) (now (results .entry)) (now (balances .entry)))
+        o (now (book .exit)) (now (results .exit)) (now (balances .exit)) ⌝ }
 {
     if is_book(book) {
         return call_in(bytes, book, prices, results, balances);

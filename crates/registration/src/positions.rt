@@ -14,7 +14,6 @@ use image::layout::MOST_IN_4;
 use image::layout::NET_WIDTH;
 use image::layout::TURN;
 use rules::Row;
-use rules::hours::pick;
 use wire::numbers::get_u32;
 use wire::numbers::put_u32;
 
@@ -48,8 +47,8 @@ pub fn move_nets(book: &mut [u8], r: Row)
 {
     let quantity = r.quantity;
     let n = (r.last - r.first) as usize + 1;
-    let seller = pick(r.side == 1, r.proposer, r.counterparty);
-    let buyer = pick(r.side == 1, r.counterparty, r.proposer);
+    let seller = r.seller();
+    let buyer = r.buyer();
     raise_nets(
         book,
         net_offset(seller, r.first),

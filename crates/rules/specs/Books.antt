@@ -16,6 +16,54 @@ use Rattle.rules.specs.declared.Row.{Row}
 use Rattle.rules.specs.declared.Schedule.{Schedule}
 use Rattle.rules.specs.Basics.{nth}
 
+-- ---- the paper's numbers
+
+-- status of a row
+abbrev pub pendingStatus : ℕ
+pendingStatus = 1
+
+abbrev pub confirmedStatus : ℕ
+confirmedStatus = 2
+
+abbrev pub withdrawnStatus : ℕ
+withdrawnStatus = 3
+
+-- side of a row: the proposer sells, or it buys
+abbrev pub sellingSide : ℕ
+sellingSide = 1
+
+abbrev pub buyingSide : ℕ
+buyingSide = 2
+
+-- side of a schedule
+abbrev pub injectingSide : ℕ
+injectingSide = 1
+
+abbrev pub withdrawingSide : ℕ
+withdrawingSide = 2
+
+-- kind of an account or a point; points only are mixed
+abbrev pub injectionKind : ℕ
+injectionKind = 1
+
+abbrev pub withdrawalKind : ℕ
+withdrawalKind = 2
+
+abbrev pub mixedKind : ℕ
+mixedKind = 3
+
+-- phase of a day
+abbrev pub registrationPhase : ℕ
+registrationPhase = 1
+
+abbrev pub schedulesPhase : ℕ
+schedulesPhase = 2
+
+abbrev pub settledPhase : ℕ
+settledPhase = 3
+
+-- ---- the book
+
 -- what of the set-up holds all day; maintenance by operator, per thousand
 pub record Setup : Type 0 where
   pub hours : ℕ
@@ -30,7 +78,6 @@ pub record Part : Type 0 where
   pub guarantees : List Cents
   pub rows : List Row
 
--- phase: 1 registration, 2 schedules, 3 settled
 pub record Book : Type 0 where
   pub setup : Setup
   pub phase : ℕ

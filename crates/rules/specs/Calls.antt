@@ -1,6 +1,7 @@
 -- The ten calls (document 01, "Registration", "Schedules and settlement", "Verdicts"): what each is refused for, in rank, and what
 -- an accepted one gives and makes of the book and of the buffers that it was lent.
 use Prim.Native.Nat.{ℕ, suc, _-_, _*_}
+use mathlib.Core.Path.{_≡_}
 use mathlib.Core.List.{List, [], _∷_, _++_}
 use mathlib.Core.Option.{Option, none, some}
 use mathlib.Core.Bool.{Bool, true, false, not, _&&_, _||_}
@@ -17,7 +18,7 @@ use Rattle.rules.specs.declared.Refusal.the-variants.{WrongLength, OutOf
 use Rattle.rules.specs.Basics.{if_then_else_, anyPasses, isSome, nth, put}
 use Rattle.rules.specs.Limits.{mostPrice, mostRows, mostSchedules}
 use Rattle.rules.specs.Verdicts.{Check, _⇒_, _⇒↑_, firstToApply, accepted, refused}
-use Rattle.rules.specs.Books.{Setup, Part, Book, withPhase, withPart, withSchedules, withSaved, withGuarantees, withRows, noRow, operatorOf, operatorCount, countsOf}
+use Rattle.rules.specs.Books.{Setup, Part, Book, withPhase, withPart, withSchedules, withSaved, withGuarantees, withRows, noRow, operatorOf, operatorCount, countsOf, confirmedStatus, withdrawnStatus, registrationPhase, schedulesPhase, settledPhase}
 use Rattle.rules.specs.Requests.{Kind, register, confirm, withdraw, guarantee, openBatch, undo, keep, closeGate, schedule, settle, kindNumber, kindOf, requestOf, readChecks, faultyBit, sameAccounts, filled}
 use Rattle.rules.specs.Registration.{proposed, alike, confirms, withdraws, mirrors, mark, closed, brokenHour, covered, netOf}
 use Rattle.rules.specs.Settlement.{priceCount, pricesIn, results, balances, balanceBytes}
@@ -68,8 +69,8 @@ scheduled q = record { point = q .point; side = q .side; hour = q .first; quanti
 -- the change that a kind makes
 abbrev pub change : Kind → Book → Request → Change
 change register b q = addRows (proposed q ∷ [])
-change confirm b q = setStatus (confirmedNumber b q) 2
-change withdraw b q = setStatus (q .number) 3
+change confirm b q = setStatus (confirmedNumber b q) confirmedStatus
+change withdraw b q = setStatus (q .number) withdrawnStatus
 change guarantee b q = setGuarantee (q .operator) (q .guarantee)
 change openBatch b q = savePart
 change undo b q = restorePart
@@ -91,9 +92,9 @@ apply (setGuarantee o g) b = withGuarantees b (put (b .part .guarantees) o g)
 apply savePart b = withSaved b (some (b .part))
 apply restorePart b = withSaved (withPart b (restored (b .saved) (b .part))) none
 apply dropSaved b = withSaved b none
-apply shutGate b = withPhase (withRows b (closed (b .part .rows))) 2
+apply shutGate b = withPhase (withRows b (closed (b .part .rows))) schedulesPhase
 apply (addSchedule x) b = withSchedules b (b .schedules ++ x ∷ [])
-apply endDay b = withPhase b 3
+apply endDay b = withPhase b settledPhase
 
 -- the book after an accepted call
 abbrev pub next : Kind → Book → Request → Book
@@ -138,9 +139,9 @@ inputChecks b c k q =
 
 -- the phase that a kind wants
 abbrev pub phaseOf : Kind → ℕ
-phaseOf k = if k oneOf (schedule ∷ settle ∷ []) then 2 else 1
+phaseOf k = if k oneOf (schedule ∷ settle ∷ []) then schedulesPhase else registrationPhase
 
--- the operator that a call weighs on: the calling account's, or the one whose guarantee is replaced
+-- the operator whose exposure a call is checked for: the calling account's, or the one whose guarantee is replaced
 abbrev pub exposedOperator : Kind → Setup → Request → ℕ
 exposedOperator k u q = if k oneOf (guarantee ∷ []) then q .operator else operatorOf u (q .account)
 
@@ -196,6 +197,13 @@ pub record Answer (B : Type 0) : Type 0 where
 -- the same answer, with the book in another form
 abbrev pub carried : {A B : Type 0} → (A → B) → Answer A → Answer B
 carried form x = record { outcome = x .outcome; book = form (x .book); results = x .results; balances = x .balances }
+
+-- a function that answers in bytes gives this answer: the outcome, and what it leaves of the book and of the two buffers
+pub record Gives (a : Answer (List ℕ)) (o : Outcome) (book results balances : List ℕ) : Type 0 where
+  pub outcome-given : o ≡ a .outcome
+  pub book-left : book ≡ a .book
+  pub results-left : results ≡ a .results
+  pub balances-left : balances ≡ a .balances
 
 -- a refusal changes nothing
 abbrev pub refusedOn : {B : Type 0} → Refusal → B → Call → Answer B

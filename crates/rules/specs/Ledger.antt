@@ -14,7 +14,7 @@ use Rattle.rules.specs.declared.Schedule.{Schedule}
 use Rattle.rules.specs.declared.Request.{Request}
 use Rattle.rules.specs.Basics.{if_then_else_, total, put, within}
 use Rattle.rules.specs.Limits.{thousand}
-use Rattle.rules.specs.Books.{Setup, estimateAt, guaranteeAt, maintenanceAt}
+use Rattle.rules.specs.Books.{Setup, estimateAt, guaranteeAt, maintenanceAt, sellingSide, buyingSide}
 use Rattle.rules.specs.Opening.{setupOf, guaranteesOf}
 use Rattle.rules.specs.Requests.{Kind, register, confirm, withdraw, guarantee, openBatch, undo, keep, closeGate, schedule, settle, kindOf, requestOf}
 use Rattle.rules.specs.Registration.{proposed, alike, counted, includesHour, exposureOf}
@@ -83,12 +83,12 @@ unfoldable pub without : (Entry → Bool) → List Entry → List Entry
 without p [] = []
 without p (e ∷ es) = elim (p e) [ true ↦ es | false ↦ e ∷ without p es ]
 
--- the trade that confirm adds: side 1, the caller sells
+-- the trade that confirm adds, in which the caller sells or buys
 abbrev pub tradeOf : Request → Trade
 tradeOf q =
     record {
-      seller = if eqb (q .side) 1 then q .account else q .other;
-      buyer = if eqb (q .side) 1 then q .other else q .account;
+      seller = if eqb (q .side) sellingSide then q .account else q .other;
+      buyer = if eqb (q .side) sellingSide then q .other else q .account;
       first = q .first;
       last = q .last;
       quantity = q .quantity;
@@ -160,7 +160,7 @@ ledgerWaiting side l a h =
 
 unfoldable pub ledgerHour : Ledger → ℕ → ℕ → AccountHour
 ledgerHour l a h =
-    record { net = ledgerNet l a h; sales = kwh (ledgerWaiting 1 l a h); purchases = kwh (ledgerWaiting 2 l a h) }
+    record { net = ledgerNet l a h; sales = kwh (ledgerWaiting sellingSide l a h); purchases = kwh (ledgerWaiting buyingSide l a h) }
 
 unfoldable pub ledgerExposure : Ledger → ℕ → ℕ
 ledgerExposure l o = exposureOf (l .setup) (estimateAt (l .setup)) (ledgerHour l) o

@@ -15,24 +15,24 @@ use Rattle.rules.specs.declared.AccountHour.{AccountHour}
 use Rattle.rules.specs.declared.Request.{Request}
 use Rattle.rules.specs.Basics.{if_then_else_, total, find, indexOf, nth, put, upTo, within}
 use Rattle.rules.specs.Limits.{thousand}
-use Rattle.rules.specs.Books.{Setup, Part, periods, marginsAt, estimateAt, maintenanceAt, guaranteeAt, operatorOf, accountCount, noRow}
+use Rattle.rules.specs.Books.{Setup, Part, periods, marginsAt, estimateAt, maintenanceAt, guaranteeAt, operatorOf, accountCount, noRow, pendingStatus, confirmedStatus, withdrawnStatus, sellingSide, buyingSide}
 
 -- ---- rows
 
 abbrev pub pending : Row → Bool
-pending r = eqb (r .status) 1
+pending r = eqb (r .status) pendingStatus
 
 abbrev pub confirmed : Row → Bool
-confirmed r = eqb (r .status) 2
+confirmed r = eqb (r .status) confirmedStatus
 
--- side 1: the proposer sells; side 2: it buys
+-- the proposer sells, or it buys
 abbrev pub seller : Row → ℕ
-seller r = if eqb (r .side) 1 then r .proposer else r .counterparty
+seller r = if eqb (r .side) sellingSide then r .proposer else r .counterparty
 
 abbrev pub buyer : Row → ℕ
-buyer r = if eqb (r .side) 1 then r .counterparty else r .proposer
+buyer r = if eqb (r .side) sellingSide then r .counterparty else r .proposer
 
--- the row is for that hour
+-- the hour is one of the row's
 abbrev pub includesHour : ℕ → Row → Bool
 includesHour h r = within (r .first) h (r .last)
 
@@ -55,7 +55,7 @@ mark number status rows = put rows number (withStatus status (nth rows number no
 
 -- all pending rows are withdrawn
 unfoldable pub closed : List Row → List Row
-closed rows = map (λ r. if pending r then withStatus 3 r else r) rows
+closed rows = map (λ r. if pending r then withStatus withdrawnStatus r else r) rows
 
 -- ---- the row that a request speaks of
 
@@ -70,7 +70,7 @@ proposed q =
       first = q .first;
       last = q .last;
       quantity = q .quantity;
-      status = 1;
+      status = pendingStatus;
     }
 
 -- a pending row with this proposer, counterparty and code
@@ -100,9 +100,17 @@ mirrors q r =
 abbrev pub counted : (Row → Bool) → Row → ℕ
 counted p r = if p r then r .quantity .0 else 0
 
+-- a confirmed row of the hour, of which the account is that party
+abbrev pub moves : (Row → ℕ) → ℕ → ℕ → Row → Bool
+moves party a h r = confirmed r && includesHour h r && eqb (party r) a
+
+-- a pending row of the hour and of that side, which the account proposed; pending rows count for the proposer only
+abbrev pub pendingOf : ℕ → ℕ → ℕ → Row → Bool
+pendingOf side a h r = pending r && includesHour h r && eqb (r .proposer) a && eqb (r .side) side
+
 -- what confirmed rows move in the hour, of which the account is that party
 unfoldable pub moved : (Row → ℕ) → List Row → ℕ → ℕ → ℕ
-moved party rows a h = total (counted (λ r. confirmed r && includesHour h r && eqb (party r) a)) rows
+moved party rows a h = total (counted (moves party a h)) rows
 
 abbrev pub bought : List Row → ℕ → ℕ → ℕ
 bought rows a h = moved buyer rows a h
@@ -110,15 +118,15 @@ bought rows a h = moved buyer rows a h
 abbrev pub sold : List Row → ℕ → ℕ → ℕ
 sold rows a h = moved seller rows a h
 
--- the account's own pending rows of a side; pending rows weigh on the proposer only
+-- the account's own pending rows of a side
 unfoldable pub waiting : ℕ → List Row → ℕ → ℕ → ℕ
-waiting side rows a h = total (counted (λ r. pending r && includesHour h r && eqb (r .proposer) a && eqb (r .side) side)) rows
+waiting side rows a h = total (counted (pendingOf side a h)) rows
 
 abbrev pub pendingSales : List Row → ℕ → ℕ → ℕ
-pendingSales rows a h = waiting 1 rows a h
+pendingSales rows a h = waiting sellingSide rows a h
 
 abbrev pub pendingPurchases : List Row → ℕ → ℕ → ℕ
-pendingPurchases rows a h = waiting 2 rows a h
+pendingPurchases rows a h = waiting buyingSide rows a h
 
 abbrev pub netOf : List Row → ℕ → ℕ → Net
 netOf rows a h = record { bought = kwh (bought rows a h); sold = kwh (sold rows a h) }
@@ -127,19 +135,19 @@ abbrev pub accountHour : List Row → ℕ → ℕ → AccountHour
 accountHour rows a h =
     record { net = netOf rows a h; sales = kwh (pendingSales rows a h); purchases = kwh (pendingPurchases rows a h) }
 
--- an account hour takes a trade, by its row, and yields the hour after it
+-- an account hour after one row more
 unfoldable pub afterTrade : ℕ → ℕ → AccountHour → Row → AccountHour
 afterTrade a h x r =
     record {
       net = record {
-        bought = kwh (x .net .bought .0 + counted (λ r. confirmed r && includesHour h r && eqb (buyer r) a) r);
-        sold = kwh (x .net .sold .0 + counted (λ r. confirmed r && includesHour h r && eqb (seller r) a) r);
+        bought = kwh (x .net .bought .0 + counted (moves buyer a h) r);
+        sold = kwh (x .net .sold .0 + counted (moves seller a h) r);
       };
-      sales = kwh (x .sales .0 + counted (λ r. pending r && includesHour h r && eqb (r .proposer) a && eqb (r .side) 1) r);
-      purchases = kwh (x .purchases .0 + counted (λ r. pending r && includesHour h r && eqb (r .proposer) a && eqb (r .side) 2) r);
+      sales = kwh (x .sales .0 + counted (pendingOf sellingSide a h) r);
+      purchases = kwh (x .purchases .0 + counted (pendingOf buyingSide a h) r);
     }
 
--- it takes trades one after the other
+-- after several, one after the other
 abbrev pub afterTrades : ℕ → ℕ → AccountHour → List Row → AccountHour
 afterTrades a h x [] = x
 afterTrades a h x (r ∷ rs) = afterTrades a h (afterTrade a h x r) rs
@@ -168,7 +176,7 @@ keepsMargins margins x =
 unfoldable pub brokenHour : Setup → List Row → ℕ → Option ℕ
 brokenHour u rows a = find (λ h. not (keepsMargins (marginsAt u a h) (accountHour rows a h))) (upTo (periods u))
 
--- the same once the account took rows that are to be added
+-- the same with rows that are to be added
 unfoldable pub brokenBy : Setup → List Row → List Row → ℕ → Option ℕ
 brokenBy u rows added a =
     find (λ h. not (keepsMargins (marginsAt u a h) (afterTrades a h (accountHour rows a h) added))) (upTo (periods u))
@@ -191,7 +199,7 @@ exposureOf u prices holds o = ofOperator u (λ a. total (λ h. prices h .0 * exp
 abbrev pub exposure : Setup → List Row → ℕ → ℕ
 exposure u rows o = exposureOf u (estimateAt u) (accountHour rows) o
 
--- the same once the accounts took rows that are to be added
+-- the same with rows that are to be added
 abbrev pub exposureWith : Setup → List Row → List Row → ℕ → ℕ
 exposureWith u rows added o = exposureOf u (estimateAt u) (λ a h. afterTrades a h (accountHour rows a h) added) o
 

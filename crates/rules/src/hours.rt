@@ -1,22 +1,20 @@
 // What an account holds in an hour, after one trade more.
 ghost use mathlib.Core.Path.{_≡_};
 ghost use mathlib.Core.Bool.{_&&_};
-ghost use Prim.Native.Nat.{_+_, _-_, _^_, _≤_, _<_};
+ghost use Prim.Native.Nat.{_+_, _-_, _≤_};
 ghost use lib.Dec.{eqb};
 ghost use Rattle.rules.specs.Basics.{if_then_else_};
-ghost use Rattle.rules.specs.Registration.{confirmed, pending, buyer, seller, includesHour, counted, afterTrade, keepsMargins};
+ghost use Rattle.rules.specs.Registration.{confirmed, includesHour, buyer, seller, counted, moves, pendingOf, afterTrade, keepsMargins};
+ghost use Rattle.rules.specs.Widths.{NetFits, HourFits};
 use crate::AccountHour;
 use crate::Margins;
 use crate::Net;
 use crate::Row;
+use crate::sides::BUYS;
+use crate::sides::SELLS;
+use crate::statuses::CONFIRMED;
+use crate::statuses::PENDING;
 use units::Kwh;
-
-// The first where the test holds, else the second.
-pub fn pick(on: bool, a: u8, b: u8) -> u8
-    ensures { λ r. ⌜ r ≡ (if on then a else b) ⌝ }
-{
-    if on { a } else { b }
-}
 
 // The energy where the test holds, else none.
 fn part(on: bool, quantity: Kwh) -> Kwh
@@ -27,20 +25,22 @@ fn part(on: bool, quantity: Kwh) -> Kwh
 
 // What a confirmed row moves in the hour, where that party of it is the account.
 fn moved(r: Row, party: u8, account: u8, hour: u8) -> Kwh
-    ensures { λ q. ⌜ (q .0 ≡ (if confirmed r && includesHour hour r && eqb party account then r .quantity .0 else 0)) × (q .0 ≤ r .quantity .0) ⌝ }
+    ensures meaning { λ q. ⌜ q .0 ≡ (if confirmed r && includesHour hour r && eqb party account then r .quantity .0 else 0) ⌝ }
+    ensures bounded { λ q. ⌜ q .0 ≤ r .quantity .0 ⌝ }
 {
     part(
-        (r.status == 2) & ((r.first <= hour) & (hour <= r.last)) & (party == account),
+        (r.status == CONFIRMED) & ((r.first <= hour) & (hour <= r.last)) & (party == account),
         r.quantity,
     )
 }
 
-// What a pending row of the account's own waits with in the hour, where it is of that side.
+// What a pending row of the account's own adds to its pending rows of that side in the hour.
 fn waiting(r: Row, account: u8, hour: u8, side: u8) -> Kwh
-    ensures { λ q. ⌜ (q .0 ≡ (if pending r && includesHour hour r && eqb (r .proposer) account && eqb (r .side) side then r .quantity .0 else 0)) × (q .0 ≤ r .quantity .0) ⌝ }
+    ensures meaning { λ q. ⌜ q .0 ≡ counted (pendingOf side account hour) r ⌝ }
+    ensures bounded { λ q. ⌜ q .0 ≤ r .quantity .0 ⌝ }
 {
     part(
-        (r.status == 1)
+        (r.status == PENDING)
             & ((r.first <= hour) & (hour <= r.last))
             & (r.proposer == account)
             & (r.side == side),
@@ -50,13 +50,12 @@ fn waiting(r: Row, account: u8, hour: u8, side: u8) -> Kwh
 
 // A net position after the trade.
 fn moved_net(net: Net, trade: Row, account: u8, hour: u8) -> Net
-    requires { ⌜ (net .bought .0 + trade .quantity .0 < 2 ^ 32) × (net .sold .0 + trade .quantity .0 < 2 ^ 32) ⌝ }
-    ensures { λ r. ⌜ (r .bought .0 ≡ net .bought .0 + counted (λ r. confirmed r && includesHour hour r && eqb (buyer r) account) trade) × (r .sold .0 ≡ net .sold .0 + counted (λ r. confirmed r && includesHour hour r && eqb (seller r) account) trade) ⌝ }
+    requires { ⌜ NetFits net trade ⌝ }
+    ensures bought { λ r. ⌜ r .bought .0 ≡ net .bought .0 + counted (moves buyer account hour) trade ⌝ }
+    ensures sold { λ r. ⌜ r .sold .0 ≡ net .sold .0 + counted (moves seller account hour) trade ⌝ }
 {
-    let buyer = pick(trade.side == 1, trade.counterparty, trade.proposer);
-    let seller = pick(trade.side == 1, trade.proposer, trade.counterparty);
-    let bought = moved(trade, buyer, account, hour);
-    let sold = moved(trade, seller, account, hour);
+    let bought = moved(trade, trade.buyer(), account, hour);
+    let sold = moved(trade, trade.seller(), account, hour);
     Net {
         bought: net.bought.plus(bought),
         sold: net.sold.plus(sold),
@@ -66,12 +65,12 @@ fn moved_net(net: Net, trade: Row, account: u8, hour: u8) -> Net
 impl AccountHour {
     // The hour after the trade.
     pub fn after_trade(self, trade: Row, account: u8, hour: u8) -> AccountHour
-        requires { ⌜ (self .net .bought .0 + trade .quantity .0 < 2 ^ 32) × (self .net .sold .0 + trade .quantity .0 < 2 ^ 32) × (self .sales .0 + trade .quantity .0 < 2 ^ 32) × (self .purchases .0 + trade .quantity .0 < 2 ^ 32) ⌝ }
+        requires { ⌜ HourFits self trade ⌝ }
         ensures { λ r. ⌜ r ≡ afterTrade account hour self trade ⌝ }
     {
         let net = moved_net(self.net, trade, account, hour);
-        let sales = waiting(trade, account, hour, 1);
-        let purchases = waiting(trade, account, hour, 2);
+        let sales = waiting(trade, account, hour, SELLS);
+        let purchases = waiting(trade, account, hour, BUYS);
         AccountHour {
             net,
             sales: self.sales.plus(sales),
@@ -84,10 +83,7 @@ impl AccountHour {
 pub fn short(net: Net) -> Kwh
     ensures { λ r. ⌜ r .0 ≡ net .sold .0 - net .bought .0 ⌝ }
 {
-    if net.bought.0 < net.sold.0 {
-        return Kwh(net.sold.0 - net.bought.0);
-    }
-    Kwh(0)
+    net.sold.above(net.bought)
 }
 
 // Whether both margins are kept.

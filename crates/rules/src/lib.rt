@@ -1,7 +1,13 @@
 // The plain values of the energy account book: what the definitions in specs/ and the code of the crates above share.
+pub mod balances;
 pub mod hours;
 pub mod kinds;
 pub mod limits;
+pub mod parties;
+pub mod phases;
+pub mod sides;
+pub mod sites;
+pub mod statuses;
 pub mod verdicts;
 
 use units::Cents;

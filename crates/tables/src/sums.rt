@@ -21,7 +21,6 @@ use image::rows::row_at;
 use rules::AccountHour;
 use rules::Net;
 use rules::Row;
-use rules::hours::pick;
 use rules::limits::MOST_ACCOUNTS;
 use units::Kwh;
 use wire::numbers::get_u32;
@@ -67,8 +66,8 @@ fn add_confirmed(table: &mut [u32], top: usize, r: Row)
     requires { ⌜ (tableSize top ≤ length (now table)) × Tabled top r × Room (now table) 0 (r .quantity .0) × (r .status ≡ 2) × (top ≤ mostPeriods) ⌝ }
     ensures { λ _. ⌜ RowAdded top (now (table .entry)) (now (table .exit)) r ⌝ }
 {
-    let buyer = pick(r.side == 1, r.counterparty, r.proposer);
-    let seller = pick(r.side == 1, r.proposer, r.counterparty);
+    let buyer = r.buyer();
+    let seller = r.seller();
     add_hours(table, top, BOUGHT, buyer, r);
     add_hours(table, top, SOLD, seller, r);
 }

@@ -1,4 +1,5 @@
--- The answer is that of the door, packed.
+-- It is the call of `day`, with its outcome packed.
+use Rattle.abi.proofs.PackingLaws.{given-packed}
 use borrow.Author.Needs.{needs}
 use Rattle.abi.proofs.exports.energy_book_call.Statement.{statement}
 use Rattle.abi.proofs.exports.energy_book_call.Tie as tie
@@ -19,7 +20,7 @@ same-length-3 : tie.Need-same-length-3
 same-length-3 c = search needs
 
 returns : tie.Need-returns
-returns c = rw (← c .before .before .before .before .before .before .before .call .ensures .0) (c .pack .ensures .0, (c .pack .ensures .1, c .before .before .before .before .before .before .before .call .ensures .1))
+returns c = given-packed _ _ _ _ _ _ (c .before .before .before .before .before .before .before .call .ensures) (c .pack .ensures)
 
 pub energy-book-call-spec : {M : Type 1} → statement M
 energy-book-call-spec =

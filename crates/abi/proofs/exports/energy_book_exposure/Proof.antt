@@ -1,4 +1,4 @@
--- The answer is that of the door, packed.
+-- It is the reading of `day`, put into the lent buffer, with its numbers packed.
 use borrow.Author.Needs.{needs}
 use Rattle.abi.proofs.exports.energy_book_exposure.Statement.{statement}
 use Rattle.abi.proofs.exports.energy_book_exposure.Tie as tie
@@ -16,7 +16,7 @@ same-length : tie.Need-same-length
 same-length c = search needs
 
 returns : tie.Need-returns
-returns c = rw (← c .before .before .before .before .before .exposure .ensures, ← c .before .before .before .lend-exposure .ensures .0) (c .pack .ensures .0, (c .pack .ensures .1, c .before .before .before .lend-exposure .ensures .1))
+returns c = rw (← c .before .before .before .before .before .exposure .ensures, ← c .before .before .before .lend-exposure .ensures .0) (record { numbers-packed = c .pack .ensures; buffer-left = c .before .before .before .lend-exposure .ensures .1 })
 
 pub energy-book-exposure-spec : {M : Type 1} → statement M
 energy-book-exposure-spec =

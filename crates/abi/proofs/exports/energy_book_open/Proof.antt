@@ -1,4 +1,4 @@
--- The answer is that of the door, packed.
+-- It is the opening of `day`, with its outcome packed.
 use borrow.Author.Needs.{needs}
 use Rattle.abi.proofs.exports.energy_book_open.Statement.{statement}
 use Rattle.abi.proofs.exports.energy_book_open.Tie as tie
@@ -13,7 +13,7 @@ same-length : tie.Need-same-length
 same-length c = search needs
 
 returns : tie.Need-returns
-returns c = rw (← c .before .before .before .«open» .ensures .0) (c .pack .ensures .0, (c .pack .ensures .1, c .before .before .before .«open» .ensures .1))
+returns c = rw (← c .before .before .before .«open» .ensures .0) (c .pack .ensures, c .before .before .before .«open» .ensures .1)
 
 pub energy-book-open-spec : {M : Type 1} → statement M
 energy-book-open-spec = tie.close (tie.spec open-requires pack-requires same-length returns)

@@ -1,4 +1,4 @@
--- The answer is that of the door, packed.
+-- It is the writing of `day`, with its outcome packed.
 use borrow.Author.Needs.{needs}
 use Rattle.abi.proofs.exports.energy_book_write.Statement.{statement}
 use Rattle.abi.proofs.exports.energy_book_write.Tie as tie
@@ -13,7 +13,7 @@ same-length : tie.Need-same-length
 same-length c = search needs
 
 returns : tie.Need-returns
-returns c = rw (← c .before .before .before .write-fields .ensures .0) (c .pack .ensures .0, (c .pack .ensures .1, c .before .before .before .write-fields .ensures .1))
+returns c = rw (← c .before .before .before .write-fields .ensures .0) (c .pack .ensures, c .before .before .before .write-fields .ensures .1)
 
 pub energy-book-write-spec : {M : Type 1} → statement M
 energy-book-write-spec =

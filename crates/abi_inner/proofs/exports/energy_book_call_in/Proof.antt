@@ -1,4 +1,5 @@
--- The answer is that of the inner door, packed; the door leaves a book.
+-- It is the call of `day` on a book, which leaves a book, with its outcome packed.
+use Rattle.abi.proofs.PackingLaws.{given-packed}
 use borrow.Author.Needs.{needs}
 use Rattle.abi_inner.proofs.exports.energy_book_call_in.Statement.{statement}
 use Rattle.abi_inner.proofs.exports.energy_book_call_in.Tie as tie
@@ -19,7 +20,9 @@ same-length-3 : tie.Need-same-length-3
 same-length-3 c = search needs
 
 returns : tie.Need-returns
-returns c = rw (← c .before .before .before .before .before .before .before .call-in .ensures .0) (c .pack .ensures .0, (c .pack .ensures .1, c .before .before .before .before .before .before .before .call-in .ensures .1))
+returns c =
+    let called = c .before .before .before .before .before .before .before in
+    (given-packed _ _ _ _ _ _ (called .call-in .ensures .0) (c .pack .ensures), called .call-in .ensures .1)
 
 pub energy-book-call-in-spec : {M : Type 1} → statement M
 energy-book-call-in-spec =

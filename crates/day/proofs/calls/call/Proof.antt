@@ -1,6 +1,6 @@
 -- Bytes that are a book are called as one, and others are refused with 1.
 use mathlib.Core.Path.{sym, _∙_}
-use Rattle.day.proofs.CallLaws.{no-book-parts}
+use Rattle.day.proofs.CallLaws.{no-book-given}
 use borrow.Author.Needs.{needs}
 use Rattle.day.proofs.calls.call.Statement.{statement}
 use Rattle.day.proofs.calls.call.Tie as tie
@@ -21,17 +21,13 @@ same-length-3 : tie.Need-same-length-3
 same-length-3 c = search needs
 
 returns : tie.Need-returns
-returns c =
-    let (answer, left) = c .before .before .before .before .before .before .call-in .ensures in
-    let (book, lent) = left in
-    let (results, rest) = lent in
-    (answer, (book, (results, rest .0)))
+returns c = c .before .before .before .before .before .before .call-in .ensures .0
 
 same-length-4 : tie.Need-same-length-4
 same-length-4 c = search needs
 
 returns-2 : tie.Need-returns-2
-returns-2 c = no-book-parts _ _ (sym (c .before .is-book .ensures) ∙ c .if1 .left)
+returns-2 c = no-book-given _ _ (sym (c .before .is-book .ensures) ∙ c .if1 .left)
 
 pub call-spec : {M : Type 1} → statement M
 call-spec =

@@ -7,7 +7,7 @@ use Rattle.wire.proofs.NumberLaws.{bytes-known}
 use Rattle.rules.specs.declared.Reading.the-variants.{Read}
 use Rattle.rules.specs.Requests.{reading}
 use Rattle.day.proofs.RequestLaws.{other-kind, read-code}
-use Rattle.day.proofs.CallLaws.{unread-parts, said-parts, settle-parts}
+use Rattle.day.proofs.CallLaws.{unread-given, said-given, settle-given}
 use borrow.Author.Needs.{needs}
 use Rattle.day.proofs.calls.call_in.Statement.{statement}
 use Rattle.day.proofs.calls.call_in.Tie as tie
@@ -43,7 +43,7 @@ same-length-3 c = search needs
 returns : tie.Need-returns
 returns c =
     let said = c .before .before .before .before .before .before .before .before .before .before .before .before .before in
-    settle-parts _ _ _ _ _ _ (c .before .before .before .before .before .before .before .before .before .before .before .before .before .before .before .before .before .before .before .before .before .pre) (bytes said) (says said) (omega arith) _ _ _ _ (c .before .before .before .before .before .before .settle .ensures)
+    settle-given _ _ _ _ _ _ (c .before .before .before .before .before .before .before .before .before .before .before .before .before .before .before .before .before .before .before .before .before .pre) (bytes said) (says said) (omega arith) _ _ _ _ (c .before .before .before .before .before .before .settle .ensures)
 
 answer-requires : tie.Need-answer-requires
 answer-requires c κs =
@@ -52,13 +52,13 @@ answer-requires c κs =
     (c .before .before .before .before .before .before .before .before .before .before .before .before .pre, (n .0, n .1, read-code _ _ (bytes said) (says said)))
 
 returns-2 : tie.Need-returns-2
-returns-2 c = unread-parts _ _ (c .before .before .before .before .before .before .before .before .before .pre) _ (sym (c .before .before .before .read .ensures) ∙ c .before .said .given .1)
+returns-2 c = unread-given _ _ (c .before .before .before .before .before .before .before .before .before .pre) _ (sym (c .before .before .before .read .ensures) ∙ c .before .said .given .1)
 
 same-length-4 : tie.Need-same-length-4
 same-length-4 c = search needs
 
 returns-3 : tie.Need-returns-3
-returns-3 c = said-parts _ _ (c .before .before .before .before .before .before .before .before .before .before .before .before .before .before .before .pre) _ (says (c .before .before .before .before .before .before .before)) (λ e. omega arith) _ _ (c .before .before .answer .ensures)
+returns-3 c = said-given _ _ (c .before .before .before .before .before .before .before .before .before .before .before .before .before .before .before .pre) _ (says (c .before .before .before .before .before .before .before)) (λ e. omega arith) _ _ (c .before .before .answer .ensures)
 
 pub call-in-spec : {M : Type 1} → statement M
 call-in-spec =

@@ -15,17 +15,17 @@ cast-n c = search needs
 add-n : tie.Need-add-n
 add-n c = search needs
 
-pick-requires : tie.Need-pick-requires
-pick-requires c κs = search needs
+seller-requires : tie.Need-seller-requires
+seller-requires c κs = search needs
 
-pick-requires-2 : tie.Need-pick-requires-2
-pick-requires-2 c κs = search needs
+buyer-requires : tie.Need-buyer-requires
+buyer-requires c κs = search needs
 
 net-offset-requires : tie.Need-net-offset-requires
 net-offset-requires c κs =
-    let pick = c .before .before .before in
-    let start = pick .before .before .before .before .before in
-    rw (pick .pick .ensures) (first-hour (start .args .r) _ (start .pre .1) (seller-in (start .args .r) (start .pre .1)))
+    let sold = c .before .before in
+    let start = sold .before .before .before .before in
+    rw (sold .seller .ensures) (first-hour (start .args .r) _ (start .pre .1) (seller-in (start .args .r) (start .pre .1)))
 
 sub-raise-nets : tie.Need-sub-raise-nets
 sub-raise-nets c = search needs
@@ -38,9 +38,9 @@ raise-nets-requires c κs = search needs
 
 net-offset-requires-2 : tie.Need-net-offset-requires-2
 net-offset-requires-2 c κs =
-    let pick2 = c .before .before .before .before .before .before .before in
-    let start = pick2 .before .before .before .before .before .before .before in
-    rw (pick2 .pick2 .ensures) (first-hour (start .args .r) _ (start .pre .1) (buyer-in (start .args .r) (start .pre .1)))
+    let bought = c .before .before .before .before .before .before .before in
+    let start = bought .before .before .before .before .before in
+    rw (bought .buyer .ensures) (first-hour (start .args .r) _ (start .pre .1) (buyer-in (start .args .r) (start .pre .1)))
 
 raise-nets-requires-2 : tie.Need-raise-nets-requires-2
 raise-nets-requires-2 c κs = search needs
@@ -53,10 +53,10 @@ returns c =
     let place2 = c .before .before .before in
     let first = place2 .before .before .before .before in
     let place = first .before .before in
-    let pick2 = place .before .before in
-    let pick = pick2 .before .before in
-    let start = pick .before .before .before .before .before in
-    nets-moved _ _ _ (start .args .r) _ _ _ _ _ _ (pick .pick .ensures) (pick2 .pick2 .ensures) (place .net-offset .ensures) (place2 .net-offset2 .ensures)
+    let bought = place .before .before in
+    let sold = bought .before in
+    let start = sold .before .before .before .before in
+    nets-moved _ _ _ (start .args .r) _ _ _ _ _ _ (sold .seller .ensures) (bought .buyer .ensures) (place .net-offset .ensures) (place2 .net-offset2 .ensures)
     (first .raise-nets .ensures) (c .before .before .raise-nets2 .ensures) (omega arith) (omega (arith, start .pre))
 
 pub move-nets-spec : {M : Type 1} → statement M
@@ -66,8 +66,8 @@ move-nets-spec =
     sub-n
     cast-n
     add-n
-    pick-requires
-    pick-requires-2
+    seller-requires
+    buyer-requires
     net-offset-requires
     sub-raise-nets
     add-raise-nets

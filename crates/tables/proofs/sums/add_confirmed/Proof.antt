@@ -10,47 +10,47 @@ use borrow.Author.Needs.{needs}
 use Rattle.tables.proofs.sums.add_confirmed.Statement.{statement}
 use Rattle.tables.proofs.sums.add_confirmed.Tie as tie
 
-pick-requires : tie.Need-pick-requires
-pick-requires c κs = search needs
+buyer-requires : tie.Need-buyer-requires
+buyer-requires c κs = search needs
 
-pick-requires-2 : tie.Need-pick-requires-2
-pick-requires-2 c κs = search needs
+seller-requires : tie.Need-seller-requires
+seller-requires c κs = search needs
 
 add-hours-requires : tie.Need-add-hours-requires
 add-hours-requires c κs =
-    let start = c .before .before .before .before .before .before in
+    let start = c .before .before .before .before in
     let buys = buyer-in (start .args .r) (start .pre .1) in
-    let e = c .before .before .before .pick .ensures in
+    let e = c .before .before .buyer .ensures in
     (search needs, search needs, rw e (buys .0), rw e (buys .1), start .pre .1, λ k l. start .pre .2 k (omega arith), search needs)
 
 add-hours-requires-2 : tie.Need-add-hours-requires-2
 add-hours-requires-2 c κs =
-    let start = c .before .before .before .before .before .before .before .before .before .before in
+    let start = c .before .before .before .before .before .before .before .before in
     let first = c .before .before .before in
     let buys = buyer-in (start .args .r) (start .pre .1) in
     let sells = seller-in (start .args .r) (start .pre .1) in
-    let e = c .before .before .before .before .before .pick2 .ensures in
-    let f = first .before .before .before .before .pick .ensures in
-    (search needs, search needs, rw e (sells .0), rw e (sells .1), start .pre .1, room-past _ _ _ _ _ _ (first .add-hours .ensures) (omega (arith, stride (start .args .top) (slotOf 0 (first .before .before .before .before .pick .result)) mostAccounts (omega arith))) (start .pre .2), search needs)
+    let e = c .before .before .before .before .before .seller .ensures in
+    let f = first .before .before .before .buyer .ensures in
+    (search needs, search needs, rw e (sells .0), rw e (sells .1), start .pre .1, room-past _ _ _ _ _ _ (first .add-hours .ensures) (omega (arith, stride (start .args .top) (slotOf 0 (first .before .before .before .buyer .result)) mostAccounts (omega arith))) (start .pre .2), search needs)
 
 same-length : tie.Need-same-length
 same-length c = search needs
 
 returns : tie.Need-returns
 returns c =
-    let start = c .before .before .before .before .before .before .before .before .before .before .before .before .before in
+    let start = c .before .before .before .before .before .before .before .before .before .before .before in
     let second = c .before .before in
     let first = second .before .before .before .before in
-    let buys = first .before .before .before .before .pick .ensures in
-    let sells = first .before .before .pick2 .ensures in
+    let buys = first .before .before .before .buyer .ensures in
+    let sells = first .before .before .seller .ensures in
     added-confirmed _ _ _ _ (start .pre .1) (start .pre .3) (rw buys at (first .add-hours .ensures)) (rw sells at (second .add-hours2 .ensures))
 
 pub add-confirmed-spec : {M : Type 1} → statement M
 add-confirmed-spec =
     tie.close
     (tie.spec
-    pick-requires
-    pick-requires-2
+    buyer-requires
+    seller-requires
     add-hours-requires
     add-hours-requires-2
     same-length

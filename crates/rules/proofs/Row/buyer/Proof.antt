@@ -1,0 +1,15 @@
+-- The side says which party it is, as in the definition.
+use mathlib.Core.Path.{refl}
+use borrow.Author.Tests.{eq-eqb, ne-eqb}
+use Rattle.rules.specs.Books.{sellingSide}
+use Rattle.rules.proofs.Row.buyer.Statement.{statement}
+use Rattle.rules.proofs.Row.buyer.Tie as tie
+
+returns : tie.Need-returns
+returns c = rw (eq-eqb _ sellingSide (c .if1 .taken)) refl
+
+returns-2 : tie.Need-returns-2
+returns-2 c = rw (ne-eqb _ sellingSide (c .if1 .left)) refl
+
+pub buyer-spec : {M : Type 1} → statement M
+buyer-spec = tie.close (tie.spec returns returns-2)
