@@ -23,6 +23,15 @@ use rules::Outcome;
 use rules::Refusal;
 use rules::Request;
 use rules::Verdict;
+use rules::kinds::CLOSE_GATE;
+use rules::kinds::CONFIRM;
+use rules::kinds::GUARANTEE;
+use rules::kinds::KEEP;
+use rules::kinds::OPEN_BATCH;
+use rules::kinds::REGISTER;
+use rules::kinds::SCHEDULE;
+use rules::kinds::UNDO;
+use rules::kinds::WITHDRAW;
 use settlement::schedule::schedule;
 use setup::counts::counts;
 
@@ -42,10 +51,10 @@ fn batch_or_gate(book: &mut [u8], kind: u8) -> Outcome
     ensures still { λ _. ⌜ isBook (now (book .exit)) ≡ true ⌝ }
 {
     match kind {
-        5 => open_batch(book),
-        6 => undo(book),
-        7 => keep(book),
-        8 => close_gate(book),
+        OPEN_BATCH => open_batch(book),
+        UNDO => undo(book),
+        KEEP => keep(book),
+        CLOSE_GATE => close_gate(book),
         // No other kind comes here.
         _ => no_kind(),
     }
@@ -61,12 +70,12 @@ fn by_kind(book: &mut [u8], request: Request) -> Outcome
 {
     let kind = request.kind;
     match kind {
-        1 => register(book, request),
-        2 => confirm(book, request),
-        3 => withdraw(book, request),
-        4 => guarantee(book, request),
-        5..=8 => batch_or_gate(book, kind),
-        9 => schedule(book, request),
+        REGISTER => register(book, request),
+        CONFIRM => confirm(book, request),
+        WITHDRAW => withdraw(book, request),
+        GUARANTEE => guarantee(book, request),
+        OPEN_BATCH..=CLOSE_GATE => batch_or_gate(book, kind),
+        SCHEDULE => schedule(book, request),
         // No other kind comes here.
         _ => no_kind(),
     }

@@ -10,10 +10,22 @@ use rules::Checked;
 use rules::Counts;
 use rules::Refusal;
 use rules::Request;
+use rules::kinds::CLOSE_GATE;
+use rules::kinds::CONFIRM;
+use rules::kinds::GUARANTEE;
+use rules::kinds::OPEN_BATCH;
+use rules::kinds::REGISTER;
+use rules::kinds::SCHEDULE;
+use rules::kinds::SETTLE;
+use rules::kinds::WITHDRAW;
 use rules::limits::MOST_ENERGY;
 use rules::limits::MOST_GUARANTEE;
 use rules::limits::MOST_PRICE;
 use rules::limits::MOST_ROWS;
+use rules::sides::BUYS;
+use rules::sides::INJECTS;
+use rules::sides::SELLS;
+use rules::sides::WITHDRAWS;
 
 // A field's check, and then those of higher bits.
 fn field(good: bool, bit: u8, rest: Checked) -> Checked
@@ -50,7 +62,7 @@ fn trade_fields(q: Request, n: Counts) -> Checked
     );
     let last = field((q.first <= q.last) & (q.last <= n.hours), 6, quantity);
     let first = field((1 <= q.first) & (q.first <= n.hours), 5, last);
-    let side = field((1 <= q.side) & (q.side <= 2), 4, first);
+    let side = field((SELLS <= q.side) & (q.side <= BUYS), 4, first);
     let other = field((1 <= q.other) & (q.other <= n.accounts), 2, side);
     field((1 <= q.account) & (q.account <= n.accounts), 1, other)
 }
@@ -86,7 +98,7 @@ fn schedule_fields(q: Request, n: Counts) -> Checked
         point,
     );
     let first = field((1 <= q.first) & (q.first <= n.hours), 5, quantity);
-    field((1 <= q.side) & (q.side <= 2), 4, first)
+    field((INJECTS <= q.side) & (q.side <= WITHDRAWS), 4, first)
 }
 
 // The lowest field out of range of a book with these counts, else both accounts the same.
@@ -95,12 +107,12 @@ pub fn check_ranges(request: Request, counts: Counts) -> Checked
 {
     let kind = request.kind;
     match kind {
-        1 | 2 => trade_fields(request, counts),
-        3 => withdrawal_fields(request, counts),
-        4 => guarantee_fields(request, counts),
-        5..=8 => Checked::Clear,
-        9 => schedule_fields(request, counts),
-        10 => Checked::Clear,
+        REGISTER | CONFIRM => trade_fields(request, counts),
+        WITHDRAW => withdrawal_fields(request, counts),
+        GUARANTEE => guarantee_fields(request, counts),
+        OPEN_BATCH..=CLOSE_GATE => Checked::Clear,
+        SCHEDULE => schedule_fields(request, counts),
+        SETTLE => Checked::Clear,
         _ => Checked::Clear,
     }
 }

@@ -16,7 +16,7 @@ use Rattle.image.specs.Valid.{isBook, bookBytes, bookIn}
 use Rattle.day.specs.Answers.{callAnswer, callWith}
 use Rattle.valuation.specs.Tables.{balanceWidth}
 use Rattle.day.proofs.AnswerLaws.{call-on-book}
-use Rattle.day.proofs.CallLaws.{BookInParts}
+use Rattle.day.proofs.CallLaws.{GivesBook}
 
 module _ (s item : List ℕ) (h : isBook s ≡ true) where
   -- the prices, as the code cuts them out
@@ -32,6 +32,6 @@ module _ (s item : List ℕ) (h : isBook s ≡ true) where
   -- a call with them is the item's
   pub item-called : {n : ℕ} {results balances : List ℕ} → n ≡ recordLength item → results ≡ replicate mostSchedules 0
       → balances ≡ replicate (balanceWidth * mostOperators) 0 → {o : Outcome} {t rs bs : List ℕ}
-      → BookInParts (callAnswer s (callWith (take n item) (take (length item - n) (drop n item)) results balances)) o t rs bs
-      → BookInParts (carried bookBytes (step (bookIn s) (callOf item))) o t rs bs
+      → GivesBook (callAnswer s (callWith (take n item) (take (length item - n) (drop n item)) results balances)) o t rs bs
+      → GivesBook (carried bookBytes (step (bookIn s) (callOf item))) o t rs bs
   item-called en er eb x = rw (called-as en er eb) at x

@@ -8,10 +8,11 @@ use Rattle.rules.specs.declared.Outcome.{Outcome}
 use Rattle.rules.specs.Basics.{isSome}
 use Rattle.rules.specs.Limits.{mostSchedules, mostOperators}
 use Rattle.rules.specs.Verdicts.{numbers}
-use Rattle.rules.specs.Replay.{answered, lineText, text}
+use Rattle.rules.specs.Calls.{Answer, carried, step}
+use Rattle.rules.specs.Replay.{answered, callOf, lineText, text}
 use Rattle.items.specs.Written.{lineRoom}
 use Rattle.items.specs.Figures.{settledText}
-use Rattle.image.specs.Valid.{bookBytes}
+use Rattle.image.specs.Valid.{bookBytes, bookIn}
 use Rattle.replaying.specs.declared.Stepped.{Stepped}
 use Rattle.replaying.specs.Steps.{Onward, Step}
 
@@ -37,6 +38,10 @@ printed x = text (x .lines)
 abbrev pub stepped : Step → Stepped
 stepped x =
     record { «goes_on» = isSome (x .onward); next = nextOf (x .onward); end = length (printed x) }
+
+-- what the call of an item answers on the bytes of a book
+abbrev pub itemAnswer : List ℕ → List ℕ → Answer (List ℕ)
+itemAnswer book item = carried bookBytes (step (bookIn book) (callOf item))
 
 -- the text of an answer: its own line, and after an accepted settle the lines of the first n results and of the first m balances
 unfoldable pub answerText : ℕ → Outcome → Bool → ℕ → List ℕ → ℕ → List ℕ → List ℕ

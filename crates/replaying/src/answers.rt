@@ -7,14 +7,14 @@ ghost use lib.Dec.{eqb};
 ghost use Rattle.rules.specs.Basics.{Each};
 ghost use Rattle.rules.specs.Limits.{mostSchedules, mostOperators};
 ghost use Rattle.rules.specs.Settlement.{figuresIn};
-ghost use Rattle.rules.specs.Calls.{step};
+ghost use Rattle.rules.specs.Calls.{Gives};
 ghost use Rattle.rules.specs.Lists.{isAcceptance};
 ghost use Rattle.rules.specs.Replay.{callOf, answerLines, text};
 ghost use Rattle.items.specs.Written.{Written, lineRoom};
 ghost use Rattle.items.specs.Figures.{SmallFigure};
-ghost use Rattle.image.specs.Valid.{isBook, bookIn, bookBytes};
+ghost use Rattle.image.specs.Valid.{isBook, bookIn};
 ghost use Rattle.valuation.specs.Tables.{balanceWidth};
-ghost use Rattle.replaying.specs.Lent.{stepRoom, answerText};
+ghost use Rattle.replaying.specs.Lent.{stepRoom, itemAnswer, answerText};
 use book::state::schedule_count;
 use day::calls::call_in;
 use items::lines::put_answered;
@@ -36,10 +36,7 @@ const MOST_BALANCES: usize = BALANCE_WIDTH * (MOST_OPERATORS as usize);
 fn call_item(item: &[u8], book: &mut [u8], results: &mut [u8], balances: &mut [u8]) -> Outcome
     requires { ⌜ isBook (now book) ≡ true ⌝ }
     requires { ⌜ (now results ≡ replicate mostSchedules 0) × (now balances ≡ replicate (balanceWidth * mostOperators) 0) ⌝ }
-    ensures answer { λ o. ⌜ o ≡ step (bookIn (now (book .entry))) (callOf (now (item .entry))) .outcome ⌝ }
-    ensures book { λ _. ⌜ now (book .exit) ≡ bookBytes (step (bookIn (now (book .entry))) (callOf (now (item .entry))) .book) ⌝ }
-    ensures results { λ _. ⌜ now (results .exit) ≡ step (bookIn (now (book .entry))) (callOf (now (item .entry))) .results ⌝ }
-    ensures balances { λ _. ⌜ now (balances .exit) ≡ step (bookIn (now (book .entry))) (callOf (now (item .entry))) .balances ⌝ }
+    ensures answer { λ o. ⌜ Gives (itemAnswer (now (book .entry)) (now (item .entry))) o (now (book .exit)) (now (results .exit)) (now (balances .exit)) ⌝ }
     ensures still { λ _. ⌜ isBook (now (book .exit)) ≡ true ⌝ }
 {
     let n = record_length(item);
@@ -99,7 +96,7 @@ fn answer_with(
     requires { ⌜ (now results ≡ replicate mostSchedules 0) × (now balances ≡ replicate (balanceWidth * mostOperators) 0) ⌝ }
     ensures lines { λ r. ⌜ Written (now (out .entry)) 0 (text (answerLines number (bookIn (now (book .entry))) (callOf (now (item .entry))))) (now (out .exit)) r ⌝ }
     ensures bound { λ r. ⌜ r ≤ stepRoom ⌝ }
-    ensures book { λ _. ⌜ now (book .exit) ≡ bookBytes (step (bookIn (now (book .entry))) (callOf (now (item .entry))) .book) ⌝ }
+    ensures book { λ _. ⌜ now (book .exit) ≡ itemAnswer (now (book .entry)) (now (item .entry)) .book ⌝ }
     ensures still { λ _. ⌜ isBook (now (book .exit)) ≡ true ⌝ }
 {
     let n = counts(book);
@@ -124,7 +121,7 @@ pub fn answer_item(item: &[u8], number: u64, book: &mut [u8], out: &mut [u8]) ->
     requires { ⌜ stepRoom ≤ length (now out) ⌝ }
     ensures lines { λ r. ⌜ Written (now (out .entry)) 0 (text (answerLines number (bookIn (now (book .entry))) (callOf (now (item .entry))))) (now (out .exit)) r ⌝ }
     ensures bound { λ r. ⌜ r ≤ stepRoom ⌝ }
-    ensures book { λ _. ⌜ now (book .exit) ≡ bookBytes (step (bookIn (now (book .entry))) (callOf (now (item .entry))) .book) ⌝ }
+    ensures book { λ _. ⌜ now (book .exit) ≡ itemAnswer (now (book .entry)) (now (item .entry)) .book ⌝ }
     ensures still { λ _. ⌜ isBook (now (book .exit)) ≡ true ⌝ }
 {
     let mut results = [0u8; MOST_SCHEDULES];

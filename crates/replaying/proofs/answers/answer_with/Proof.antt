@@ -40,8 +40,7 @@ put-answer-requires c κs =
     let (room, zeros) = pre .1 in
     let results = ap length (zeros .0) in
     let balances = ap length (zeros .1) in
-    let lent = called .1 .1 in
-    ((omega (arith, length-replicate {A = ℕ} mostSchedules 0), few, omega (arith, length-replicate {A = ℕ} (balanceWidth * mostOperators) 0), omega arith), answer-small _ (book-valid _ (pre .0)) _ (called .0) (c .before .before .before .before .settles .ensures) _ (operators-counted _ (pre .0) _ counted) (lent .1 .0))
+    ((omega (arith, length-replicate {A = ℕ} mostSchedules 0), few, omega (arith, length-replicate {A = ℕ} (balanceWidth * mostOperators) 0), omega arith), answer-small _ (book-valid _ (pre .0)) _ (called .0 .outcome-given) (c .before .before .before .before .settles .ensures) _ (operators-counted _ (pre .0) _ counted) (called .0 .balances-left))
 
 same-length : tie.Need-same-length
 same-length c = search needs
@@ -60,13 +59,10 @@ returns c =
     let pre = c .before .before .before .before .before .before .before .before .before .before .before .before .before .before .before .before .before .before .before .before .before .before .before .before .before .before .before .pre in
     let counted = c .before .before .before .before .before .before .before .before .before .before .before .before .before .before .before .before .before .before .before .before .counts .ensures in
     let called = c .before .before .before .before .before .before .before .before .before .before .before .before .before .before .call-item .ensures in
-    let (answer, left) = called in
-    let (book, lent) = left in
-    let (results, rest) = lent in
-    let (balances, still) = rest in
+    let (given, still) = called in
     let put = c .before .before .put-answer .ensures in
     let few = operators-few _ (pre .0) _ counted in
-    (written-as _ (answer-prints _ (book-valid _ (pre .0)) _ answer (c .before .before .before .before .before .before .before .settles .ensures) _ _ _ (c .before .before .before .before .before .before .before .before .before .before .before .before .before .before .before .before .before .before .schedule-count .ensures .0) (operators-counted _ (pre .0) _ counted) results balances) (put .0), (omega arith, (book, still)))
+    (written-as _ (answer-prints _ (book-valid _ (pre .0)) _ (given .outcome-given) (c .before .before .before .before .before .before .before .settles .ensures) _ _ _ (c .before .before .before .before .before .before .before .before .before .before .before .before .before .before .before .before .before .before .schedule-count .ensures .0) (operators-counted _ (pre .0) _ counted) (given .results-left) (given .balances-left)) (put .0), (omega arith, (given .book-left, still)))
 
 pub answer-with-spec : {M : Type 1} → statement M
 answer-with-spec =
