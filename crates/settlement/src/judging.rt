@@ -1,15 +1,11 @@
 // The schedules of a book judged in order of priority: the results by place, and the operators' balances.
 ghost use mathlib.Core.Path.{_≡_};
-ghost use mathlib.Core.List.{List, _∷_};
 ghost use mathlib.Core.Bool.{true};
 ghost use lib.ListN.{length, take};
-ghost use Rattle.rules.specs.Limits.{mostSchedules};
-ghost use Rattle.rules.specs.Settlement.{Judged, placed};
+ghost use Rattle.rules.specs.Settlement.{placed};
 ghost use Rattle.image.specs.Valid.{isBook, bookIn};
-ghost use Rattle.image.specs.Tables.{Room};
-ghost use Rattle.valuation.specs.Tables.{Priced, setupIn, usedCells};
-ghost use Rattle.valuation.specs.Balances.{credited, Creditable};
-ghost use Rattle.settlement.specs.Judging.{InPlace, nonePlaced, noResults, InOrder, NoneJudged, TablesIn, BeforeIn, judgedNext, settledIn, DrawnUp};
+ghost use Rattle.valuation.specs.Tables.{Priced, setupIn};
+ghost use Rattle.settlement.specs.Judging.{InPlace, RoomFor, nonePlaced, noResults, InOrder, NoneJudged, NextJudged, AllJudged, DrawnUp};
 use image::layout::SCHEDULE_WIDTH;
 use image::layout::SCHEDULES_OFFSET;
 use image::schedules::schedule_at;
@@ -70,9 +66,8 @@ fn judge_next(
     next: Placed,
 ) -> Credit
     requires { ⌜ Priced (now book) (now prices) × InPlace (setupIn (now book)) next ⌝ }
-    requires { ⌜ (length (now used) ≡ usedCells) × Room (now used) 0 (next .schedule .quantity .0) × (length (now results) ≡ mostSchedules) ⌝ }
-    ensures tables { λ r. ⌜ ((before : List Judged) (all : List Balance) → TablesIn (now (book .entry)) (now (prices .entry)) before (now (used .entry)) all (now (results .entry)) → BeforeIn (now (book .entry)) (now (prices .entry)) before next → TablesIn (now (book .entry)) (now (prices .entry)) (judgedNext (now (book .entry)) (now (prices .entry)) before next ∷ before) (now (used .exit)) (credited all (r .operator) (r .share)) (now (results .exit))) ⌝ }
-    ensures bounded { λ r. ⌜ Creditable r ⌝ }
+    requires { ⌜ RoomFor next (now used) (now results) ⌝ }
+    ensures { λ r. ⌜ NextJudged (now (book .entry)) (now (prices .entry)) next r (now (used .entry)) (now (used .exit)) (now (results .entry)) (now (results .exit)) ⌝ }
 {
     let x = next.schedule;
     let site = point(book, x.point);
@@ -94,7 +89,7 @@ fn judge_all(
     requires { ⌜ Priced (now book) (now prices) ⌝ }
     requires { ⌜ InOrder (now book) order n ⌝ }
     requires { ⌜ NoneJudged (now used) (now results) ⌝ }
-    ensures { λ r. ⌜ TablesIn (now (book .entry)) (now (prices .entry)) (settledIn (now (book .entry)) (now (prices .entry))) (now (used .exit)) r (now (results .exit)) ⌝ }
+    ensures { λ r. ⌜ AllJudged (now (book .entry)) (now (prices .entry)) (now (used .exit)) r (now (results .exit)) ⌝ }
 {
     let mut all = accounts_worth(book, prices);
     let mut k = 0;

@@ -26,8 +26,9 @@ use Rattle.image.proofs.Sound.Soundness.{SoundSchedule, sound-schedule}
 use Rattle.image.proofs.Setups.SetupRanges.{SoundPoint}
 use Rattle.book.proofs.StateLaws.{book-is-sound}
 use Rattle.book.proofs.BookRows.{counts-in, setup-in, setup-tabled, values-in, hours-read, hours-few}
-use Rattle.valuation.specs.Tables.{Priced, OnPoint, setupIn, netsIn, pricesOf, cellFor, pointCells, UsedBy}
-use Rattle.valuation.specs.Congruity.{InCells, greatest, leftBy, priceNumber, takenAt, resultBy}
+use Rattle.valuation.specs.Tables.{Priced, OnPoint, setupIn, netsIn, pricesOf, numberedPrice, cellFor, pointCells, UsedBy}
+use Rattle.valuation.specs.Congruity.{InCells, greatest, leftBy, overPoint, overAccount, priceNumber, takenAt, resultBy, ResultIn}
+use Rattle.valuation.proofs.PriceLaws.{price-by-number}
 use Rattle.valuation.proofs.CellLaws.{used-in-cell}
 
 -- ---- what is read of a book
@@ -144,15 +145,14 @@ module _ (u : Setup) (net : ℕ → ℕ → Net) (t : List CentsPerMwh) (x : Sch
 -- the result of a schedule in a book, after those that used up what the table says
 pub result-judged : (s prices table : List ℕ) (x : Schedule) → Priced s prices → scheduleOk (setupIn s) x ≡ true
     → (n : Counts) (p : Point) {a b c : Bool} → n ≡ countsIn s → p ≡ pointAt (setupIn s) (x .point)
-    → a ≡ ltb (greatest p (x .side)) (getD table (cellFor (x .point) x) 0 + x .quantity .0)
-    → b ≡ ltb (leftBy (netsIn s (p .account) (x .hour)) (x .side)) (getD table (pointCells + cellFor (p .account) x) 0 + x .quantity .0)
-    → c ≡ takenAt x (nth (pricesOf s prices) (priceNumber (n .hours) p x) (centsPerMwh 0))
-    → (before : List Judged) → UsedBy (setupIn s) (netsIn s) (pricesOf s prices) before table → Each (λ j. scheduleOk (setupIn s) (j .schedule) ≡ true) before
-    → resultBy a b c ≡ judge (setupIn s) (netsIn s) (pricesOf s prices) before x
+    → a ≡ overPoint table p x → b ≡ overAccount s table p x → c ≡ takenAt x (numberedPrice prices (priceNumber (n .hours) p x))
+    → ResultIn s prices table x (resultBy a b c)
 result-judged s prices table x given ok n p {c = c} en ep ta tb tc before by each =
     let h = given .is-book in
     let hours : n .hours ≡ periods (setupIn s) = hours-read s h n en in
-    let held : c ≡ takenAt x (nth (pricesOf s prices) (priceNumber (periods (setupIn s)) p x) (centsPerMwh 0)) = rw hours at tc in
+    let listed = price-stands s h x ok prices given n p en ep in
+    let met = price-by-number prices _ (setupIn s) (given .whole) (listed .0) (listed .1) refl in
+    let taken : c ≡ takenAt x (nth (pricesOf s prices) (priceNumber (periods (setupIn s)) p x) (centsPerMwh 0)) = rw hours at (tc ∙ ap (takenAt x) met) in
     let points = each-map (λ j o. point-in-cells s h (j .schedule) o) each in
     let accounts = each-map (λ j o. account-in-cells s h (j .schedule) o) each in
     judged-by-tests (setupIn s) (netsIn s) (pricesOf s prices) x before table by p ep
@@ -160,4 +160,4 @@ result-judged s prices table x given ok n p {c = c} en ep ta tb tc before by eac
     (used-of-account (setupIn s) (netsIn s) (pricesOf s prices) x before table by (account-in-cells s h x ok) accounts)
     ta
     tb
-    held
+    taken

@@ -1,22 +1,16 @@
 // The result of a schedule at settlement, and the table of what is used up of the limits of points and accounts.
 ghost use mathlib.Core.Path.{_≡_};
-ghost use mathlib.Core.List.{List, _∷_};
 ghost use mathlib.Core.Bool.{true, _||_};
-ghost use Prim.Native.Nat.{ℕ, _+_, _-_, _*_, _^_, _≤_, _<_};
+ghost use Prim.Native.Nat.{_+_, _-_, _*_, _^_, _≤_, _<_};
 ghost use lib.Dec.{eqb, ltb};
 ghost use lib.ListN.{length, getD, set};
-ghost use Rattle.units.specs.Units.{centsPerMwh};
-ghost use Rattle.units.specs.declared.CentsPerMwh.{CentsPerMwh};
-ghost use Rattle.rules.specs.declared.Net.{Net};
-ghost use Rattle.rules.specs.Basics.{if_then_else_, nth, Each};
+ghost use Rattle.rules.specs.Basics.{if_then_else_};
 ghost use Rattle.rules.specs.Limits.{mostPoints, mostAccounts};
-ghost use Rattle.rules.specs.Books.{Setup};
-ghost use Rattle.rules.specs.Settlement.{Judged, accountOf, judge, priceCount, pricesIn};
 ghost use Rattle.rules.specs.Opening.{priceWidth};
-ghost use Rattle.image.specs.Valid.{isBook, scheduleOk};
+ghost use Rattle.image.specs.Valid.{isBook};
 ghost use Rattle.image.specs.Tables.{Room};
-ghost use Rattle.valuation.specs.Tables.{Priced, OnPoint, setupIn, netsIn, pricesOf, cellFor, pointCells, UsedBy, usedCells};
-ghost use Rattle.valuation.specs.Congruity.{InCells, nothingUsed, greatest, leftBy, priceNumber, takenAt, resultBy};
+ghost use Rattle.valuation.specs.Tables.{Priced, OnPoint, setupIn, numberedPrice, cellFor, usedCells};
+ghost use Rattle.valuation.specs.Congruity.{InCells, nothingUsed, greatest, leftBy, overPoint, overAccount, priceNumber, takenAt, resultBy, ResultIn, UsedWith};
 use crate::prices::price;
 use book::positions::net_at;
 use rules::Net;
@@ -98,7 +92,7 @@ fn passes(limit: Kwh, before: u32, quantity: Kwh) -> bool
 // Whether a schedule passes what is left of its point's greatest amount.
 fn over_point(used: &[u32], x: Schedule, point: Point) -> bool
     requires { ⌜ (length (now used) ≡ usedCells) × InCells mostPoints (x .point) x ⌝ }
-    ensures { λ r. ⌜ r ≡ ltb (greatest point (x .side)) (getD (now (used .entry)) (cellFor (x .point) x) 0 + x .quantity .0) ⌝ }
+    ensures { λ r. ⌜ r ≡ overPoint (now (used .entry)) point x ⌝ }
 {
     let k = cell_for(x.point, x);
     let limit = point_limit(point, x.side);
@@ -108,7 +102,7 @@ fn over_point(used: &[u32], x: Schedule, point: Point) -> bool
 // Whether a schedule passes what is left of its account's net position.
 fn over_account(book: &[u8], used: &[u32], x: Schedule, point: Point) -> bool
     requires { ⌜ (isBook (now book) ≡ true) × OnPoint (setupIn (now book)) point x × (length (now used) ≡ usedCells) ⌝ }
-    ensures { λ r. ⌜ r ≡ ltb (leftBy (netsIn (now (book .entry)) (point .account) (x .hour)) (x .side)) (getD (now (used .entry)) (pointCells + cellFor (point .account) x) 0 + x .quantity .0) ⌝ }
+    ensures { λ r. ⌜ r ≡ overAccount (now (book .entry)) (now (used .entry)) point x ⌝ }
 {
     let k = POINT_CELLS + cell_for(point.account, x);
     let net = net_at(book, point.account, x.hour);
@@ -139,7 +133,7 @@ fn taken_at(x: Schedule, met: CentsPerMwh) -> bool
 // Whether a schedule on the point is taken at the prices of the table.
 fn is_taken(prices: &[u8], hours: u8, point: Point, x: Schedule) -> bool
     requires { ⌜ (1 ≤ priceNumber hours point x) × (priceWidth * priceNumber hours point x ≤ length (now prices)) ⌝ }
-    ensures { λ r. ⌜ ((u : Setup) → length (now (prices .entry)) ≡ priceWidth * priceCount u → r ≡ takenAt x (nth (pricesIn u (now (prices .entry))) (priceNumber hours point x) (centsPerMwh 0))) ⌝ }
+    ensures { λ r. ⌜ r ≡ takenAt x (numberedPrice (now (prices .entry)) (priceNumber hours point x)) ⌝ }
 {
     let number = price_number(hours, point, x);
     let met = price(prices, number);
@@ -166,7 +160,7 @@ fn ranked_result(point: bool, account: bool, taken: bool) -> u8
 pub fn result_of(book: &[u8], prices: &[u8], used: &[u32], point: Point, x: Schedule) -> u8
     requires { ⌜ Priced (now book) (now prices) ⌝ }
     requires { ⌜ OnPoint (setupIn (now book)) point x × (length (now used) ≡ usedCells) ⌝ }
-    ensures meaning { λ r. ⌜ ((before : List Judged) → UsedBy (setupIn (now (book .entry))) (netsIn (now (book .entry))) (pricesOf (now (book .entry)) (now (prices .entry))) before (now (used .entry)) → Each (λ j. scheduleOk (setupIn (now (book .entry))) (j .schedule) ≡ true) before → r ≡ judge (setupIn (now (book .entry))) (netsIn (now (book .entry))) (pricesOf (now (book .entry)) (now (prices .entry))) before x) ⌝ }
+    ensures meaning { λ r. ⌜ ResultIn (now (book .entry)) (now (prices .entry)) (now (used .entry)) x r ⌝ }
     ensures bounded { λ r. ⌜ r ≤ 3 ⌝ }
 {
     let n = counts(book);
@@ -197,7 +191,7 @@ fn add_to(table: &mut [u32], k: usize, q: u32)
 // A schedule of that result more: a congruous one uses up its quantity of its point's and its account's limits.
 pub fn use_up(used: &mut [u32], account: u8, x: Schedule, result: u8)
     requires { ⌜ (length (now used) ≡ usedCells) × InCells mostPoints (x .point) x × InCells mostAccounts account x × Room (now used) 0 (x .quantity .0) ⌝ }
-    ensures { λ _. ⌜ ((u : Setup) (net : ℕ → ℕ → Net) (t : List CentsPerMwh) (before : List Judged) (place : ℕ) → accountOf u net t x ≡ account → UsedBy u net t before (now (used .entry)) → UsedBy u net t (record { place = place; schedule = x; result = result } ∷ before) (now (used .exit))) ⌝ }
+    ensures { λ _. ⌜ UsedWith account x result (now (used .entry)) (now (used .exit)) ⌝ }
 {
     let q = share(x.quantity, result);
     let at_point = cell_for(x.point, x);

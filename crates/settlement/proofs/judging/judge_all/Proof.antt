@@ -62,7 +62,7 @@ join-requires c κs =
     let credit = c .before .before .before .before .before .before .judge-next in
     let h : l .k ≤ length (bookIn (start .args .book .now) .schedules) = omega (arith, start .pre .1 .0 .all-of) in
     let held = first-fits _ _ (start .pre .0) (l .k) h _ (l .inv .2 .balances-of) (credit .result .operator - 1) in
-    let share = credit .ensures .1 .share-fits in
+    let share = credit .ensures .bounded .share-fits in
     (omega (arith, held .0, share .0), omega (arith, held .1, share .1))
 
 mul-all : tie.Need-mul-all Inv-loop μ-loop
@@ -87,7 +87,7 @@ loop-again c =
     let turn = in-turn _ _ _ _ here (start .pre .1 .0 .by-priority) in
     let known = next-known _ _ (start .pre .0) (l .k) h _ turn in
     let credited = credited-made (l .all) (credit .result .operator) (credit .result .share) (c .join .result) (c .join .ensures) in
-    (search needs, search needs, rw credited (tables-follow _ _ (start .pre .0) (l .k) h _ turn _ _ _ (credit .ensures .0 _ _ (l .inv .2) known)))
+    (search needs, search needs, rw credited (tables-follow _ _ (start .pre .0) (l .k) h _ turn _ _ _ (credit .ensures .tables _ _ (l .inv .2) known)))
 
 same-length : tie.Need-same-length Inv-loop μ-loop
 same-length c =

@@ -54,12 +54,13 @@ returns c =
     let start = read .before .before .before .before .before .before in
     let pre = start .pre in
     let on = on-point _ (pre .0 .0 .is-book) _ (pre .0 .1 .in-range) _ (read .point .ensures) in
-    let account = ap (λ (p : Point). p .account) (sym (on .its-point)) in (
-      λ before all tables known.
+    let account = ap (λ (p : Point). p .account) (sym (on .its-point)) in
+    record {
+      tables = λ before all tables known.
           tables-next _ _ _ before _ _ _ _ _ (judgement .result-of .ensures .0 before (tables .used-by) (known .in-range)) (pre .0 .1) known
-          (used .use-up .ensures _ _ _ before _ account (tables .used-by)) (c .credit-of .ensures .0 before all _ (tables .balances-of)) (tables .results-of),
-      c .credit-of .ensures .1,
-    )
+          (used .use-up .ensures _ _ _ before _ account (tables .used-by)) (c .credit-of .ensures .0 before all _ (tables .balances-of)) (tables .results-of);
+      bounded = c .credit-of .ensures .1;
+    }
 
 pub judge-next-spec : {M : Type 1} → statement M
 judge-next-spec =

@@ -13,7 +13,7 @@ taken-at-requires : tie.Need-taken-at-requires
 taken-at-requires c κs = search needs
 
 returns : tie.Need-returns
-returns c u e = rw (← c .before .before .price-number .ensures, ← c .before .price .ensures u e) (c .taken-at .ensures)
+returns c = rw (← c .before .before .price-number .ensures, ← c .before .price .ensures) (c .taken-at .ensures)
 
 pub is-taken-spec : {M : Type 1} → statement M
 is-taken-spec = tie.close (tie.spec price-number-requires price-requires taken-at-requires returns)

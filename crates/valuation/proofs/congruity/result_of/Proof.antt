@@ -35,7 +35,7 @@ returns c =
     let read = tested .before .before .before in
     let pre = read .before .before .before .before .pre in
     let judged = result-judged _ _ _ _ (pre .0) (pre .1 .0 .in-range) _ _ (read .counts .ensures) (pre .1 .0 .its-point)
-    (tested .before .before .over-point .ensures) (tested .before .over-account .ensures) (tested .is-taken .ensures _ (pre .0 .whole)) in
+    (tested .before .before .over-point .ensures) (tested .before .over-account .ensures) (tested .is-taken .ensures) in
     ((λ before by each. c .ranked-result .ensures .0 ∙ judged before by each), c .ranked-result .ensures .1)
 
 pub result-of-spec : {M : Type 1} → statement M
