@@ -10,14 +10,15 @@ use Rattle.wire.specs.Numbers.{numberAt}
 use Rattle.wire.specs.Regions.{zerosFrom}
 use Rattle.rules.specs.declared.Row.{Row}
 use Rattle.rules.specs.Basics.{if_then_else_, anyPasses, every, allOf, within, Each}
-use Rattle.rules.specs.Limits.{mostPrice, mostGuarantee, thousand, mostOperators, mostRows, mostSchedules, bookSize}
+use Rattle.rules.specs.Limits.{mostGuarantee, thousand, mostOperators, mostRows, mostSchedules, bookSize}
 use Rattle.rules.specs.Books.{Part}
-use Rattle.rules.specs.Opening.{countsIn, operatorsOffset, setupLength, setupOf, estimatesIn, guaranteeWidth}
+use Rattle.rules.specs.Opening.{countsIn, operatorsOffset, setupLength, setupOf, guaranteeWidth}
 use Rattle.rules.specs.Registration.{pending}
 use Rattle.image.specs.Layout.{setupRoom, rowWidth, scheduleWidth, partSize, phaseOffset, flagOffset, scheduleCountOffset, schedulesOffset, presentOffset, savedOffset, rowCountOffset, rowsOffset}
 use Rattle.image.specs.Valid.{setupOk, rowOk, scheduleOk, noTwins, marginsKept, operatorsCovered, partOk, follows}
 use Rattle.image.specs.Cells.{rowsFrom, schedulesFrom, guaranteesFrom, partAt}
 use Rattle.image.specs.Tables.{SetupTabled}
+use Rattle.tables.specs.Sums.{EstimatesInRange, RowsTabled}
 use Rattle.audit.specs.Exact.{noGuarantees, netsMatch, partExact}
 
 -- ---- the set-up
@@ -38,7 +39,7 @@ pub record SetupKnown (top : ℕ) (s : List ℕ) : Type 0 where
   pub size : length s ≡ bookSize
   pub tabled : SetupTabled top s
   pub operators-high : countsIn s .operators ≤ mostOperators
-  pub prices-high : Each (λ p. p .0 ≤ mostPrice) (estimatesIn s)
+  pub prices-high : EstimatesInRange s
   pub maintenance-high : Each (λ m. m ≤ thousand) (setupOf s .maintenance)
 
 -- ---- a part, the present and the saved one alike
@@ -53,6 +54,17 @@ rowsOf s at = rowsFrom s (at + rowsOffset) (rowCount s at)
 -- the guarantees at `at` with these rows
 abbrev pub partWith : List ℕ → ℕ → List Row → Part
 partWith s at rows = record { guarantees = guaranteesFrom s at (countsIn s .operators); rows = rows }
+
+-- what is known of the guarantees at `at` once each is in range
+pub record GuaranteesKnown (s : List ℕ) (at : ℕ) : Type 0 where
+  pub whole : at + rowCountOffset ≤ length s
+  pub in-range : Each (λ g. g .0 ≤ mostGuarantee) (guaranteesFrom s at (countsIn s .operators))
+
+-- what is known of the part at `at` once its guarantees and its n rows are in range
+pub record PartKnown (top : ℕ) (s : List ℕ) (at n : ℕ) : Type 0 where
+  pub whole : at + partSize top ≤ length s
+  pub guarantees : GuaranteesKnown s at
+  pub rows : RowsTabled top s (at + rowsOffset) n
 
 -- no guarantee is too great, and zeros stand behind them
 abbrev pub guaranteesValidTests : List ℕ → ℕ → ℕ → List Bool

@@ -1,19 +1,15 @@
 // A part of a book, the present and the saved one alike: what its bytes have to be.
 ghost use mathlib.Core.Path.{_≡_};
-ghost use mathlib.Core.List.{List};
 ghost use Prim.Native.Nat.{_+_, _*_, _≤_};
 ghost use lib.ListN.{length};
-ghost use Rattle.rules.specs.declared.Row.{Row};
-ghost use Rattle.rules.specs.Basics.{Each};
-ghost use Rattle.rules.specs.Limits.{mostGuarantee, mostRows, mostOperators};
+ghost use Rattle.rules.specs.Limits.{mostRows, mostOperators};
 ghost use Rattle.rules.specs.Opening.{countsIn, setupOf};
 ghost use Rattle.rules.specs.Registration.{covered};
 ghost use Rattle.image.specs.Valid.{operatorsCovered};
-ghost use Rattle.image.specs.Cells.{rowsFrom, guaranteesFrom};
-ghost use Rattle.image.specs.Tables.{Tabled, tableSize};
+ghost use Rattle.image.specs.Cells.{rowsFrom};
 ghost use Rattle.image.specs.Layout.{partSize, rowCountOffset, rowsOffset, netsOffset, mostPeriods};
-ghost use Rattle.tables.specs.Sums.{SumsOf, NoSums};
-ghost use Rattle.audit.specs.Validity.{SetupKnown, partWith, guaranteesValid, rowsValid, sumsValid, partValid};
+ghost use Rattle.tables.specs.Sums.{SumTable, NoSums, ForRowsSummedIn};
+ghost use Rattle.audit.specs.Validity.{SetupKnown, GuaranteesKnown, PartKnown, partWith, guaranteesValid, rowsValid, sumsValid, partValid};
 use crate::checks::guarantees_ok;
 use crate::checks::rows_ok;
 use crate::twins::no_twins;
@@ -58,8 +54,9 @@ fn rows_valid(book: &[u8], at: usize, n: usize) -> bool
 
 // The exposure of the operator is at most what is available of its guarantee in the part at `at`.
 fn operator_covered(book: &[u8], at: usize, table: &[u32], top: usize, number: u8) -> bool
-    requires { ⌜ SetupKnown top (now book) × (at + rowCountOffset ≤ length (now book)) × Each (λ g. g .0 ≤ mostGuarantee) (guaranteesFrom (now book) at (countsIn (now book) .operators)) × (tableSize top ≤ length (now table)) × (top ≤ mostPeriods) × (1 ≤ number) × (number ≤ countsIn (now book) .operators) ⌝ }
-    ensures { λ r. ⌜ ((rows : List Row) → SumsOf top rows (now (table .entry)) → r ≡ covered (setupOf (now (book .entry))) (partWith (now (book .entry)) at rows) number) ⌝ }
+    requires { ⌜ SetupKnown top (now book) × GuaranteesKnown (now book) at × SumTable top (now table) ⌝ }
+    requires { ⌜ (1 ≤ number) × (number ≤ countsIn (now book) .operators) ⌝ }
+    ensures { λ r. ⌜ (let s = now (book .entry) in ForRowsSummedIn top (now (table .entry)) (λ rows. r ≡ covered (setupOf s) (partWith s at rows) number)) ⌝ }
 {
     let exposed = exposure_of(book, table, top, number);
     let entry = operator(book, number);
@@ -69,8 +66,8 @@ fn operator_covered(book: &[u8], at: usize, table: &[u32], top: usize, number: u
 
 // Whether that is so of every operator.
 fn operators_covered(book: &[u8], at: usize, table: &[u32], top: usize) -> bool
-    requires { ⌜ SetupKnown top (now book) × (at + rowCountOffset ≤ length (now book)) × Each (λ g. g .0 ≤ mostGuarantee) (guaranteesFrom (now book) at (countsIn (now book) .operators)) × (tableSize top ≤ length (now table)) × (top ≤ mostPeriods) ⌝ }
-    ensures { λ r. ⌜ ((rows : List Row) → SumsOf top rows (now (table .entry)) → r ≡ operatorsCovered (setupOf (now (book .entry))) (partWith (now (book .entry)) at rows)) ⌝ }
+    requires { ⌜ SetupKnown top (now book) × GuaranteesKnown (now book) at × SumTable top (now table) ⌝ }
+    ensures { λ r. ⌜ (let s = now (book .entry) in ForRowsSummedIn top (now (table .entry)) (λ rows. r ≡ operatorsCovered (setupOf s) (partWith s at rows))) ⌝ }
 {
     let n = counts(book);
     let mut number: u8 = 1;
@@ -87,7 +84,7 @@ fn operators_covered(book: &[u8], at: usize, table: &[u32], top: usize) -> bool
 // What follows of the sums of the rows: the nets are theirs, margins are kept, and every exposure is covered. The sums are taken into the
 // table of no rows that is lent.
 fn sums_valid(book: &[u8], at: usize, top: usize, n: usize, table: &mut [u32]) -> bool
-    requires { ⌜ SetupKnown top (now book) × (at + partSize top ≤ length (now book)) × (n ≤ mostRows) × Each (Tabled top) (rowsFrom (now book) (at + rowsOffset) n) × Each (λ g. g .0 ≤ mostGuarantee) (guaranteesFrom (now book) at (countsIn (now book) .operators)) ⌝ }
+    requires { ⌜ SetupKnown top (now book) × PartKnown top (now book) at n ⌝ }
     requires { ⌜ NoSums top (now table) × (top ≤ mostPeriods) ⌝ }
     ensures { λ r. ⌜ r ≡ sumsValid top (now (book .entry)) at (rowsFrom (now (book .entry)) (at + rowsOffset) n) ⌝ }
 {

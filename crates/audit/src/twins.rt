@@ -2,12 +2,12 @@
 ghost use mathlib.Core.Path.{_≡_};
 ghost use mathlib.Core.Bool.{false};
 ghost use Prim.Native.Nat.{_+_, _-_, _*_, _≤_, _<_};
-ghost use lib.ListN.{length, getD};
+ghost use lib.ListN.{length};
 ghost use Rattle.image.specs.Valid.{noTwins};
 ghost use Rattle.image.specs.Cells.{rowsFrom};
 ghost use Rattle.image.specs.Layout.{rowWidth};
 ghost use Rattle.rules.specs.Limits.{mostRows};
-ghost use Rattle.audit.specs.Twins.{pairOf, markOf, keyAmong, keysApart, Keyed, marks};
+ghost use Rattle.audit.specs.Twins.{pairOf, markOf, keyRepeats, keysApart, KeyPlaces, Keyed, marks};
 use image::layout::MOST_ROWS;
 use image::layout::ROW_WIDTH;
 use image::layout::TURN;
@@ -38,7 +38,7 @@ fn pair_of(r: Row, i: usize) -> u64
 
 // Fills in the keys of the `n` rows from `at` on.
 fn put_keys(codes: &mut [u64], pairs: &mut [u64], s: &[u8], at: usize, n: usize)
-    requires { ⌜ (length (now codes) ≡ mostRows) × (length (now pairs) ≡ mostRows) × (n ≤ mostRows) × (at + rowWidth * n ≤ length (now s)) ⌝ }
+    requires { ⌜ KeyPlaces (now codes) (now pairs) × (n ≤ mostRows) × (at + rowWidth * n ≤ length (now s)) ⌝ }
     ensures { λ _. ⌜ Keyed (now (s .entry)) at n (now (codes .exit)) (now (pairs .exit)) ⌝ }
 {
     let mut i = 0;
@@ -60,8 +60,8 @@ fn mark_of(code: u64, pair: u64) -> usize
 
 // One of the keys after place `i` is the key at `i`.
 fn key_after(codes: &[u64], pairs: &[u64], i: usize, n: usize) -> bool
-    requires { ⌜ (length (now codes) ≡ mostRows) × (length (now pairs) ≡ mostRows) × (i < n) × (n ≤ mostRows) ⌝ }
-    ensures { λ b. ⌜ b ≡ keyAmong (now (codes .entry)) (now (pairs .entry)) (getD (now (codes .entry)) i 0) (getD (now (pairs .entry)) i 0) (i + 1) (n - (i + 1)) ⌝ }
+    requires { ⌜ KeyPlaces (now codes) (now pairs) × (i < n) × (n ≤ mostRows) ⌝ }
+    ensures { λ b. ⌜ b ≡ keyRepeats (now (codes .entry)) (now (pairs .entry)) i n ⌝ }
 {
     let code = codes[i];
     let pair = pairs[i];
@@ -76,8 +76,8 @@ fn key_after(codes: &[u64], pairs: &[u64], i: usize, n: usize) -> bool
 
 // The same, where what was `seen` at the key's mark is 0 only if there is none: then nothing is searched.
 fn key_again(codes: &[u64], pairs: &[u64], i: usize, n: usize, seen: u8) -> bool
-    requires { ⌜ (length (now codes) ≡ mostRows) × (length (now pairs) ≡ mostRows) × (i < n) × (n ≤ mostRows) × (seen ≡ 0 → keyAmong (now codes) (now pairs) (getD (now codes) i 0) (getD (now pairs) i 0) (i + 1) (n - (i + 1)) ≡ false) ⌝ }
-    ensures { λ b. ⌜ b ≡ keyAmong (now (codes .entry)) (now (pairs .entry)) (getD (now (codes .entry)) i 0) (getD (now (pairs .entry)) i 0) (i + 1) (n - (i + 1)) ⌝ }
+    requires { ⌜ KeyPlaces (now codes) (now pairs) × (i < n) × (n ≤ mostRows) × (seen ≡ 0 → keyRepeats (now codes) (now pairs) i n ≡ false) ⌝ }
+    ensures { λ b. ⌜ b ≡ keyRepeats (now (codes .entry)) (now (pairs .entry)) i n ⌝ }
 {
     if seen == 0 {
         return false;
@@ -87,7 +87,7 @@ fn key_again(codes: &[u64], pairs: &[u64], i: usize, n: usize, seen: u8) -> bool
 
 // No two of the `n` keys are the same: from the last to the first, each leaves a 1 at its mark.
 fn keys_apart(codes: &[u64], pairs: &[u64], seen: &mut [u8], n: usize) -> bool
-    requires { ⌜ (length (now codes) ≡ mostRows) × (length (now pairs) ≡ mostRows) × (length (now seen) ≡ marks) × (n ≤ mostRows) ⌝ }
+    requires { ⌜ KeyPlaces (now codes) (now pairs) × (length (now seen) ≡ marks) × (n ≤ mostRows) ⌝ }
     ensures { λ b. ⌜ b ≡ keysApart (now (codes .entry)) (now (pairs .entry)) 0 n ⌝ }
 {
     let mut left = n;

@@ -8,12 +8,26 @@ use lib.ListN.{length, getD}
 use lib.Dec.{eqb}
 use Rattle.wire.specs.Numbers.{numberAt}
 use Rattle.rules.specs.declared.Row.{Row}
-use Rattle.rules.specs.Basics.{if_then_else_, total, every, upTo}
-use Rattle.rules.specs.Limits.{mostAccounts}
+use Rattle.rules.specs.Basics.{if_then_else_, total, every, upTo, Each}
+use Rattle.rules.specs.Limits.{mostAccounts, mostPrice, mostRows}
 use Rattle.rules.specs.Books.{Setup, estimateAt, operatorOf, periods}
 use Rattle.rules.specs.Registration.{bought, sold, pendingSales, pendingPurchases, accountHour, exposed}
-use Rattle.image.specs.Tables.{cellOf, placeOf, InTable, tableSize}
-use Rattle.image.specs.Layout.{netWidth}
+use Rattle.rules.specs.Opening.{estimatesIn}
+use Rattle.image.specs.Tables.{cellOf, placeOf, InTable, Tabled, Room, tableSize}
+use Rattle.image.specs.Layout.{mostPeriods, accountWidth, netWidth, rowWidth}
+use Rattle.image.specs.Cells.{rowsFrom}
+
+-- ---- what a table is
+
+-- a table with a cell for each sum of a day of at most `top` periods
+pub record SumTable (top : ℕ) (table : List ℕ) : Type 0 where
+  pub whole : tableSize top ≤ length table
+  pub top-high : top ≤ mostPeriods
+
+-- a table of no rows
+pub record NoSums (top : ℕ) (table : List ℕ) : Type 0 where
+  pub whole : tableSize top ≤ length table
+  pub zeros : (k : ℕ) → getD table k 0 ≡ 0
 
 -- the table holds the sums of these rows, and each fits its 32 bits
 pub record SumsOf (top : ℕ) (rows : List Row) (table : List ℕ) : Type 0 where
@@ -24,12 +38,26 @@ pub record SumsOf (top : ℕ) (rows : List Row) (table : List ℕ) : Type 0 wher
   pub sales-at : (a h : ℕ) → InTable top a h → getD table (cellOf top 2 a h) 0 ≡ pendingSales rows a h
   pub purchases-at : (a h : ℕ) → InTable top a h → getD table (cellOf top 3 a h) 0 ≡ pendingPurchases rows a h
 
+-- so it is for any rows whose sums the table holds
+abbrev pub ForRowsSummedIn : ℕ → List ℕ → (List Row → Type 0) → Type 0
+ForRowsSummedIn top table P = (rows : List Row) → SumsOf top rows table → P rows
+
 -- ---- how the table is filled
 
--- a table of no rows
-pub record NoSums (top : ℕ) (table : List ℕ) : Type 0 where
-  pub whole : tableSize top ≤ length table
-  pub zeros : (k : ℕ) → getD table k 0 ≡ 0
+-- the table has cells for an account of that number
+abbrev pub AccountInTable : ℕ → Type 0
+AccountInTable account = (1 ≤ account) × (account ≤ mostAccounts)
+
+-- the table has cells for the row, and each of them has room for its quantity
+pub record RoomForRow (top : ℕ) (table : List ℕ) (r : Row) : Type 0 where
+  pub tabled : Tabled top r
+  pub room : Room table 0 (r .quantity .0)
+
+-- n rows stand in the bytes from `at` on, no more than a book has, and the table has cells for each
+pub record RowsTabled (top : ℕ) (s : List ℕ) (at n : ℕ) : Type 0 where
+  pub whole : at + rowWidth * n ≤ length s
+  pub few : n ≤ mostRows
+  pub tabled : Each (Tabled top) (rowsFrom s at n)
 
 -- what a lane is the sum of
 unfoldable pub laneSum : ℕ → List Row → ℕ → ℕ → ℕ
@@ -46,6 +74,10 @@ pub record RowAdded (top : ℕ) (before after : List ℕ) (r : Row) : Type 0 whe
 
 -- ---- what is stored of the sums
 
+-- the net positions of all accounts stand in the bytes from `nets` on
+abbrev pub NetsInside : ℕ → List ℕ → ℕ → Type 0
+NetsInside top s nets = nets + mostAccounts * accountWidth top ≤ length s
+
 -- the 4 bytes of each net position are bought less sold in two's complement: with what is sold added they come to what is bought
 unfoldable pub netStored : ℕ → List ℕ → ℕ → List ℕ → ℕ → ℕ → Bool
 netStored top s at table a h =
@@ -57,6 +89,17 @@ unfoldable pub netsStored : ℕ → List ℕ → ℕ → List ℕ → Bool
 netsStored top s at table = every (λ a. every (netStored top s at table a) (upTo top)) (upTo mostAccounts)
 
 -- ---- exposure, account by account
+
+-- every estimated price of the set-up is in range
+abbrev pub EstimatesInRange : List ℕ → Type 0
+EstimatesInRange s = Each (λ p. p .0 ≤ mostPrice) (estimatesIn s)
+
+-- no hour's and no account's exposure is higher: two amounts of energy of 32 bits at the highest price, in each hour
+abbrev pub mostHourExposure : ℕ
+mostHourExposure = mostPrice * 2 ^ 33
+
+abbrev pub mostAccountExposure : ℕ
+mostAccountExposure = mostPeriods * mostHourExposure
 
 -- the exposure of an account over all hours, at the estimated prices
 unfoldable pub accountExposure : Setup → List Row → ℕ → ℕ

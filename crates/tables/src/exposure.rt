@@ -1,16 +1,11 @@
 // The exposure of an operator, by the table of sums.
 ghost use mathlib.Core.Path.{_≡_};
-ghost use mathlib.Core.List.{List};
-ghost use Prim.Native.Nat.{_-_, _*_, _^_, _≤_};
-ghost use lib.ListN.{length};
-ghost use Rattle.rules.specs.declared.Row.{Row};
-ghost use Rattle.rules.specs.Basics.{Each};
-ghost use Rattle.rules.specs.Limits.{mostAccounts, mostPrice};
-ghost use Rattle.rules.specs.Opening.{countsIn, setupOf, estimatesIn};
+ghost use Prim.Native.Nat.{_-_, _*_, _≤_};
+ghost use Rattle.rules.specs.Limits.{mostPrice};
+ghost use Rattle.rules.specs.Opening.{countsIn, setupOf};
 ghost use Rattle.rules.specs.Registration.{exposed, exposure};
-ghost use Rattle.image.specs.Tables.{SetupTabled, tableSize};
-ghost use Rattle.image.specs.Layout.{mostPeriods};
-ghost use Rattle.tables.specs.Sums.{SumsOf, accountExposure, exposureShare};
+ghost use Rattle.image.specs.Tables.{SetupTabled};
+ghost use Rattle.tables.specs.Sums.{SumTable, ForRowsSummedIn, AccountInTable, EstimatesInRange, mostHourExposure, mostAccountExposure, accountExposure, exposureShare};
 use crate::sums::account_hour;
 use rules::AccountHour;
 use rules::hours::short;
@@ -23,7 +18,7 @@ use units::MilliCents;
 // The exposure of an account hour at a price: what lies below zero, and the account's own pending sales in full.
 fn hour_exposure(x: AccountHour, price: CentsPerMwh) -> MilliCents
     requires { ⌜ price .0 ≤ mostPrice ⌝ }
-    ensures { λ r. ⌜ (r .0 ≡ price .0 * exposed x) × (r .0 ≤ mostPrice * 2 ^ 33) ⌝ }
+    ensures { λ r. ⌜ (r .0 ≡ price .0 * exposed x) × (r .0 ≤ mostHourExposure) ⌝ }
 {
     let short = short(x.net);
     let owed = short.at(price);
@@ -33,9 +28,9 @@ fn hour_exposure(x: AccountHour, price: CentsPerMwh) -> MilliCents
 
 // The exposure of an account over all hours, at the estimated prices.
 fn account_exposure(book: &[u8], table: &[u32], top: usize, number: u8) -> MilliCents
-    requires { ⌜ SetupTabled top (now book) × Each (λ p. p .0 ≤ mostPrice) (estimatesIn (now book)) × (tableSize top ≤ length (now table)) × (top ≤ mostPeriods) × (1 ≤ number) × (number ≤ mostAccounts) ⌝ }
-    ensures meaning { λ r. ⌜ ((rows : List Row) → SumsOf top rows (now (table .entry)) → r .0 ≡ accountExposure (setupOf (now (book .entry))) rows number) ⌝ }
-    ensures bounded { λ r. ⌜ r .0 ≤ mostPeriods * (mostPrice * 2 ^ 33) ⌝ }
+    requires { ⌜ SetupTabled top (now book) × EstimatesInRange (now book) × SumTable top (now table) × AccountInTable number ⌝ }
+    ensures meaning { λ r. ⌜ ForRowsSummedIn top (now (table .entry)) (λ rows. r .0 ≡ accountExposure (setupOf (now (book .entry))) rows number) ⌝ }
+    ensures bounded { λ r. ⌜ r .0 ≤ mostAccountExposure ⌝ }
 {
     let n = counts(book);
     let mut sum = MilliCents(0);
@@ -51,9 +46,10 @@ fn account_exposure(book: &[u8], table: &[u32], top: usize, number: u8) -> Milli
 
 // What an account adds to the operator's exposure: nothing where it is another's.
 fn exposure_share(book: &[u8], table: &[u32], top: usize, number: u8, operator: u8) -> MilliCents
-    requires { ⌜ SetupTabled top (now book) × Each (λ p. p .0 ≤ mostPrice) (estimatesIn (now book)) × (tableSize top ≤ length (now table)) × (top ≤ mostPeriods) × (1 ≤ number) × (number ≤ countsIn (now book) .accounts) ⌝ }
-    ensures meaning { λ r. ⌜ ((rows : List Row) → SumsOf top rows (now (table .entry)) → r .0 ≡ exposureShare (setupOf (now (book .entry))) rows operator number) ⌝ }
-    ensures bounded { λ r. ⌜ r .0 ≤ mostPeriods * (mostPrice * 2 ^ 33) ⌝ }
+    requires { ⌜ SetupTabled top (now book) × EstimatesInRange (now book) × SumTable top (now table) ⌝ }
+    requires { ⌜ (1 ≤ number) × (number ≤ countsIn (now book) .accounts) ⌝ }
+    ensures meaning { λ r. ⌜ ForRowsSummedIn top (now (table .entry)) (λ rows. r .0 ≡ exposureShare (setupOf (now (book .entry))) rows operator number) ⌝ }
+    ensures bounded { λ r. ⌜ r .0 ≤ mostAccountExposure ⌝ }
 {
     let entry = account(book, number);
     if entry.operator == operator {
@@ -64,8 +60,8 @@ fn exposure_share(book: &[u8], table: &[u32], top: usize, number: u8, operator: 
 
 // The exposure of an operator.
 pub fn exposure_of(book: &[u8], table: &[u32], top: usize, operator: u8) -> MilliCents
-    requires { ⌜ SetupTabled top (now book) × Each (λ p. p .0 ≤ mostPrice) (estimatesIn (now book)) × (tableSize top ≤ length (now table)) × (top ≤ mostPeriods) ⌝ }
-    ensures { λ r. ⌜ ((rows : List Row) → SumsOf top rows (now (table .entry)) → r .0 ≡ exposure (setupOf (now (book .entry))) rows operator) ⌝ }
+    requires { ⌜ SetupTabled top (now book) × EstimatesInRange (now book) × SumTable top (now table) ⌝ }
+    ensures { λ r. ⌜ ForRowsSummedIn top (now (table .entry)) (λ rows. r .0 ≡ exposure (setupOf (now (book .entry))) rows operator) ⌝ }
 {
     let n = counts(book);
     let mut sum = MilliCents(0);

@@ -1,17 +1,12 @@
 // The margins of all accounts, by the table of sums.
 ghost use mathlib.Core.Path.{_≡_};
-ghost use mathlib.Core.List.{List};
 ghost use Prim.Native.Nat.{_≤_};
-ghost use lib.ListN.{length};
-ghost use Rattle.rules.specs.declared.Row.{Row};
 ghost use Rattle.rules.specs.Basics.{every, upTo};
-ghost use Rattle.rules.specs.Limits.{mostAccounts};
 ghost use Rattle.rules.specs.Opening.{setupOf};
 ghost use Rattle.rules.specs.Registration.{accountHour, keepsMargins};
 ghost use Rattle.image.specs.Valid.{marginsKept};
-ghost use Rattle.image.specs.Tables.{SetupTabled, tableSize};
-ghost use Rattle.image.specs.Layout.{mostPeriods};
-ghost use Rattle.tables.specs.Sums.{SumsOf};
+ghost use Rattle.image.specs.Tables.{SetupTabled};
+ghost use Rattle.tables.specs.Sums.{SumTable, ForRowsSummedIn, AccountInTable};
 use crate::sums::account_hour;
 use rules::Margins;
 use rules::hours::keeps_margins;
@@ -20,8 +15,8 @@ use setup::entries::margins;
 
 // Whether the account of that number keeps its margins in each hour.
 fn hours_kept(table: &[u32], top: usize, margins: Margins, number: u8, hours: u8) -> bool
-    requires { ⌜ (tableSize top ≤ length (now table)) × (1 ≤ number) × (number ≤ mostAccounts) × (hours ≤ top) × (top ≤ mostPeriods) ⌝ }
-    ensures { λ r. ⌜ ((rows : List Row) → SumsOf top rows (now (table .entry)) → r ≡ every (λ h. keepsMargins margins (accountHour rows number h)) (upTo hours)) ⌝ }
+    requires { ⌜ SumTable top (now table) × AccountInTable number × (hours ≤ top) ⌝ }
+    ensures { λ r. ⌜ ForRowsSummedIn top (now (table .entry)) (λ rows. r ≡ every (λ h. keepsMargins margins (accountHour rows number h)) (upTo hours)) ⌝ }
 {
     let mut hour: u8 = 1;
     while hour <= hours {
@@ -37,8 +32,8 @@ fn hours_kept(table: &[u32], top: usize, margins: Margins, number: u8, hours: u8
 
 // Whether every account keeps its margins in every hour.
 pub fn margins_kept(book: &[u8], table: &[u32], top: usize) -> bool
-    requires { ⌜ SetupTabled top (now book) × (tableSize top ≤ length (now table)) × (top ≤ mostPeriods) ⌝ }
-    ensures { λ r. ⌜ ((rows : List Row) → SumsOf top rows (now (table .entry)) → r ≡ marginsKept (setupOf (now (book .entry))) rows) ⌝ }
+    requires { ⌜ SetupTabled top (now book) × SumTable top (now table) ⌝ }
+    ensures { λ r. ⌜ ForRowsSummedIn top (now (table .entry)) (λ rows. r ≡ marginsKept (setupOf (now (book .entry))) rows) ⌝ }
 {
     let n = counts(book);
     let mut number: u8 = 1;

@@ -1,16 +1,14 @@
 // The sums of all account hours in one pass over the rows, and what is read off them.
 ghost use mathlib.Core.Path.{_≡_};
-ghost use mathlib.Core.List.{List};
 ghost use Prim.Native.Nat.{_+_, _-_, _*_, _≤_, _<_};
-ghost use lib.ListN.{length, getD};
-ghost use Rattle.rules.specs.declared.Row.{Row};
-ghost use Rattle.rules.specs.Basics.{every, upTo, Each};
-ghost use Rattle.rules.specs.Limits.{mostAccounts, mostHours, mostRows};
+ghost use lib.ListN.{getD};
+ghost use Rattle.rules.specs.Basics.{every, upTo};
+ghost use Rattle.rules.specs.Limits.{mostAccounts, mostHours};
 ghost use Rattle.rules.specs.Registration.{accountHour};
-ghost use Rattle.image.specs.Layout.{mostPeriods, accountWidth, rowWidth};
+ghost use Rattle.image.specs.Layout.{mostPeriods};
 ghost use Rattle.image.specs.Cells.{rowsFrom};
-ghost use Rattle.image.specs.Tables.{slots, placeOf, cellOf, Inside, InTable, Tabled, Room, Raised, tableSize};
-ghost use Rattle.tables.specs.Sums.{SumsOf, NoSums, RowAdded, netStored, netsStored};
+ghost use Rattle.image.specs.Tables.{slots, placeOf, cellOf, Inside, InTable, Tabled, Room, Raised};
+ghost use Rattle.tables.specs.Sums.{SumTable, NoSums, SumsOf, ForRowsSummedIn, AccountInTable, RoomForRow, RowsTabled, RowAdded, NetsInside, netStored, netsStored};
 use image::cells::add_range;
 use image::layout::LANE_SLOTS;
 use image::layout::NET_WIDTH;
@@ -52,7 +50,8 @@ fn place(top: usize, account: u8, hour: u8) -> usize
 
 // Adds the row's quantity to the account's cells of its hours in a lane.
 fn add_hours(table: &mut [u32], top: usize, lane: usize, account: u8, r: Row)
-    requires { ⌜ (tableSize top ≤ length (now table)) × (lane ≤ 3) × (1 ≤ account) × (account ≤ mostAccounts) × Tabled top r × Room (now table) (top * (mostAccounts * lane)) (r .quantity .0) × (top ≤ mostPeriods) ⌝ }
+    requires { ⌜ SumTable top (now table) × (lane ≤ 3) × AccountInTable account ⌝ }
+    requires { ⌜ Tabled top r × Room (now table) (top * (mostAccounts * lane)) (r .quantity .0) ⌝ }
     ensures { λ _. ⌜ Raised (now (table .entry)) (now (table .exit)) (cellOf top lane account (r .first)) (r .last - r .first + 1) (r .quantity .0) ⌝ }
 {
     let at = cell(top, lane, account, r.first);
@@ -63,7 +62,7 @@ fn add_hours(table: &mut [u32], top: usize, lane: usize, account: u8, r: Row)
 
 // A confirmed row: its buyer bought, and its seller sold.
 fn add_confirmed(table: &mut [u32], top: usize, r: Row)
-    requires { ⌜ (tableSize top ≤ length (now table)) × Tabled top r × Room (now table) 0 (r .quantity .0) × (r .status ≡ 2) × (top ≤ mostPeriods) ⌝ }
+    requires { ⌜ SumTable top (now table) × RoomForRow top (now table) r × (r .status ≡ 2) ⌝ }
     ensures { λ _. ⌜ RowAdded top (now (table .entry)) (now (table .exit)) r ⌝ }
 {
     let buyer = r.buyer();
@@ -74,7 +73,7 @@ fn add_confirmed(table: &mut [u32], top: usize, r: Row)
 
 // A pending row: it waits on its proposer, as a sale or as a purchase.
 fn add_pending(table: &mut [u32], top: usize, r: Row)
-    requires { ⌜ (tableSize top ≤ length (now table)) × Tabled top r × Room (now table) 0 (r .quantity .0) × (r .status ≡ 1) × (top ≤ mostPeriods) ⌝ }
+    requires { ⌜ SumTable top (now table) × RoomForRow top (now table) r × (r .status ≡ 1) ⌝ }
     ensures { λ _. ⌜ RowAdded top (now (table .entry)) (now (table .exit)) r ⌝ }
 {
     if r.side == 1 {
@@ -86,7 +85,7 @@ fn add_pending(table: &mut [u32], top: usize, r: Row)
 
 // One row more. A withdrawn one counts for nobody.
 fn add_row(table: &mut [u32], top: usize, r: Row)
-    requires { ⌜ (tableSize top ≤ length (now table)) × Tabled top r × Room (now table) 0 (r .quantity .0) × (top ≤ mostPeriods) ⌝ }
+    requires { ⌜ SumTable top (now table) × RoomForRow top (now table) r ⌝ }
     ensures { λ _. ⌜ RowAdded top (now (table .entry)) (now (table .exit)) r ⌝ }
 {
     if r.status == 2 {
@@ -105,7 +104,7 @@ pub fn zeros() -> [u32; TABLE_SIZE]
 
 // Takes the `n` rows that stand from `at` on into a table of no rows.
 pub fn fill(table: &mut [u32], top: usize, s: &[u8], at: usize, n: usize)
-    requires { ⌜ NoSums top (now table) × (at + rowWidth * n ≤ length (now s)) × (n ≤ mostRows) × Each (Tabled top) (rowsFrom (now s) at n) × (top ≤ mostPeriods) ⌝ }
+    requires { ⌜ NoSums top (now table) × (top ≤ mostPeriods) × RowsTabled top (now s) at n ⌝ }
     ensures { λ _. ⌜ SumsOf top (rowsFrom (now (s .entry)) at n) (now (table .exit)) ⌝ }
 {
     let mut place = at;
@@ -120,7 +119,7 @@ pub fn fill(table: &mut [u32], top: usize, s: &[u8], at: usize, n: usize)
 
 // The sum that a lane holds for an account hour.
 fn sum_at(table: &[u32], top: usize, lane: usize, account: u8, hour: u8) -> u32
-    requires { ⌜ (tableSize top ≤ length (now table)) × (lane ≤ 3) × InTable top account hour × (top ≤ mostPeriods) ⌝ }
+    requires { ⌜ SumTable top (now table) × (lane ≤ 3) × InTable top account hour ⌝ }
     ensures { λ r. ⌜ r ≡ getD (now (table .entry)) (cellOf top lane account hour) 0 ⌝ }
 {
     let k = cell(top, lane, account, hour);
@@ -129,8 +128,8 @@ fn sum_at(table: &[u32], top: usize, lane: usize, account: u8, hour: u8) -> u32
 
 // What an account holds in an hour.
 pub fn account_hour(table: &[u32], top: usize, account: u8, hour: u8) -> AccountHour
-    requires { ⌜ (tableSize top ≤ length (now table)) × InTable top account hour × (top ≤ mostPeriods) ⌝ }
-    ensures { λ r. ⌜ ((rows : List Row) → SumsOf top rows (now (table .entry)) → r ≡ accountHour rows account hour) ⌝ }
+    requires { ⌜ SumTable top (now table) × InTable top account hour ⌝ }
+    ensures { λ r. ⌜ ForRowsSummedIn top (now (table .entry)) (λ rows. r ≡ accountHour rows account hour) ⌝ }
 {
     let net = Net {
         bought: Kwh(sum_at(table, top, BOUGHT, account, hour)),
@@ -145,7 +144,7 @@ pub fn account_hour(table: &[u32], top: usize, account: u8, hour: u8) -> Account
 
 // Whether the 4 bytes of a net position are what the account bought in the hour less what it sold.
 fn net_matches(s: &[u8], nets: usize, table: &[u32], top: usize, account: u8, hour: u8) -> bool
-    requires { ⌜ (nets + mostAccounts * accountWidth top ≤ length (now s)) × (tableSize top ≤ length (now table)) × InTable top account hour × (top ≤ mostPeriods) ⌝ }
+    requires { ⌜ NetsInside top (now s) nets × SumTable top (now table) × InTable top account hour ⌝ }
     ensures { λ r. ⌜ r ≡ netStored top (now (s .entry)) nets (now (table .entry)) account hour ⌝ }
 {
     let at = nets + NET_WIDTH * place(top, account, hour);
@@ -157,7 +156,7 @@ fn net_matches(s: &[u8], nets: usize, table: &[u32], top: usize, account: u8, ho
 
 // The same for all hours of an account.
 fn account_nets_match(s: &[u8], nets: usize, table: &[u32], top: usize, account: u8) -> bool
-    requires { ⌜ (nets + mostAccounts * accountWidth top ≤ length (now s)) × (tableSize top ≤ length (now table)) × (1 ≤ account) × (account ≤ mostAccounts) × (top ≤ mostPeriods) ⌝ }
+    requires { ⌜ NetsInside top (now s) nets × SumTable top (now table) × AccountInTable account ⌝ }
     ensures { λ r. ⌜ r ≡ every (netStored top (now (s .entry)) nets (now (table .entry)) account) (upTo top) ⌝ }
 {
     let mut hour: u8 = 1;
@@ -173,7 +172,7 @@ fn account_nets_match(s: &[u8], nets: usize, table: &[u32], top: usize, account:
 
 // Whether all net positions that stand from `nets` on are those of the table.
 pub fn nets_match(s: &[u8], nets: usize, table: &[u32], top: usize) -> bool
-    requires { ⌜ (nets + mostAccounts * accountWidth top ≤ length (now s)) × (tableSize top ≤ length (now table)) × (top ≤ mostPeriods) ⌝ }
+    requires { ⌜ NetsInside top (now s) nets × SumTable top (now table) ⌝ }
     ensures { λ r. ⌜ r ≡ netsStored top (now (s .entry)) nets (now (table .entry)) ⌝ }
 {
     let mut account: u8 = 1;

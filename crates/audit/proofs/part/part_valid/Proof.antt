@@ -62,10 +62,18 @@ sums-valid-requires c κs =
     let known = counted .before .before .before .pre .0 .0 in (
       (
         known,
-        search needs,
-        search needs,
-        rows-tabled _ _ _ _ known (sym (rows .rows-valid .ensures) ∙ not-false _ (sums .if3 .left)),
-        guarantees-small _ _ _ _ (ap (λ (n : Counts). n .operators) (counted .counts .ensures)) (sym (tested .guarantees-valid .ensures) ∙ not-false _ (tested-rows .if2 .left)),
+        record {
+          whole = search needs;
+          guarantees = record {
+            whole = search needs;
+            in-range = guarantees-small _ _ _ _ (ap (λ (n : Counts). n .operators) (counted .counts .ensures)) (sym (tested .guarantees-valid .ensures) ∙ not-false _ (tested-rows .if2 .left));
+          };
+          rows = record {
+            whole = search needs;
+            few = search needs;
+            tabled = rows-tabled _ _ _ _ known (sym (rows .rows-valid .ensures) ∙ not-false _ (sums .if3 .left));
+          };
+        },
       ),
       counted .before .before .before .pre .1,
     )

@@ -5,7 +5,7 @@ use Rattle.audit.proofs.twins.key_again.Statement.{statement}
 use Rattle.audit.proofs.twins.key_again.Tie as tie
 
 returns : tie.Need-returns
-returns c = sym (c .before .before .before .pre .4 (c .if1 .taken))
+returns c = sym (c .before .before .before .pre .3 (c .if1 .taken))
 
 key-after-requires : tie.Need-key-after-requires
 key-after-requires c κs = search needs

@@ -49,7 +49,6 @@ key-again-requires c κs =
       search needs,
       search needs,
       search needs,
-      search needs,
       λ z. unmarked (a .codes .now) (a .pairs .now) (l .left) (a .n) (l .seen) _ _ (l .inv .3) (rw (c .before .mark-of .ensures .0) at z) _ _ (omega arith) (omega arith),
     )
 

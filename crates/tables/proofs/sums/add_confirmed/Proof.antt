@@ -19,19 +19,19 @@ seller-requires c κs = search needs
 add-hours-requires : tie.Need-add-hours-requires
 add-hours-requires c κs =
     let start = c .before .before .before .before in
-    let buys = buyer-in (start .args .r) (start .pre .1) in
+    let buys = buyer-in (start .args .r) (start .pre .1 .tabled) in
     let e = c .before .before .buyer .ensures in
-    (search needs, search needs, rw e (buys .0), rw e (buys .1), start .pre .1, λ k l. start .pre .2 k (omega arith), search needs)
+    ((start .pre .0, search needs, (rw e (buys .0), rw e (buys .1))), (start .pre .1 .tabled, λ k l. start .pre .1 .room k (omega arith)))
 
 add-hours-requires-2 : tie.Need-add-hours-requires-2
 add-hours-requires-2 c κs =
     let start = c .before .before .before .before .before .before .before .before in
     let first = c .before .before .before in
-    let buys = buyer-in (start .args .r) (start .pre .1) in
-    let sells = seller-in (start .args .r) (start .pre .1) in
+    let buys = buyer-in (start .args .r) (start .pre .1 .tabled) in
+    let sells = seller-in (start .args .r) (start .pre .1 .tabled) in
     let e = c .before .before .before .before .before .seller .ensures in
     let f = first .before .before .before .buyer .ensures in
-    (search needs, search needs, rw e (sells .0), rw e (sells .1), start .pre .1, room-past _ _ _ _ _ _ (first .add-hours .ensures) (omega (arith, stride (start .args .top) (slotOf 0 (first .before .before .before .buyer .result)) mostAccounts (omega arith))) (start .pre .2), search needs)
+    ((search needs, search needs, (rw e (sells .0), rw e (sells .1))), (start .pre .1 .tabled, room-past _ _ _ _ _ _ (first .add-hours .ensures) (omega (arith, stride (start .args .top) (slotOf 0 (first .before .before .before .buyer .result)) mostAccounts (omega arith))) (start .pre .1 .room)))
 
 same-length : tie.Need-same-length
 same-length c = search needs
@@ -43,7 +43,7 @@ returns c =
     let first = second .before .before .before .before in
     let buys = first .before .before .before .buyer .ensures in
     let sells = first .before .before .seller .ensures in
-    added-confirmed _ _ _ _ (start .pre .1) (start .pre .3) (rw buys at (first .add-hours .ensures)) (rw sells at (second .add-hours2 .ensures))
+    added-confirmed _ _ _ _ (start .pre .1 .tabled) (start .pre .2) (rw buys at (first .add-hours .ensures)) (rw sells at (second .add-hours2 .ensures))
 
 pub add-confirmed-spec : {M : Type 1} → statement M
 add-confirmed-spec =

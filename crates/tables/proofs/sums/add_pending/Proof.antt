@@ -8,12 +8,12 @@ use Rattle.tables.proofs.sums.add_pending.Tie as tie
 add-hours-requires : tie.Need-add-hours-requires
 add-hours-requires c κs =
     let start = c .before .before .before .before in
-    (search needs, search needs, search needs, search needs, start .pre .1, λ k l. start .pre .2 k (omega arith), search needs)
+    (search needs, (start .pre .1 .tabled, λ k l. start .pre .1 .room k (omega arith)))
 
 add-hours-requires-2 : tie.Need-add-hours-requires-2
 add-hours-requires-2 c κs =
     let start = c .before .before .before .before .before .before in
-    (search needs, search needs, search needs, search needs, start .pre .1, λ k l. start .pre .2 k (omega arith), search needs)
+    (search needs, (start .pre .1 .tabled, λ k l. start .pre .1 .room k (omega arith)))
 
 same-length : tie.Need-same-length
 same-length c = search needs
@@ -21,7 +21,7 @@ same-length c = search needs
 returns : tie.Need-returns
 returns c =
     let start = c .before .before .before .before .before .before .before in
-    added-sale _ _ _ (start .pre .1) (start .pre .3) (c .before .before .before .before .if1 .taken) (c .before .before .add-hours .ensures)
+    added-sale _ _ _ (start .pre .1 .tabled) (start .pre .2) (c .before .before .before .before .if1 .taken) (c .before .before .add-hours .ensures)
 
 same-length-2 : tie.Need-same-length-2
 same-length-2 c = search needs
@@ -29,12 +29,12 @@ same-length-2 c = search needs
 returns-2 : tie.Need-returns-2
 returns-2 c =
     let start = c .before .before .before .before .before .before .before .before .before in
-    added-purchase _ _ _ (start .pre .1) (start .pre .3) (c .before .before .before .before .if2 .taken) (c .before .before .add-hours2 .ensures)
+    added-purchase _ _ _ (start .pre .1 .tabled) (start .pre .2) (c .before .before .before .before .if2 .taken) (c .before .before .add-hours2 .ensures)
 
 returns-3 : tie.Need-returns-3
 returns-3 c =
     let start = c .before .before .before .before .before in
-    added-sideless _ _ (start .pre .3) (c .before .before .if1 .left) (c .if2 .left)
+    added-sideless _ _ (start .pre .2) (c .before .before .if1 .left) (c .if2 .left)
 
 pub add-pending-spec : {M : Type 1} → statement M
 add-pending-spec =

@@ -28,7 +28,7 @@ abbrev μ-loop : tie.MeasureT-loop
 loop-holds : tie.Need-loop-holds Inv-loop μ-loop
 loop-holds c =
     let start = c .before .before in
-    (search needs, search needs, search needs, start .pre .3, filling-none _ _ _ (start .pre .0))
+    (search needs, search needs, search needs, start .pre .2 .tabled, filling-none _ _ _ (start .pre .0))
 
 row-at-requires : tie.Need-row-at-requires Inv-loop μ-loop
 row-at-requires c κs = search needs
@@ -40,7 +40,7 @@ add-row-requires c κs =
     let step = rows-step s (l .place) (l .left) (l .left - 1) (omega arith) in
     let first = rw step at (l .inv .3) in
     let r : Tabled (c .before .before .before .before .before .before .args .top) (c .before .row-at .result) = rw (c .before .row-at .ensures) (each-first first) in
-    (search needs, r, filling-room _ _ _ _ _ (l .inv .4) r (omega arith), search needs)
+    (search needs, record { tabled = r; room = filling-room _ _ _ _ _ (l .inv .4) r (omega arith) })
 
 add-place : tie.Need-add-place Inv-loop μ-loop
 add-place c = search needs
