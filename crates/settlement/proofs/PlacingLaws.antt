@@ -19,14 +19,13 @@ use Rattle.rules.specs.Books.{Book}
 use Rattle.rules.specs.Settlement.{placed, insert, prioritised}
 use Rattle.rules.proofs.Basics.Searches.{each-at, each-map}
 use Rattle.rules.proofs.Settling.PriorityLaws.{insert-cases}
-use Rattle.priority.specs.Order.{noPlaced}
+use Rattle.priority.specs.Order.{noPlaced, noSchedules}
 use Rattle.image.specs.Layout.{scheduleWidth, schedulesOffset}
 use Rattle.image.specs.Image.{scheduleBytes, scheduleIn}
 use Rattle.image.specs.Valid.{isBook, bookIn}
 use Rattle.image.proofs.Reading.ImageReads.{schedule-read}
 use Rattle.image.proofs.Round.{schedule-back}
 use Rattle.book.proofs.StateLaws.{book-image, book-fits, book-is-sound}
-use Rattle.settlement.specs.Judging.{nonePlaced}
 
 -- ---- read one after the other
 
@@ -40,8 +39,8 @@ schedule-stands s h i at d l e =
     ap (λ (t : List ℕ). take scheduleWidth (drop at t)) (book-image s h) ∙ schedule-read mostHours bookSize b (book-fits s h) i at d l e in
     ap scheduleIn here ∙ schedule-back (b .setup) (book-is-sound s h .setup-sound) x (each-at d i (book-is-sound s h .schedules-sound) l)
 
-pub none-placed : (all : List Placed) → all ≡ nonePlaced → length all ≡ mostSchedules
-unfolding nonePlaced
+pub none-placed : (all : List Placed) → all ≡ noSchedules → length all ≡ mostSchedules
+unfolding noSchedules
 none-placed all e = ap length e ∙ length-replicate {A = Placed} mostSchedules noPlaced
 
 pub length-placed : (n : ℕ) (xs : List Schedule) → length (placed n xs) ≡ length xs

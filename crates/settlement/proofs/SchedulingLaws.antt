@@ -6,8 +6,6 @@ use mathlib.Core.Option.{none}
 use mathlib.Core.Bool.{true}
 use native.Mathlib.Omega.{arith}
 use lib.ListN.{length}
-use Rattle.wire.specs.Numbers.{le}
-use Rattle.wire.specs.Regions.{splice}
 use Rattle.wire.specs.Parts.{Small}
 use Rattle.rules.specs.declared.Schedule.{Schedule}
 use Rattle.rules.specs.declared.Request.{Request}
@@ -15,8 +13,8 @@ use Rattle.rules.specs.Limits.{mostHours, bookSize}
 use Rattle.rules.specs.Verdicts.{accepted}
 use Rattle.rules.specs.Requests.{schedule}
 use Rattle.rules.specs.Calls.{scheduled, given}
-use Rattle.image.specs.Layout.{scheduleWidths, scheduleWidth, schedulesOffset, scheduleCountOffset}
-use Rattle.image.specs.Image.{scheduleValues, scheduleBytes}
+use Rattle.image.specs.Layout.{scheduleWidths, scheduleWidth, schedulesOffset}
+use Rattle.image.specs.Image.{scheduleValues}
 use Rattle.image.specs.Valid.{isBook, bookIn}
 use Rattle.image.proofs.Writing.Sizes.{schedule-small}
 use Rattle.image.proofs.Writing.BookWrites.{write-schedule}
@@ -26,6 +24,7 @@ use Rattle.book.specs.Kinds.{decided, Ready}
 use Rattle.book.proofs.StateLaws.{book-image, book-fits, book-is-sound}
 use Rattle.book.proofs.Answers.{decided-clear, Answered, accepted-answered}
 use Rattle.book.proofs.Readiness.{bare, ready-input}
+use Rattle.settlement.specs.Scheduling.{scheduleAppended}
 use Rattle.settlement.proofs.Decisions.{few-schedules}
 
 -- the values of a schedule that is ready fit their bytes
@@ -38,14 +37,14 @@ ready-fits s q x h r e =
 -- what an accepted schedule writes
 pub scheduled-answered : (s t : List ℕ) (h : isBook s ≡ true) (q : Request) (n : ℕ) → Ready schedule (bookIn s) q
     → decided schedule (bookIn s) q ≡ none → n ≡ length (bookIn s .schedules)
-    → t ≡ splice (splice s (schedulesOffset + scheduleWidth * n) (scheduleBytes (scheduled q))) scheduleCountOffset (le 2 (n + 1))
+    → t ≡ scheduleAppended s n (scheduled q)
     → Answered schedule s q (accepted (n + 1)) t
 unfolding given
 scheduled-answered s t h q n r d e w =
     let few = few-schedules (bookIn s) q d in
     accepted-answered schedule s q h t (n + 1) d (omega (arith, e))
     (w
-    ∙ ap (λ (x : List ℕ). splice (splice x (schedulesOffset + scheduleWidth * n) (scheduleBytes (scheduled q))) scheduleCountOffset (le 2 (n + 1))) (book-image s h)
+    ∙ ap (λ (x : List ℕ). scheduleAppended x n (scheduled q)) (book-image s h)
     ∙ write-schedule mostHours bookSize (bookIn s) (book-fits s h) (scheduled q) n (schedulesOffset + scheduleWidth * n) e (omega (arith, e, few)) refl)
     (apply-keeps _ (bookIn s) (book-is-sound s h)
     (schedule-allowed (bookIn s) q (book-is-sound s h) bare (sym (r .of-kind)) (ready-input schedule (bookIn s) q r bare refl) (decided-clear schedule (bookIn s) q d)))

@@ -1,4 +1,6 @@
 -- What the contracts of `settlement` say, beside `rules`, `book` and `valuation`.
+-- Scheduling: the bytes that a schedule handed in is written to.
+pub mod Scheduling
 -- Settling: a settle as a call.
 pub mod Settling
 -- Judging: schedules judged one after the other, and the tables kept of them.

@@ -5,18 +5,16 @@ ghost use lib.ListN.{length, take};
 ghost use Rattle.rules.specs.Settlement.{placed};
 ghost use Rattle.image.specs.Valid.{isBook, bookIn};
 ghost use Rattle.valuation.specs.Tables.{Priced, setupIn};
-ghost use Rattle.settlement.specs.Judging.{InPlace, RoomFor, nonePlaced, noResults, InOrder, NoneJudged, NextJudged, AllJudged, DrawnUp};
+ghost use Rattle.settlement.specs.Judging.{InPlace, RoomFor, noResults, InOrder, NoneJudged, NextJudged, AllJudged, DrawnUp};
 use image::layout::SCHEDULE_WIDTH;
 use image::layout::SCHEDULES_OFFSET;
 use image::schedules::schedule_at;
 use priority::order::in_order;
+use priority::order::no_schedules;
 use rules::Balance;
 use rules::Placed;
-use rules::Schedule;
 use rules::limits::MOST_SCHEDULES;
 use setup::entries::point;
-use units::CentsPerMwh;
-use units::Kwh;
 use valuation::Credit;
 use valuation::balances::OPERATORS;
 use valuation::balances::accounts_worth;
@@ -26,27 +24,12 @@ use valuation::congruity::nothing_used;
 use valuation::congruity::result_of;
 use valuation::congruity::use_up;
 
-// No schedule has its place yet.
-fn none_placed() -> [Placed; MOST_SCHEDULES]
-    ensures { λ r. ⌜ r ≡ nonePlaced ⌝ }
-{
-    let schedule = Schedule {
-        point: 0,
-        side: 0,
-        hour: 0,
-        quantity: Kwh(0),
-        price: CentsPerMwh(0),
-    };
-    let nothing = Placed { place: 0, schedule };
-    [nothing; MOST_SCHEDULES]
-}
-
 // The `n` schedules of a book, each with its place.
 fn placed_in(book: &[u8], n: usize) -> [Placed; MOST_SCHEDULES]
     requires { ⌜ (isBook (now book) ≡ true) × (n ≡ length (bookIn (now book) .schedules)) ⌝ }
     ensures { λ r. ⌜ take n r ≡ placed 1 (bookIn (now (book .entry)) .schedules) ⌝ }
 {
-    let mut all = none_placed();
+    let mut all = no_schedules();
     let mut k = 0;
     while k < n {
         let schedule = schedule_at(book, SCHEDULES_OFFSET + SCHEDULE_WIDTH * k);

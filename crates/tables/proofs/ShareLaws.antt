@@ -13,11 +13,11 @@ use Rattle.rules.specs.Basics.{if_then_else_, total}
 use Rattle.rules.specs.Limits.{mostAccounts}
 use Rattle.rules.specs.Registration.{moved, waiting, buyer, seller}
 use Rattle.rules.proofs.Basics.Differences.{lt-or-ge}
-use Rattle.image.specs.Tables.{slotOf, cellOf, InTable, Tabled, Raised}
+use Rattle.image.specs.Tables.{slotOf, cellOf, InTable, Tabled}
 use Rattle.rules.proofs.Basics.Products.{stride}
 use Rattle.image.proofs.Tables.SumLaws.{hits, raised-cell, raised-most}
 use Rattle.image.proofs.Tables.TabledLaws.{buyer-in, seller-in, first-hour}
-use Rattle.tables.specs.Sums.{RowAdded, laneSum}
+use Rattle.tables.specs.Sums.{RowAdded, laneSum, HoursRaised}
 
 -- ---- what one row adds
 
@@ -69,7 +69,7 @@ module _ (r : Row) (a h : ℕ) where
 
 -- a row's hours raised in a lane, as each account hour sees it
 raised-share : {top : ℕ} (before after : List ℕ) (r : Row) (lane account : ℕ) → Tabled top r → 1 ≤ account → account ≤ mostAccounts
-    → Raised before after (cellOf top lane account (r .first)) (r .last - r .first + 1) (r .quantity .0)
+    → HoursRaised top lane account r before after
     → (other a h : ℕ) → InTable top a h → getD after (cellOf top other a h) 0 ≡ getD before (cellOf top other a h) 0 + share r a h lane account other
 unfolding share
 raised-share {top} before after r lane account t l u w other a h i =
@@ -79,8 +79,8 @@ raised-share {top} before after r lane account t l u w other a h i =
 
 -- a confirmed row
 pub added-confirmed : {top : ℕ} (before middle after : List ℕ) (r : Row) → Tabled top r → r .status ≡ 2
-    → Raised before middle (cellOf top 0 (buyer r) (r .first)) (r .last - r .first + 1) (r .quantity .0)
-    → Raised middle after (cellOf top 1 (seller r) (r .first)) (r .last - r .first + 1) (r .quantity .0)
+    → HoursRaised top 0 (buyer r) r before middle
+    → HoursRaised top 1 (seller r) r middle after
     → RowAdded top before after r
 added-confirmed {top} before middle after r t e b s =
     let buys = buyer-in r t in
@@ -102,7 +102,7 @@ added-confirmed {top} before middle after r t e b s =
 -- a pending row, of which the share falls to that lane for its proposer
 added-pending : {top : ℕ} (before after : List ℕ) (r : Row) (lane : ℕ) → Tabled top r
     → ((a h other : ℕ) → other ≤ 3 → laneSum other (r ∷ []) a h ≡ share r a h lane (r .proposer) other)
-    → Raised before after (cellOf top lane (r .proposer) (r .first)) (r .last - r .first + 1) (r .quantity .0)
+    → HoursRaised top lane (r .proposer) r before after
     → RowAdded top before after r
 added-pending {top} before after r lane t e w =
     record {
@@ -113,12 +113,12 @@ added-pending {top} before after r lane t e w =
     }
 
 pub added-sale : {top : ℕ} (before after : List ℕ) (r : Row) → Tabled top r → r .status ≡ 1 → r .side ≡ 1
-    → Raised before after (cellOf top 2 (r .proposer) (r .first)) (r .last - r .first + 1) (r .quantity .0)
+    → HoursRaised top 2 (r .proposer) r before after
     → RowAdded top before after r
 added-sale before after r t e d w = added-pending before after r 2 t (λ a h. share-sale r a h e d) w
 
 pub added-purchase : {top : ℕ} (before after : List ℕ) (r : Row) → Tabled top r → r .status ≡ 1 → r .side ≡ 2
-    → Raised before after (cellOf top 3 (r .proposer) (r .first)) (r .last - r .first + 1) (r .quantity .0)
+    → HoursRaised top 3 (r .proposer) r before after
     → RowAdded top before after r
 added-purchase before after r t e d w = added-pending before after r 3 t (λ a h. share-purchase r a h e d) w
 

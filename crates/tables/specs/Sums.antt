@@ -13,7 +13,7 @@ use Rattle.rules.specs.Limits.{mostAccounts, mostPrice, mostRows}
 use Rattle.rules.specs.Books.{Setup, estimateAt, operatorOf, periods}
 use Rattle.rules.specs.Registration.{bought, sold, pendingSales, pendingPurchases, accountHour, exposed}
 use Rattle.rules.specs.Opening.{estimatesIn}
-use Rattle.image.specs.Tables.{cellOf, placeOf, InTable, Tabled, Room, tableSize}
+use Rattle.image.specs.Tables.{cellOf, placeOf, InTable, Tabled, Room, Raised, tableSize}
 use Rattle.image.specs.Layout.{mostPeriods, accountWidth, netWidth, rowWidth}
 use Rattle.image.specs.Cells.{rowsFrom}
 
@@ -65,6 +65,11 @@ laneSum zero = bought
 laneSum (suc zero) = sold
 laneSum (suc (suc zero)) = pendingSales
 laneSum (suc (suc (suc lane))) = pendingPurchases
+
+-- the row's quantity is added to the account's cells of its hours in a lane, and to no other cell
+abbrev pub HoursRaised : ℕ → ℕ → ℕ → Row → List ℕ → List ℕ → Type 0
+HoursRaised top lane account r before after =
+    Raised before after (cellOf top lane account (r .first)) (r .last - r .first + 1) (r .quantity .0)
 
 -- one row more: each account hour of each lane has its share, and no cell grows by more than the row's quantity
 pub record RowAdded (top : ℕ) (before after : List ℕ) (r : Row) : Type 0 where

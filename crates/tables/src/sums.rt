@@ -7,8 +7,8 @@ ghost use Rattle.rules.specs.Limits.{mostAccounts, mostHours};
 ghost use Rattle.rules.specs.Registration.{accountHour};
 ghost use Rattle.image.specs.Layout.{mostPeriods};
 ghost use Rattle.image.specs.Cells.{rowsFrom};
-ghost use Rattle.image.specs.Tables.{slots, placeOf, cellOf, Inside, InTable, Tabled, Room, Raised};
-ghost use Rattle.tables.specs.Sums.{SumTable, NoSums, SumsOf, ForRowsSummedIn, AccountInTable, RoomForRow, RowsTabled, RowAdded, NetsInside, netStored, netsStored};
+ghost use Rattle.image.specs.Tables.{slots, placeOf, cellOf, Inside, InTable, Tabled, Room};
+ghost use Rattle.tables.specs.Sums.{SumTable, NoSums, SumsOf, ForRowsSummedIn, AccountInTable, RoomForRow, RowsTabled, HoursRaised, RowAdded, NetsInside, netStored, netsStored};
 use image::cells::add_range;
 use image::layout::LANE_SLOTS;
 use image::layout::NET_WIDTH;
@@ -52,7 +52,7 @@ fn place(top: usize, account: u8, hour: u8) -> usize
 fn add_hours(table: &mut [u32], top: usize, lane: usize, account: u8, r: Row)
     requires { ⌜ SumTable top (now table) × (lane ≤ 3) × AccountInTable account ⌝ }
     requires { ⌜ Tabled top r × Room (now table) (top * (mostAccounts * lane)) (r .quantity .0) ⌝ }
-    ensures { λ _. ⌜ Raised (now (table .entry)) (now (table .exit)) (cellOf top lane account (r .first)) (r .last - r .first + 1) (r .quantity .0) ⌝ }
+    ensures { λ _. ⌜ HoursRaised top lane account r (now (table .entry)) (now (table .exit)) ⌝ }
 {
     let at = cell(top, lane, account, r.first);
     let n = (r.last - r.first) as usize + 1;

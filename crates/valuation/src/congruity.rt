@@ -190,7 +190,8 @@ fn add_to(table: &mut [u32], k: usize, q: u32)
 
 // A schedule of that result more: a congruous one uses up its quantity of its point's and its account's limits.
 pub fn use_up(used: &mut [u32], account: u8, x: Schedule, result: u8)
-    requires { ⌜ (length (now used) ≡ usedCells) × InCells mostPoints (x .point) x × InCells mostAccounts account x × Room (now used) 0 (x .quantity .0) ⌝ }
+    requires { ⌜ InCells mostPoints (x .point) x × InCells mostAccounts account x ⌝ }
+    requires { ⌜ (length (now used) ≡ usedCells) × Room (now used) 0 (x .quantity .0) ⌝ }
     ensures { λ _. ⌜ UsedWith account x result (now (used .entry)) (now (used .exit)) ⌝ }
 {
     let q = share(x.quantity, result);

@@ -23,7 +23,7 @@ use-up-requires c κs =
     let h = pre .0 .0 .is-book in
     let ok = pre .0 .1 .in-range in
     let on = on-point _ h _ ok _ (c .before .before .before .point .ensures) in
-    (pre .1 .0, point-in-cells _ h _ ok, account-read-in-cells _ h _ ok _ (on .its-point), pre .1 .1)
+    ((point-in-cells _ h _ ok, account-read-in-cells _ h _ ok _ (on .its-point)), (pre .1 .0, pre .1 .1))
 
 cast-results : tie.Need-cast-results
 cast-results c = search needs

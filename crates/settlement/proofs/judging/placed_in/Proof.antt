@@ -19,11 +19,11 @@ Inv-loop book n all₀ k₀ all k = (k ≤ n) × (n ≤ mostSchedules) × (lengt
 abbrev μ-loop : tie.MeasureT-loop
 μ-loop book n all₀ k₀ all k = n - k
 
-none-placed-requires : tie.Need-none-placed-requires Inv-loop μ-loop
-none-placed-requires c κs = search needs
+no-schedules-requires : tie.Need-no-schedules-requires Inv-loop μ-loop
+no-schedules-requires c κs = search needs
 
 loop-holds : tie.Need-loop-holds Inv-loop μ-loop
-loop-holds c = (search needs, omega (arith, c .before .before .pre .1, schedule-count-high _ (c .before .before .pre .0)), none-placed _ (c .none-placed .ensures), refl)
+loop-holds c = (search needs, omega (arith, c .before .before .pre .1, schedule-count-high _ (c .before .before .pre .0)), none-placed _ (c .no-schedules .ensures), refl)
 
 mul-schedule-at : tie.Need-mul-schedule-at Inv-loop μ-loop
 mul-schedule-at c = search needs
@@ -71,7 +71,7 @@ placed-in-spec =
     (tie.spec
     Inv-loop
     μ-loop
-    none-placed-requires
+    no-schedules-requires
     loop-holds
     mul-schedule-at
     add-schedule-at

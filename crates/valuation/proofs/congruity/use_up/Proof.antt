@@ -21,7 +21,7 @@ add-to-requires : tie.Need-add-to-requires
 add-to-requires c κs =
     let cells = c .before .before in
     let start = cells .before .before .before in
-    room-here (start .args .used .now) _ _ _ (start .pre .3) (cells .before .share .ensures .1) (start .pre .0) (omega (arith, cells .cell-for .ensures))
+    room-here (start .args .used .now) _ _ _ (start .pre .1 .1) (cells .before .share .ensures .1) (start .pre .1 .0) (omega (arith, cells .cell-for .ensures))
 
 add-to-requires-2 : tie.Need-add-to-requires-2
 add-to-requires-2 c κs =
@@ -30,9 +30,9 @@ add-to-requires-2 c κs =
     let start = cells .before .before .before .before in
     room-next (start .args .used .now) _ _ _ _ _ _ (first .add-to .ensures)
     (omega (arith, cells .before .cell-for .ensures))
-    (start .pre .3)
+    (start .pre .1 .1)
     (cells .before .before .share .ensures .1)
-    (start .pre .0)
+    (start .pre .1 .0)
     (omega (arith, cells .cell-for2 .ensures))
 
 same-length : tie.Need-same-length
@@ -44,7 +44,7 @@ returns c u net t before place e by =
     let first = second .before .before .before .before in
     let cells = first .before .before in
     let start = cells .before .before .before .before in
-    used-next u net t (start .args .used .now) _ _ _ _ _ _ (start .pre .1) (rw e (start .pre .2)) (cells .before .before .share .ensures .0)
+    used-next u net t (start .args .used .now) _ _ _ _ _ _ (start .pre .0 .0) (rw e (start .pre .0 .1)) (cells .before .before .share .ensures .0)
     (cells .before .cell-for .ensures) (rw e (cells .cell-for2 .ensures)) (first .add-to .ensures) (second .add-to2 .ensures) by
 
 pub use-up-spec : {M : Type 1} → statement M
