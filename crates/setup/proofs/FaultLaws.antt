@@ -1,11 +1,11 @@
 -- A row of values is judged in parts: the first part that fails decides. So a loop over entries may stop there, and goes on otherwise.
-use Prim.Native.Nat.{ℕ, _+_, _≤_}
+use Prim.Native.Nat.{ℕ, _+_, _*_, _≤_}
 use mathlib.Core.Path.{_≡_, refl, sym, _∙_}
 use mathlib.Core.List.{List, [], _∷_, _++_}
 use mathlib.Core.Option.{Option·map}
 use mathlib.Core.Bool.{Bool, true, false, not}
 use native.Mathlib.Omega.{arith}
-use lib.ListN.{take, drop, length-map}
+use lib.ListN.{length, take, drop, length-map}
 use Rattle.rules.specs.declared.Counts.{Counts}
 use Rattle.rules.specs.declared.Checked.{Checked}
 use Rattle.rules.specs.declared.Checked.the-variants.{Clear, Fails}
@@ -14,6 +14,7 @@ use Rattle.rules.specs.declared.Refusal.the-variants.{SetupShape, SetupValue}
 use Rattle.rules.specs.Basics.{find, entries}
 use Rattle.rules.specs.Verdicts.{_⇒_, _⇒↑_, firstToApply, checked}
 use Rattle.rules.specs.Opening.{countsIn, Value, valuesOf, values, misshapen, faultyOffset, setupOf, setupRefusal, operatorsIn}
+use Rattle.rules.proofs.Basics.Products.{one-more}
 use Rattle.rules.proofs.Setups.SetupShape.{shape-of, shape-length}
 use Rattle.rules.proofs.Setups.SetupEntries.{length-operators, length-accounts, length-points, values-done, values-step}
 use Rattle.setup.specs.Faults.{orElse, orFault, firstFaultFrom, firstFault, estimateFaults, operatorFaults, accountFaults, pointFaults, Shaped}
@@ -52,24 +53,37 @@ judged-from (Fails r) vs = judged-fails r vs
 pub judged-append : (vs ws : List Value) → firstFault (vs ++ ws) ≡ orElse (firstFault vs) (firstFault ws)
 judged-append vs ws = judged-append-from Clear vs ws ∙ judged-from (firstFault vs) ws
 
--- ---- entry by entry: `whole` is what all of the entries come to
+-- ---- a loop over entries
 
-module _ {A : Type 0} (w : ℕ) (read : List ℕ → A) (say : ℕ → A → List Value) (at : ℕ) (s : List ℕ) (n : ℕ) {whole : Checked}
-    (left : firstFault (valuesOf w say at (entries w read n (drop at s))) ≡ whole) where
-  -- no entry is left
-  pub none-left : n ≤ 0 → Clear ≡ whole
-  unfolding firstFaultFrom
-  none-left h = rw (values-done w read say at n (drop at s) h) at left
+-- the n entries of width w that are left from `at` on come to what all entries come to
+pub record EntriesLeft {A : Type 0} (w : ℕ) (read : List ℕ → A) (say : ℕ → A → List Value) (s : List ℕ) (all : Checked) (at n : ℕ) : Type 0 where
+  pub inside : at + w * n ≤ length s
+  pub come-to : firstFault (valuesOf w say at (entries w read n (drop at s))) ≡ all
 
-  -- the first that is left has no fault
-  pub first-clear : (m : ℕ) {x : A} {f : Checked} → n ≡ m + 1 → x ≡ read (take w (drop at s)) → f ≡ firstFault (say at x) → f ≡ Clear
-      → firstFault (valuesOf w say (at + w) (entries w read m (drop (at + w) s))) ≡ whole
-  first-clear m e x f c = rw (values-step w read say at n m s e, judged-append-from, ← x, ← f, c) at left
+module _ {A : Type 0} {w : ℕ} {read : List ℕ → A} {say : ℕ → A → List Value} {s : List ℕ} {all : Checked} {at n : ℕ} (left : EntriesLeft w read say s all at n)
+  where
+    -- none is left
+    pub none-left : n ≤ 0 → Clear ≡ all
+    unfolding firstFaultFrom
+    none-left h = rw (values-done w read say at n (drop at s) h) at (left .come-to)
 
-  -- it has one
-  pub first-fails : (m : ℕ) {x : A} {f : Checked} {r : Refusal} → n ≡ m + 1 → x ≡ read (take w (drop at s)) → f ≡ firstFault (say at x) → f ≡ Fails r
-      → Fails r ≡ whole
-  first-fails m {r = r} e x f c = sym (judged-fails r _) ∙ (rw (values-step w read say at n m s e, judged-append-from, ← x, ← f, c) at left)
+    -- the first that is left lies inside the bytes
+    pub first-inside : (m : ℕ) → n ≡ m + 1 → at + w ≤ length s
+    first-inside m e = omega (arith, left .inside, one-more w n m e)
+
+    module _ (m : ℕ) {x : A} {f : Checked} (e : n ≡ m + 1) (found : x ≡ read (take w (drop at s))) (judgement : f ≡ firstFault (say at x)) where
+      -- it has no fault, and the others are left
+      pub first-clear : f ≡ Clear → EntriesLeft w read say s all (at + w) m
+      first-clear c =
+          record {
+            inside = omega (arith, left .inside, one-more w n m e);
+            come-to = rw (values-step w read say at n m s e, judged-append-from, ← found, ← judgement, c) at (left .come-to);
+          }
+
+      -- it has a fault, and that decides
+      pub first-fails : {r : Refusal} → f ≡ Fails r → Fails r ≡ all
+      first-fails {r} c =
+          sym (judged-fails r _) ∙ (rw (values-step w read say at n m s e, judged-append-from, ← found, ← judgement, c) at (left .come-to))
 
 -- what begins where the counts say, begins where equal counts say
 pub at-counts : (F : Counts → ℕ → Checked) (from : Counts → ℕ) {n k : Counts} {at : ℕ} → n ≡ k → at ≡ from n → F n at ≡ F k (from k)

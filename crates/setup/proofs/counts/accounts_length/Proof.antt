@@ -1,6 +1,5 @@
 -- At most 255 entries, none of them longer than 2^12.
 use Prim.Native.Nat.{_^_}
-use mathlib.Core.Path.{_≡_}
 use native.Mathlib.Omega.{arith}
 use Rattle.rules.proofs.Basics.Products.{no-longer}
 use borrow.Author.Needs.{needs}

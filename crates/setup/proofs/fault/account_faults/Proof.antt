@@ -1,23 +1,19 @@
 -- What is left comes to what all come to: an entry with no fault is passed, and the first with one decides.
-use Prim.Native.Nat.{ℕ, _+_, _-_, _*_, _≤_}
-use mathlib.Core.Path.{_≡_}
-use lib.ListN.{length, drop}
+use Prim.Native.Nat.{ℕ, _-_}
+use lib.ListN.{drop}
 use native.Mathlib.Omega.{arith}
 use Rattle.rules.specs.declared.Counts.{Counts}
 use Rattle.rules.specs.Basics.{entries}
 use Rattle.rules.specs.Opening.{accountIn, accountsOffset, accountsIn, accountValues, valuesOf, accountEntry}
-use Rattle.rules.proofs.Basics.Products.{one-more}
 use Rattle.setup.specs.Faults.{firstFault, accountFaults}
-use Rattle.setup.proofs.FaultLaws.{none-left, first-clear, first-fails, at-counts}
+use Rattle.setup.proofs.FaultLaws.{EntriesLeft, none-left, first-inside, first-clear, first-fails, at-counts}
 use borrow.Author.Needs.{needs}
 use Rattle.setup.proofs.fault.account_faults.Statement.{statement}
 use Rattle.setup.proofs.fault.account_faults.Tie as tie
 
 abbrev Inv-loop : tie.InvT-loop
 Inv-loop setup n entry at₀ left₀ at left =
-    (at + accountEntry n * left ≤ length setup)
-    × (firstFault (valuesOf (accountEntry n) (accountValues (n .operators)) at (entries (accountEntry n) accountIn left (drop at setup)))
-    ≡ accountFaults setup)
+    EntriesLeft (accountEntry n) accountIn (accountValues (n .operators)) setup (accountFaults setup) at left
 
 abbrev μ-loop : tie.MeasureT-loop
 μ-loop setup n entry at₀ left₀ at left = left
@@ -33,36 +29,38 @@ unfolding accountFaults accountsIn
 loop-holds c =
     let start = c .before .before .before in
     let s = start .args .setup .now in
-    (omega (arith, start .pre .whole, c .accounts-offset .ensures), at-counts (λ (n : Counts) (at : ℕ). firstFault (valuesOf (accountEntry n) (accountValues (n .operators)) at (entries (accountEntry n) accountIn (n .accounts) (drop at s)))) accountsOffset (start .pre .counted) (c .accounts-offset .ensures))
+    record {
+      inside = omega (arith, start .pre .whole, c .accounts-offset .ensures);
+      come-to = at-counts (λ (n : Counts) (at : ℕ). firstFault (valuesOf (accountEntry n) (accountValues (n .operators)) at (entries (accountEntry n) accountIn (n .accounts) (drop at s)))) accountsOffset (start .pre .counted) (c .accounts-offset .ensures);
+    }
 
 account-at-requires : tie.Need-account-at-requires Inv-loop μ-loop
-account-at-requires c κs =
-    let l = c .before .loop in
-    let start = c .before .before .before .before .before in
-    omega (arith, l .inv .0, one-more (accountEntry (start .args .n)) (l .left) (l .left - 1) (omega arith))
+account-at-requires c κs = let l = c .before .loop in first-inside (l .inv) (l .left - 1) (omega arith)
 
 account-fault-requires : tie.Need-account-fault-requires Inv-loop μ-loop
 account-fault-requires c κs =
     let l = c .before .before .loop in
     let start = c .before .before .before .before .before .before in
-    omega (arith, l .inv .0, start .pre .short, one-more (accountEntry (start .args .n)) (l .left) (l .left - 1) (omega arith))
+    omega (arith, first-inside (l .inv) (l .left - 1) (omega arith), start .pre .short)
 
 enum-known-r : tie.Need-enum-known-r Inv-loop μ-loop
 enum-known-r c = search needs
 
 returns : tie.Need-returns Inv-loop μ-loop
 returns c =
-    let l = c .before .before .before .before .before .before .loop in
-    first-fails (accountEntry _) accountIn (accountValues _) _ _ _ (l .inv .1) (l .left - 1) (omega arith) (c .before .before .before .before .account-at .ensures) (c .before .before .before .account-fault .ensures) (c .before .r .given .1)
+    let fault = c .before .before .before in
+    let read = fault .before in
+    let l = read .before .before .loop in
+    first-fails (l .inv) (l .left - 1) (omega arith) (read .account-at .ensures) (fault .account-fault .ensures) (c .before .r .given .1)
 
 enum-told : tie.Need-enum-told Inv-loop μ-loop
 enum-told c = search needs
 
 add-at : tie.Need-add-at Inv-loop μ-loop
 add-at c =
-    let l = c .before .before .before .before .before .loop in
-    let start = c .before .before .before .before .before .before .before .before .before in
-    record { fits = omega (arith, l .inv .0, c .before .before .before .before .before .before .before .account-entry .ensures .1, start .pre .short) }
+    let looped = c .before .before .before .before .before in
+    let sized = looped .before .before in
+    record { fits = omega (arith, looped .loop .inv .inside, sized .account-entry .ensures .1, sized .before .before .pre .short) }
 
 sub-left : tie.Need-sub-left Inv-loop μ-loop
 sub-left c = search needs
@@ -72,15 +70,15 @@ loop-less c = search needs
 
 loop-again : tie.Need-loop-again Inv-loop μ-loop
 loop-again c =
-    let l = c .before .before .before .before .before .loop in
-    let start = c .before .before .before .before .before .before .before .before .before in
-    let entry = c .before .before .before .before .before .before .before .account-entry .ensures .0 in (
-      omega (arith, l .inv .0, entry, one-more (accountEntry (start .args .n)) (l .left) (l .left - 1) (omega arith)),
-      rw entry (first-clear (accountEntry (start .args .n)) accountIn (accountValues _) _ _ _ (l .inv .1) (l .left - 1) (omega arith) (c .before .before .before .account-at .ensures) (c .before .before .account-fault .ensures) (c .enum-told .given .1)),
-    )
+    let fault = c .before .before in
+    let read = fault .before in
+    let looped = read .before .before in
+    let l = looped .loop in
+    let entry = looped .before .before .account-entry .ensures .0 in
+    rw entry (first-clear (l .inv) (l .left - 1) (omega arith) (read .account-at .ensures) (fault .account-fault .ensures) (c .enum-told .given .1))
 
 returns-2 : tie.Need-returns-2 Inv-loop μ-loop
-returns-2 c = none-left (accountEntry _) accountIn (accountValues _) _ _ _ (c .before .loop .inv .1) (omega arith)
+returns-2 c = none-left (c .before .loop .inv) (omega arith)
 
 pub account-faults-spec : {M : Type 1} → statement M
 account-faults-spec =

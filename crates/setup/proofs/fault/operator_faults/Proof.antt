@@ -1,20 +1,18 @@
 -- What is left comes to what all come to: an entry with no fault is passed, and the first with one decides.
-use Prim.Native.Nat.{ℕ, _+_, _-_, _*_, _≤_}
-use mathlib.Core.Path.{_≡_}
-use lib.ListN.{length, drop}
+use Prim.Native.Nat.{ℕ, _-_}
+use lib.ListN.{drop}
 use native.Mathlib.Omega.{arith}
 use Rattle.rules.specs.declared.Counts.{Counts}
 use Rattle.rules.specs.Basics.{entries}
 use Rattle.rules.specs.Opening.{operatorIn, operatorsOffset, operatorsIn, operatorValues, valuesOf, operatorEntry}
 use Rattle.setup.specs.Faults.{firstFault, operatorFaults}
-use Rattle.setup.proofs.FaultLaws.{none-left, first-clear, first-fails, at-counts}
+use Rattle.setup.proofs.FaultLaws.{EntriesLeft, none-left, first-clear, first-fails, at-counts}
 use borrow.Author.Needs.{needs}
 use Rattle.setup.proofs.fault.operator_faults.Statement.{statement}
 use Rattle.setup.proofs.fault.operator_faults.Tie as tie
 
 abbrev Inv-loop : tie.InvT-loop
-Inv-loop setup at₀ left₀ at left =
-    (at + operatorEntry * left ≤ length setup) × (firstFault (valuesOf operatorEntry operatorValues at (entries operatorEntry operatorIn left (drop at setup))) ≡ operatorFaults setup)
+Inv-loop setup at₀ left₀ at left = EntriesLeft operatorEntry operatorIn operatorValues setup (operatorFaults setup) at left
 
 abbrev μ-loop : tie.MeasureT-loop
 μ-loop setup at₀ left₀ at left = left
@@ -26,7 +24,10 @@ loop-holds : tie.Need-loop-holds Inv-loop μ-loop
 unfolding operatorFaults operatorsIn
 loop-holds c =
     let s = c .before .before .args .setup .now in
-    (search needs, at-counts (λ (n : Counts) (at : ℕ). firstFault (valuesOf operatorEntry operatorValues at (entries operatorEntry operatorIn (n .operators) (drop at s)))) operatorsOffset (c .before .before .pre .counted) (c .operators-offset .ensures))
+    record {
+      inside = search needs;
+      come-to = at-counts (λ (n : Counts) (at : ℕ). firstFault (valuesOf operatorEntry operatorValues at (entries operatorEntry operatorIn (n .operators) (drop at s)))) operatorsOffset (c .before .before .pre .counted) (c .operators-offset .ensures);
+    }
 
 operator-at-requires : tie.Need-operator-at-requires Inv-loop μ-loop
 operator-at-requires c κs = search needs
@@ -39,8 +40,10 @@ enum-known-r c = search needs
 
 returns : tie.Need-returns Inv-loop μ-loop
 returns c =
-    let l = c .before .before .before .before .before .before .loop in
-    first-fails operatorEntry operatorIn operatorValues _ _ _ (l .inv .1) (l .left - 1) (omega arith) (c .before .before .before .before .operator-at .ensures) (c .before .before .before .operator-fault .ensures) (c .before .r .given .1)
+    let fault = c .before .before .before in
+    let read = fault .before in
+    let l = read .before .before .loop in
+    first-fails (l .inv) (l .left - 1) (omega arith) (read .operator-at .ensures) (fault .operator-fault .ensures) (c .before .r .given .1)
 
 enum-told : tie.Need-enum-told Inv-loop μ-loop
 enum-told c = search needs
@@ -56,11 +59,13 @@ loop-less c = search needs
 
 loop-again : tie.Need-loop-again Inv-loop μ-loop
 loop-again c =
-    let l = c .before .before .before .before .before .loop in
-    (search needs, first-clear operatorEntry operatorIn operatorValues _ _ _ (l .inv .1) (l .left - 1) (omega arith) (c .before .before .before .operator-at .ensures) (c .before .before .operator-fault .ensures) (c .enum-told .given .1))
+    let fault = c .before .before in
+    let read = fault .before in
+    let l = read .before .before .loop in
+    first-clear (l .inv) (l .left - 1) (omega arith) (read .operator-at .ensures) (fault .operator-fault .ensures) (c .enum-told .given .1)
 
 returns-2 : tie.Need-returns-2 Inv-loop μ-loop
-returns-2 c = none-left operatorEntry operatorIn operatorValues _ _ _ (c .before .loop .inv .1) (omega arith)
+returns-2 c = none-left (c .before .loop .inv) (omega arith)
 
 pub operator-faults-spec : {M : Type 1} → statement M
 operator-faults-spec =

@@ -1,20 +1,18 @@
 -- What is left comes to what all come to: an entry with no fault is passed, and the first with one decides.
-use Prim.Native.Nat.{ℕ, _+_, _-_, _*_, _≤_}
-use mathlib.Core.Path.{_≡_}
-use lib.ListN.{length, drop}
+use Prim.Native.Nat.{ℕ, _-_}
+use lib.ListN.{drop}
 use native.Mathlib.Omega.{arith}
 use Rattle.rules.specs.declared.Counts.{Counts}
 use Rattle.rules.specs.Basics.{entries}
 use Rattle.rules.specs.Opening.{pointIn, pointsOffset, accountsIn, pointsIn, pointValues, valuesOf, pointEntry}
 use Rattle.setup.specs.Faults.{firstFault, pointFaults}
-use Rattle.setup.proofs.FaultLaws.{none-left, first-clear, first-fails, at-counts}
+use Rattle.setup.proofs.FaultLaws.{EntriesLeft, none-left, first-clear, first-fails, at-counts}
 use borrow.Author.Needs.{needs}
 use Rattle.setup.proofs.fault.point_faults.Statement.{statement}
 use Rattle.setup.proofs.fault.point_faults.Tie as tie
 
 abbrev Inv-loop : tie.InvT-loop
-Inv-loop setup n at₀ left₀ at left =
-    (at + pointEntry * left ≤ length setup) × (firstFault (valuesOf pointEntry (pointValues (accountsIn setup) (n .zones)) at (entries pointEntry pointIn left (drop at setup))) ≡ pointFaults setup)
+Inv-loop setup n at₀ left₀ at left = EntriesLeft pointEntry pointIn (pointValues (accountsIn setup) (n .zones)) setup (pointFaults setup) at left
 
 abbrev μ-loop : tie.MeasureT-loop
 μ-loop setup n at₀ left₀ at left = left
@@ -26,7 +24,10 @@ loop-holds : tie.Need-loop-holds Inv-loop μ-loop
 unfolding pointFaults pointsIn
 loop-holds c =
     let s = c .before .before .args .setup .now in
-    (search needs, at-counts (λ (n : Counts) (at : ℕ). firstFault (valuesOf pointEntry (pointValues (accountsIn s) (n .zones)) at (entries pointEntry pointIn (n .points) (drop at s)))) pointsOffset (c .before .before .pre .counted) (c .points-offset .ensures .0))
+    record {
+      inside = search needs;
+      come-to = at-counts (λ (n : Counts) (at : ℕ). firstFault (valuesOf pointEntry (pointValues (accountsIn s) (n .zones)) at (entries pointEntry pointIn (n .points) (drop at s)))) pointsOffset (c .before .before .pre .counted) (c .points-offset .ensures .0);
+    }
 
 point-at-requires : tie.Need-point-at-requires Inv-loop μ-loop
 point-at-requires c κs = search needs
@@ -39,8 +40,10 @@ enum-known-r c = search needs
 
 returns : tie.Need-returns Inv-loop μ-loop
 returns c =
-    let l = c .before .before .before .before .before .before .loop in
-    first-fails pointEntry pointIn (pointValues _ _) _ _ _ (l .inv .1) (l .left - 1) (omega arith) (c .before .before .before .before .point-at .ensures) (c .before .before .before .point-fault .ensures) (c .before .r .given .1)
+    let fault = c .before .before .before in
+    let read = fault .before in
+    let l = read .before .before .loop in
+    first-fails (l .inv) (l .left - 1) (omega arith) (read .point-at .ensures) (fault .point-fault .ensures) (c .before .r .given .1)
 
 enum-told : tie.Need-enum-told Inv-loop μ-loop
 enum-told c = search needs
@@ -56,11 +59,13 @@ loop-less c = search needs
 
 loop-again : tie.Need-loop-again Inv-loop μ-loop
 loop-again c =
-    let l = c .before .before .before .before .before .loop in
-    (search needs, first-clear pointEntry pointIn (pointValues _ _) _ _ _ (l .inv .1) (l .left - 1) (omega arith) (c .before .before .before .point-at .ensures) (c .before .before .point-fault .ensures) (c .enum-told .given .1))
+    let fault = c .before .before in
+    let read = fault .before in
+    let l = read .before .before .loop in
+    first-clear (l .inv) (l .left - 1) (omega arith) (read .point-at .ensures) (fault .point-fault .ensures) (c .enum-told .given .1)
 
 returns-2 : tie.Need-returns-2 Inv-loop μ-loop
-returns-2 c = none-left pointEntry pointIn (pointValues _ _) _ _ _ (c .before .loop .inv .1) (omega arith)
+returns-2 c = none-left (c .before .loop .inv) (omega arith)
 
 pub point-faults-spec : {M : Type 1} → statement M
 point-faults-spec =

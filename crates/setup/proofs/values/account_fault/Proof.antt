@@ -3,7 +3,6 @@ use native.Mathlib.Omega.{arith}
 use Rattle.rules.specs.Opening.{accountValues}
 use Rattle.rules.proofs.Setups.SetupEntries.{account-wide}
 use Rattle.setup.specs.Faults.{firstFaultFrom}
-use borrow.Author.Needs.{needs}
 use Rattle.setup.proofs.values.account_fault.Statement.{statement}
 use Rattle.setup.proofs.values.account_fault.Tie as tie
 
@@ -23,10 +22,16 @@ or-fault-requires-3 : tie.Need-or-fault-requires-3
 or-fault-requires-3 c κs = let start = c .before .before .before .before .before .before .before .before in omega (arith, start .pre, account-wide (start .args .n))
 
 add-or-fault-3 : tie.Need-add-or-fault-3
-add-or-fault-3 c = let start = c .before .before .before .before .before .before .before .before .before .before in record { fits = omega (arith, start .pre, account-wide (start .args .n)) }
+add-or-fault-3 c =
+    let operator = c .before .before .before .before .before .before in
+    let start = operator .before .before .before .before in
+    record { fits = omega (arith, start .pre, account-wide (start .args .n)) }
 
 or-fault-requires-4 : tie.Need-or-fault-requires-4
-or-fault-requires-4 c κs = let start = c .before .before .before .before .before .before .before .before .before .before in omega (arith, start .pre, account-wide (start .args .n))
+or-fault-requires-4 c κs =
+    let operator = c .before .before .before .before .before .before in
+    let start = operator .before .before .before .before in
+    omega (arith, start .pre, account-wide (start .args .n))
 
 returns : tie.Need-returns
 unfolding accountValues firstFaultFrom

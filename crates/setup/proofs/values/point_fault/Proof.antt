@@ -16,30 +16,40 @@ or-fault-requires : tie.Need-or-fault-requires
 or-fault-requires c κs = omega (arith, c .before .before .before .before .before .pre .1)
 
 add-or-fault : tie.Need-add-or-fault
-add-or-fault c = record { fits = omega (arith, c .before .before .before .before .before .before .before .before .before .before .pre .1) }
+add-or-fault c =
+    let account = c .before .before .before .before in
+    record { fits = omega (arith, account .before .before .before .before .before .before .pre .1) }
 
 or-fault-requires-2 : tie.Need-or-fault-requires-2
-or-fault-requires-2 c κs = omega (arith, c .before .before .before .before .before .before .before .before .before .before .pre .1)
+or-fault-requires-2 c κs =
+    let account = c .before .before .before .before in
+    omega (arith, account .before .before .before .before .before .before .pre .1)
 
 add-or-fault-2 : tie.Need-add-or-fault-2
-add-or-fault-2 c = record { fits = omega (arith, c .before .before .before .before .before .before .before .before .before .before .before .before .before .before .pre .1) }
+add-or-fault-2 c =
+    let account = c .before .before .before .before .before .before .before .before in
+    record { fits = omega (arith, account .before .before .before .before .before .before .pre .1) }
 
 or-fault-requires-3 : tie.Need-or-fault-requires-3
-or-fault-requires-3 c κs = omega (arith, c .before .before .before .before .before .before .before .before .before .before .before .before .before .before .pre .1)
+or-fault-requires-3 c κs =
+    let account = c .before .before .before .before .before .before .before .before in
+    omega (arith, account .before .before .before .before .before .before .pre .1)
 
 amounts-fault-requires : tie.Need-amounts-fault-requires
-amounts-fault-requires c κs = omega (arith, c .before .before .before .before .before .before .before .before .before .before .before .before .before .before .before .pre .1)
+amounts-fault-requires c κs =
+    let kind = c .before .before .before .before in
+    let account = kind .before .before .before .before .before in
+    omega (arith, account .before .before .before .before .before .before .pre .1)
 
 returns : tie.Need-returns
 unfolding pointValues firstFaultFrom
 returns c =
-    let zone = c .before .or-fault3 .ensures in
-    let kind = c .before .before .before .before .before .or-fault2 .ensures in
-    let account = c .before .before .before .before .before .before .before .before .before .before .or-fault .ensures in
-    let own = c .before .before .before .before .before .before .before .before .before .before .before .before .before .before .kind-of .ensures in
-    let start = c .before .before .before .before .before .before .before .before .before .before .before .before .before .before .before .before in
-    let count = ap (λ (n : Counts). n .accounts) (start .pre .0 .counted) in
-    rw (c .amounts-fault .ensures, zone, kind, account, own, length-accounts, ← count)
+    let zone = c .before in
+    let kind = zone .before .before .before .before in
+    let account = kind .before .before .before .before .before in
+    let own = account .before .before .before .before in
+    let count = ap (λ (n : Counts). n .accounts) (own .before .before .pre .0 .counted) in
+    rw (c .amounts-fault .ensures, zone .or-fault3 .ensures, kind .or-fault2 .ensures, account .or-fault .ensures, own .kind-of .ensures, length-accounts, ← count)
 
 pub point-fault-spec : {M : Type 1} → statement M
 point-fault-spec =
