@@ -30,7 +30,9 @@ use Rattle.image.proofs.Sound.Soundness.{SoundSetup, SoundRow}
 use Rattle.image.proofs.Setups.SetupRanges.{InRange, values-in-range}
 use Rattle.image.proofs.Setups.SetupAgain.{counts-first-bytes, setup-short, setup-in-front}
 use Rattle.image.proofs.Reading.Places.{decode-places}
-use Rattle.book.specs.Worth.{AccountsAt}
+use Rattle.book.specs.declared.worth.AccountEntries.{AccountEntries}
+use Rattle.book.specs.Members.{IsAccount, IsOperator, IsRow, numberedRow}
+use Rattle.book.specs.Worth.{entriesIn}
 use Rattle.book.proofs.StateLaws.{book-length, book-is-sound, row-count-stands}
 
 -- ---- a part
@@ -119,28 +121,28 @@ module _ (s : List ℕ) (h : isBook s ≡ true) where
   hours-few = book-is-sound s h .setup-sound .hours-high
 
   -- the operator of an account stands in the first byte of the account's entry
-  module _ (from width a : ℕ) (places : AccountsAt from width s) (low : 1 ≤ a) (high : a ≤ accountCount (bookIn s .setup)) where
+  module _ (a : ℕ) (entries : AccountEntries) (e : entries ≡ entriesIn s) (own : IsAccount (bookIn s) a) where
     within : a ≤ countsIn s .accounts
-    within = omega (arith, ap (λ (m : Counts). m .accounts) counts-in)
+    within = omega (arith, own .1, ap (λ (m : Counts). m .accounts) counts-in)
 
-    place : from + width * (a - 1) ≡ accountOffset (countsIn s) a
-    place = rw (places .0, places .1)
+    place : entries .from + entries .width * (a - 1) ≡ accountOffset (countsIn s) a
+    place = rw e
 
-    pub entry-inside : from + width * (a - 1) < length s
-    entry-inside = omega (arith, place, account-inside (countsIn s) a low within, account-wide (countsIn s), setup-tabled .whole)
+    pub entry-inside : entries .from + entries .width * (a - 1) < length s
+    entry-inside = omega (arith, place, account-inside (countsIn s) a (own .0) within, account-wide (countsIn s), setup-tabled .whole)
 
-    pub entry-operator-is : numberAt s (from + width * (a - 1)) 1 ≡ operatorOf (bookIn s .setup) a
+    pub entry-operator-is : numberAt s (entries .from + entries .width * (a - 1)) 1 ≡ operatorOf (bookIn s .setup) a
     unfolding setupOf
     entry-operator-is =
-        let entry = account-numbered s (countsIn s) refl a place (sym (account-at s (from + width * (a - 1)) (countsIn s))) low within in
+        let entry = account-numbered s (countsIn s) refl a place (sym (account-at s (entries .from + entries .width * (a - 1)) (countsIn s))) (own .0) within in
         ap (λ (x : Account). x .operator) entry ∙ sym (ap (λ (u : Setup). operatorOf u a) setup-in)
 
   -- the row of a number is sound, and the table has room for it
-  pub numbered-sound : (n : ℕ) → 1 ≤ n → n ≤ length (bookIn s .part .rows) → SoundRow (bookIn s .setup) (nth (bookIn s .part .rows) n noRow)
-  numbered-sound n low high = each-nth noRow n (book-is-sound s h .part-sound .rows-sound) low high
+  pub numbered-sound : (n : ℕ) → IsRow (bookIn s) n → SoundRow (bookIn s .setup) (numberedRow (bookIn s) n)
+  numbered-sound n own = each-nth noRow n (book-is-sound s h .part-sound .rows-sound) (own .0) (own .1)
 
-  pub numbered-tabled : (n : ℕ) → 1 ≤ n → n ≤ length (bookIn s .part .rows) → Tabled mostHours (nth (bookIn s .part .rows) n noRow)
-  numbered-tabled n low high = sound-tabled (bookIn s .setup) (book-is-sound s h .setup-sound) _ (numbered-sound n low high)
+  pub numbered-tabled : (n : ℕ) → IsRow (bookIn s) n → Tabled mostHours (numberedRow (bookIn s) n)
+  numbered-tabled n own = sound-tabled (bookIn s .setup) (book-is-sound s h .setup-sound) _ (numbered-sound n own)
 
   module _ (n : ℕ) (e : n ≡ length (bookIn s .part .rows)) where
     few : n ≤ mostRows
@@ -159,7 +161,6 @@ module _ (s : List ℕ) (h : isBook s ≡ true) where
 -- ---- the operator of a calling account
 
 -- the operator of an account is one of the book's
-pub caller-operator : (s : List ℕ) (a : ℕ) → isBook s ≡ true → 1 ≤ a → a ≤ accountCount (bookIn s .setup)
-    → (1 ≤ operatorOf (bookIn s .setup) a) × (operatorOf (bookIn s .setup) a ≤ operatorCount (bookIn s .setup))
-caller-operator s zero h low high = absurd (omega arith)
-caller-operator s (suc i) h low high = let x = each-at noAccount i (values-in s h .accounts-sound) (omega arith) in (x .operator-low, x .operator-high)
+pub caller-operator : (s : List ℕ) (a : ℕ) → isBook s ≡ true → IsAccount (bookIn s) a → IsOperator (bookIn s) (operatorOf (bookIn s .setup) a)
+caller-operator s zero h own = absurd (omega arith)
+caller-operator s (suc i) h own = let x = each-at noAccount i (values-in s h .accounts-sound) (omega arith) in (x .operator-low, x .operator-high)

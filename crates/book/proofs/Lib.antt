@@ -11,9 +11,9 @@ pub mod BookRows
 pub mod ReadingLaws
 -- NettedLaws: a net position off its 4 bytes.
 pub mod NettedLaws
--- WaitLaws: what waits on one account, row by row.
+-- WaitLaws: the pending rows of one account, added to the table row by row.
 pub mod WaitLaws
--- WorthLaws: exposure as what lies below zero and what waits, and what a trade does to it.
+-- WorthLaws: exposure as the sum of net positions below zero and pending sales, and what a trade does to it.
 pub mod WorthLaws
 -- WorthParts: pending sales at sums of estimated prices, row by row, and the exposure of its parts.
 pub mod WorthParts

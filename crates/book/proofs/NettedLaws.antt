@@ -8,10 +8,10 @@ use Rattle.wire.specs.Numbers.{numberAt}
 use Rattle.units.specs.Units.{kwh}
 use Rattle.rules.specs.declared.Net.{Net}
 use Rattle.rules.specs.Limits.{mostHours}
-use Rattle.rules.specs.Books.{accountCount, periods}
 use Rattle.rules.specs.Registration.{netOf}
 use Rattle.image.specs.Layout.{presentOffset, netOffset, netWidth}
 use Rattle.image.specs.Valid.{isBook, bookIn}
+use Rattle.book.specs.Members.{IsAccount, IsHour}
 use Rattle.book.specs.Netted.{netted}
 use Rattle.book.proofs.ReadingLaws.{net-near, net-stored}
 
@@ -21,7 +21,7 @@ use Rattle.book.proofs.ReadingLaws.{net-near, net-stored}
 net-same : (b s c d : ℕ) → b ≡ c → s ≡ d → _≡_ {A = Net} (record { bought = kwh b; sold = kwh s }) (record { bought = kwh c; sold = kwh d })
 net-same b s c d e f = rw (e, f)
 
-module _ (s : List ℕ) (k : isBook s ≡ true) (a h : ℕ) (i : (1 ≤ a) × (a ≤ accountCount (bookIn s .setup))) (j : (1 ≤ h) × (h ≤ periods (bookIn s .setup)))
+module _ (s : List ℕ) (k : isBook s ≡ true) (a h : ℕ) (i : IsAccount (bookIn s) a) (j : IsHour (bookIn s) h)
     (v : ℕ) (q : v ≡ numberAt s (presentOffset + netOffset mostHours a h) netWidth) where
   -- below half a turn they say what was bought
   pub net-bought : v < 2 ^ 31 → record { bought = kwh v; sold = kwh 0 } ≡ netted (netOf (bookIn s .part .rows) a h)

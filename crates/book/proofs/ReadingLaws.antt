@@ -34,6 +34,7 @@ use Rattle.rules.proofs.Checks.Clearing.{clear-applies}
 use Rattle.image.specs.Layout.{presentOffset, netOffset, netWidth}
 use Rattle.image.specs.Valid.{isBook, bookIn}
 use Rattle.image.specs.Tables.{InTable}
+use Rattle.book.specs.Members.{IsAccount, IsHour}
 use Rattle.image.proofs.Writing.Sizes.{fits}
 use Rattle.image.proofs.Setups.SetupRanges.{InRange, SoundAccount}
 use Rattle.image.proofs.Round.{book-is-image}
@@ -89,7 +90,7 @@ margins-near account x operators k h =
 
 -- ---- the net of an account hour of a book
 
-module _ (s : List ℕ) (h : isBook s ≡ true) (a t : ℕ) (i : (1 ≤ a) × (a ≤ accountCount (bookIn s .setup))) (j : (1 ≤ t) × (t ≤ periods (bookIn s .setup)))
+module _ (s : List ℕ) (h : isBook s ≡ true) (a t : ℕ) (i : IsAccount (bookIn s) a) (j : IsHour (bookIn s) t)
   where
     -- it is within the margins
     pub net-near : (sold (bookIn s .part .rows) a t ≤ bought (bookIn s .part .rows) a t + mostEnergy) × (bought (bookIn s .part .rows) a t ≤ sold (bookIn s .part .rows) a t + mostEnergy)

@@ -1,5 +1,5 @@
 -- What lies below zero of the net positions: off the bytes of a book, in an hour, for an account and for an operator.
-use Prim.Native.Nat.{ℕ, _-_, _*_, _≤_}
+use Prim.Native.Nat.{ℕ, _*_, _≤_}
 use mathlib.Core.Path.{_≡_, refl, sym, ap, _∙_}
 use mathlib.Core.List.{List, [], _∷_}
 use mathlib.Core.Bool.{Bool, true, false, _&&_, _||_, and-false}
@@ -17,8 +17,9 @@ use Rattle.rules.specs.Registration.{confirmed, includesHour, seller, netOf, af
 use Rattle.rules.proofs.Basics.Tests.{or-neither}
 use Rattle.image.specs.Valid.{isBook, bookIn}
 use Rattle.image.proofs.Tables.MoneyLaws.{where-most}
+use Rattle.book.specs.Members.{IsAccount, IsHour}
 use Rattle.book.specs.Netted.{netted}
-use Rattle.book.specs.Worth.{shortAfter, shortWorth, accountShort, shortShare, netWith}
+use Rattle.book.specs.Worth.{shortOf, shortAfter, shortWorth, accountShort, shortShare, netWith, mostShort}
 use Rattle.book.proofs.ReadingLaws.{net-near}
 
 -- ---- an hour
@@ -37,7 +38,7 @@ neither : (x y z : Bool) → x && (y || z) ≡ false → x ≡ true → (y ≡ f
 neither true y z h e = or-neither y z .0 h
 neither false y z h e = let w : false ≡ true = e in (cc, cc)
 
-module _ (s : List ℕ) (k : isBook s ≡ true) (a h : ℕ) (i : (1 ≤ a) × (a ≤ accountCount (bookIn s .setup))) (j : (1 ≤ h) × (h ≤ periods (bookIn s .setup)))
+module _ (s : List ℕ) (k : isBook s ≡ true) (a h : ℕ) (i : IsAccount (bookIn s) a) (j : IsHour (bookIn s) h)
     (net : Net) (e : net ≡ netted (netOf (bookIn s .part .rows) a h)) where
   -- what was read is in range
   pub net-small : (net .bought .0 ≤ mostEnergy) × (net .sold .0 ≤ mostEnergy)
@@ -46,8 +47,7 @@ module _ (s : List ℕ) (k : isBook s ≡ true) (a h : ℕ) (i : (1 ≤ a) × (a
 
   module _ (r : ℕ) where
     -- where nothing is added
-    pub short-alone : r ≡ net .sold .0 - net .bought .0
-        → (r ≡ netWith (bookIn s .part .rows) [] a h .sold .0 - netWith (bookIn s .part .rows) [] a h .bought .0) × (r ≤ 2 * mostEnergy)
+    pub short-alone : r ≡ shortOf net → (r ≡ shortOf (netWith (bookIn s .part .rows) [] a h)) × (r ≤ mostShort)
     unfolding netted
     short-alone d =
         let b = ap (λ (n : Net). n .bought .0) e in
@@ -57,7 +57,7 @@ module _ (s : List ℕ) (k : isBook s ≡ true) (a h : ℕ) (i : (1 ≤ a) × (a
 
     -- and where a trade is
     pub short-one : (trade : Row) → trade .quantity .0 ≤ mostEnergy → r ≡ shortAfter net trade a h
-        → (r ≡ netWith (bookIn s .part .rows) (trade ∷ []) a h .sold .0 - netWith (bookIn s .part .rows) (trade ∷ []) a h .bought .0) × (r ≤ 2 * mostEnergy)
+        → (r ≡ shortOf (netWith (bookIn s .part .rows) (trade ∷ []) a h)) × (r ≤ mostShort)
     unfolding netted afterTrade shortAfter
     short-one trade small d =
         let b = ap (λ (n : Net). n .bought .0) e in
@@ -67,7 +67,7 @@ module _ (s : List ℕ) (k : isBook s ≡ true) (a h : ℕ) (i : (1 ≤ a) × (a
         (omega arith, omega arith)
 
 -- a trade that moves nothing of the account
-pub short-still : (net : Net) (trade : Row) (a h r : ℕ) → moves a trade ≡ false → r ≡ net .sold .0 - net .bought .0 → r ≡ shortAfter net trade a h
+pub short-still : (net : Net) (trade : Row) (a h r : ℕ) → moves a trade ≡ false → r ≡ shortOf net → r ≡ shortAfter net trade a h
 unfolding afterTrade shortAfter
 short-still net trade a h r idle d =
     let none = neither (confirmed trade) (eqb (trade .proposer) a) (eqb (trade .counterparty) a) idle in
@@ -77,14 +77,14 @@ short-still net trade a h r idle d =
 
 -- at the hour's price
 unfoldable pub hourShort : Setup → (ℕ → ℕ → Net) → ℕ → ℕ → ℕ
-hourShort u net a h = estimateAt u h .0 * (net a h .sold .0 - net a h .bought .0)
+hourShort u net a h = estimateAt u h .0 * shortOf (net a h)
 
-pub hour-short-read : (u : Setup) (net : ℕ → ℕ → Net) (a h below : ℕ) (price : CentsPerMwh) {r : ℕ} → below ≡ net a h .sold .0 - net a h .bought .0
+pub hour-short-read : (u : Setup) (net : ℕ → ℕ → Net) (a h below : ℕ) (price : CentsPerMwh) {r : ℕ} → below ≡ shortOf (net a h)
     → price ≡ estimateAt u h → r ≡ below * price .0 → r ≡ hourShort u net a h
 unfolding hourShort
 hour-short-read u net a h below price e d f = f ∙ mul-comm below (price .0) ∙ rw (← e, ← d)
 
-pub short-most : (below price : ℕ) → below ≤ 2 * mostEnergy → price ≤ mostPrice → below * price ≤ 2 * mostEnergy * mostPrice
+pub short-most : (below price : ℕ) → below ≤ mostShort → price ≤ mostPrice → below * price ≤ mostShort * mostPrice
 short-most below price a b = mul-le-mul a b
 
 -- ---- an account and an operator

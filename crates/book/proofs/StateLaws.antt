@@ -10,7 +10,7 @@ use lib.Dec.{eqb}
 use Rattle.wire.specs.Numbers.{numberAt}
 use Rattle.wire.specs.Parts.{startOf}
 use Rattle.rules.specs.declared.Row.{Row}
-use Rattle.rules.specs.Basics.{isSome, nth}
+use Rattle.rules.specs.Basics.{isSome}
 use Rattle.rules.specs.Limits.{mostHours, mostRows, mostSchedules, bookSize}
 use Rattle.rules.specs.Books.{Part, Book, noRow}
 use Rattle.rules.specs.Calls.{restored}
@@ -24,6 +24,7 @@ use Rattle.image.proofs.Keeping.KeepsRows.{follows-cons}
 use Rattle.image.proofs.Keeping.Keeps.{batch-follows}
 use Rattle.image.proofs.Reading.ImageReads.{phase-read, flag-read, schedule-count-read, row-count-read, saved-row-count-read, row-read, row-value-read}
 use Rattle.image.proofs.Round.{row-back, book-is-image, length-book}
+use Rattle.book.specs.Members.{IsRow, numberedRow}
 
 -- the flag says whether a batch is open
 flag-open : (o : Option Part) → eqb (flag o) 1 ≡ isSome o
@@ -104,16 +105,16 @@ module _ (s : List ℕ) (h : isBook s ≡ true) where
       number-in-book at (getD rowWidths k 0) ∙ row-value-read mostHours bookSize b book-fits i k at l small e
 
   -- the same of the row of a number
-  pub numbered-value-stands : (n k at : ℕ) → 1 ≤ n → n ≤ length (bookIn s .part .rows) → at ≡ presentOffset + rowOffset (n - 1) + startOf rowWidths k
-      → numberAt s at (getD rowWidths k 0) ≡ getD (rowValues (nth (bookIn s .part .rows) n noRow)) k 0
-  numbered-value-stands zero k at low high e = absurd (omega arith)
-  numbered-value-stands (suc i) k at low high e = row-value-stands i k at (omega arith) (omega arith)
+  pub numbered-value-stands : (n k at : ℕ) → IsRow (bookIn s) n → at ≡ presentOffset + rowOffset (n - 1) + startOf rowWidths k
+      → numberAt s at (getD rowWidths k 0) ≡ getD (rowValues (numberedRow (bookIn s) n)) k 0
+  numbered-value-stands zero k at own e = absurd (omega arith)
+  numbered-value-stands (suc i) k at own e = row-value-stands i k at (omega arith) (omega arith)
 
   -- the whole row of a number
-  pub numbered-row-stands : (n at : ℕ) → 1 ≤ n → n ≤ length (bookIn s .part .rows) → at ≡ presentOffset + rowOffset (n - 1)
-      → rowIn (take rowWidth (drop at s)) ≡ nth (bookIn s .part .rows) n noRow
-  numbered-row-stands zero at low high e = absurd (omega arith)
-  numbered-row-stands (suc i) at low high e =
+  pub numbered-row-stands : (n at : ℕ) → IsRow (bookIn s) n → at ≡ presentOffset + rowOffset (n - 1)
+      → rowIn (take rowWidth (drop at s)) ≡ numberedRow (bookIn s) n
+  numbered-row-stands zero at own e = absurd (omega arith)
+  numbered-row-stands (suc i) at own e =
       let b : Book = bookIn s in
       let r : Row = getD (b .part .rows) i noRow in
       let here : take rowWidth (drop at s) ≡ rowBytes r =

@@ -13,13 +13,14 @@ use Rattle.wire.specs.Numbers.{numberAt}
 use Rattle.rules.specs.declared.Row.{Row}
 use Rattle.rules.specs.Basics.{if_then_else_, total, anyPasses, nth}
 use Rattle.rules.specs.Limits.{mostEnergy, mostHours}
-use Rattle.rules.specs.Books.{noRow, periods}
+use Rattle.rules.specs.Books.{noRow}
 use Rattle.rules.specs.Registration.{pending, includesHour, alike, waiting}
 use Rattle.image.specs.Layout.{presentOffset, rowOffset}
 use Rattle.image.specs.Valid.{isBook, bookIn}
 use Rattle.image.specs.Tables.{cellOf, InTable, Tabled, Raised}
 use Rattle.image.proofs.Tables.SumLaws.{raised-cell, raised-most, zero-at}
 use Rattle.image.proofs.Reading.RowBytes.{row-at}
+use Rattle.book.specs.Members.{IsHour, IsRow, numberedRow}
 use Rattle.book.specs.Waits.{waitCell, Waits, WaitsOf, noWaits, WaitAdded, waitsSize}
 use Rattle.book.proofs.StateLaws.{book-is-sound, numbered-row-stands}
 
@@ -118,10 +119,10 @@ waiting-last a rows k table e n f =
 -- ---- a book
 
 -- the proposer of the row of a number stands in its first byte, its status in its last
-pub own-stands : (s : List ℕ) (h : isBook s ≡ true) (n at : ℕ) → 1 ≤ n → n ≤ length (bookIn s .part .rows) → at ≡ presentOffset + rowOffset (n - 1)
-    → (numberAt s at 1 ≡ nth (bookIn s .part .rows) n noRow .proposer) × (numberAt s (at + 17) 1 ≡ nth (bookIn s .part .rows) n noRow .status)
-own-stands s h n at low high e =
-    let r = sym (row-at s at) ∙ numbered-row-stands s h n at low high e in
+pub own-stands : (s : List ℕ) (h : isBook s ≡ true) (n at : ℕ) → IsRow (bookIn s) n → at ≡ presentOffset + rowOffset (n - 1)
+    → (numberAt s at 1 ≡ numberedRow (bookIn s) n .proposer) × (numberAt s (at + 17) 1 ≡ numberedRow (bookIn s) n .status)
+own-stands s h n at own e =
+    let r = sym (row-at s at) ∙ numbered-row-stands s h n at own e in
     (ap (λ (x : Row). x .proposer) r, ap (λ (x : Row). x .status) r)
 
 -- nothing is taken of another's row, nor of one that does not wait
@@ -175,6 +176,6 @@ module _ (p : Row → Bool) (rows : List Row) where
   told-last k found e h = sym (or-false found) ∙ rw (e, drop-length rows) at h
 
 -- a side and an hour of the set-up have their cell
-pub side-hour : (s : List ℕ) → isBook s ≡ true → (side h : ℕ) → 1 ≤ side → side ≤ 2 → (1 ≤ h) × (h ≤ periods (bookIn s .setup)) → Waits side h
+pub side-hour : (s : List ℕ) → isBook s ≡ true → (side h : ℕ) → 1 ≤ side → side ≤ 2 → IsHour (bookIn s) h → Waits side h
 side-hour s b side h low high i =
     record { side-low = low; side-high = high; hour-low = i .0; hour-high = omega (arith, i .1, book-is-sound s b .setup-sound .hours-high) }

@@ -26,7 +26,8 @@ use Rattle.rules.proofs.Basics.Differences.{lt-or-ge}
 use Rattle.image.specs.Valid.{isBook, bookIn}
 use Rattle.image.proofs.Sound.Soundness.{SoundRow}
 use Rattle.image.proofs.Tables.MoneyLaws.{price-most}
-use Rattle.book.specs.Worth.{shortWorth, spanPrice, saleWorth, PriceSums, TradeInRange, netWith, sumsSize}
+use Rattle.book.specs.declared.worth.AccountEntries.{AccountEntries}
+use Rattle.book.specs.Worth.{shortWorth, spanPrice, saleWorth, PriceSums, PricedSpan, SaleInputs, TradeInRange, netWith, sumsSize, mostPriceSum, mostSaleWorth}
 use Rattle.book.proofs.BookRows.{counts-in, setup-in, estimates-in, values-in}
 use Rattle.book.proofs.StateLaws.{book-is-sound}
 use Rattle.book.proofs.WorthLaws.{exposure-split}
@@ -142,19 +143,32 @@ module _ (price : ℕ → ℕ) (first last : ℕ) where
 
 -- what the sums say of a row's hours
 pub record Spanned (u : Setup) (sums : List ℕ) (r : Row) : Type 0 where
-  pub ordered : getD sums (r .first - 1) 0 ≤ getD sums (r .last) 0
-  pub high : getD sums (r .last) 0 ≤ mostHours * mostPrice
+  pub priced : PricedSpan sums (r .first) (r .last) (r .quantity .0)
   pub exact : getD sums (r .last) 0 - getD sums (r .first - 1) 0 ≡ spanPrice u r
 
-pub spanned : (u : Setup) (sums : List ℕ) (r : Row) → Each (λ p. p .0 ≤ mostPrice) (u .estimates) → periods u ≤ mostHours → PriceSums u sums
-    → (1 ≤ r .first) × (r .first ≤ r .last) × (r .last ≤ periods u) → Spanned u sums r
+pub spanned : (s sums : List ℕ) (entries : AccountEntries) (r : Row) → SaleInputs s sums entries → TradeInRange (bookIn s .setup) r → pending r ≡ true
+    → Spanned (bookIn s .setup) sums r
 unfolding spanPrice
-spanned u sums r cheap short t k =
+spanned s sums entries r i t p =
+    let u = bookIn s .setup in
+    let k = t .hours-known p in
     let whole = span-sum (λ h. estimateAt u h .0) (r .first) (r .last) (periods u) (k .0) (k .1) (k .2) in
-    let end = t .sum (r .last) (k .2) in
-    let start = t .sum (r .first - 1) (omega arith) in
-    let most = prices-most u cheap (r .last) in
-    record { ordered = omega arith; high = omega arith; exact = omega arith }
+    let end = i .price-sums .sum (r .last) (k .2) in
+    let start = i .price-sums .sum (r .first - 1) (omega arith) in
+    let most = prices-most u (cheap-in s (i .is-book)) (r .last) in
+    let short = book-is-sound s (i .is-book) .setup-sound .hours-high in
+    record {
+      priced = record {
+        whole = i .price-sums .whole;
+        first-low = k .0;
+        in-order = k .1;
+        last-high = omega arith;
+        sums-in-order = omega arith;
+        sums-high = omega arith;
+        quantity-high = t .quantity-high;
+      };
+      exact = omega arith;
+    }
 
 -- ---- pending sales
 
@@ -195,16 +209,16 @@ unfolding saleWorth
 sale-of-own u o r x e d n = rw (both-hold (pending r) (eqb (r .side) 1) e, eq-eqb (operatorOf u (r .proposer)) o (sym d ∙ n))
 
 -- a quantity in range at prices in range
-pub span-most : (q p : ℕ) → q ≤ mostEnergy → p ≤ mostHours * mostPrice → q * p ≤ mostEnergy * (mostHours * mostPrice)
+pub span-most : (q p : ℕ) → q ≤ mostEnergy → p ≤ mostPriceSum → q * p ≤ mostSaleWorth
 span-most q p a b = mul-le-mul a b
 
 -- a sale of the operator's, by the sums of its hours
-pub sale-priced : (u : Setup) (o : ℕ) (sums : List ℕ) (r : Row) (x m : ℕ) → Spanned u sums r → r .quantity .0 ≤ mostEnergy
+pub sale-priced : (u : Setup) (o : ℕ) (sums : List ℕ) (r : Row) (x m : ℕ) → Spanned u sums r
     → not (pending r) || not (eqb (r .side) 1) ≡ false → x ≡ operatorOf u (r .proposer) → x ≡ o
-    → m ≡ r .quantity .0 * (getD sums (r .last) 0 - getD sums (r .first - 1) 0) → (m ≡ saleWorth u o r) × (m ≤ mostEnergy * (mostHours * mostPrice))
-sale-priced u o sums r x m t small e d n f = (
+    → m ≡ r .quantity .0 * (getD sums (r .last) 0 - getD sums (r .first - 1) 0) → (m ≡ saleWorth u o r) × (m ≤ mostSaleWorth)
+sale-priced u o sums r x m t e d n f = (
   f ∙ ap (λ (y : ℕ). r .quantity .0 * y) (t .exact) ∙ sym (sale-of-own u o r x e d n),
-  omega (arith, f, span-most (r .quantity .0) (getD sums (r .last) 0 - getD sums (r .first - 1) 0) small (omega (arith, t .high))),
+  omega (arith, f, span-most (r .quantity .0) (getD sums (r .last) 0 - getD sums (r .first - 1) 0) (t .priced .quantity-high) (omega (arith, t .priced .sums-high))),
 )
 
 -- a row of a book can be taken

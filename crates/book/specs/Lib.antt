@@ -1,7 +1,9 @@
 -- The bytes of a book.
+-- Members: the numbers that a book has, of accounts, operators, hours and rows.
+pub mod Members
 -- Netted: a net position by itself.
 pub mod Netted
--- Waits: what waits on one account.
+-- Waits: the pending rows of one account, summed by hour.
 pub mod Waits
 -- Worth: exposure in two parts, net positions and pending sales.
 pub mod Worth

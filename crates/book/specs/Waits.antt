@@ -1,4 +1,4 @@
--- What waits on one account (document 01, "Registration"): its own pending rows by hour, sales and then purchases.
+-- The pending rows of one account (document 01, "Registration") in a table: sums by hour, first of sales and then of purchases.
 use Prim.Native.Nat.{ℕ, _+_, _-_, _*_, _≤_}
 use mathlib.Core.Path.{_≡_}
 use mathlib.Core.List.{List, [], _∷_}
@@ -10,7 +10,7 @@ use Rattle.rules.specs.Limits.{mostHours, mostEnergy}
 use Rattle.rules.specs.Registration.{waiting, netOf, pendingSales, pendingPurchases}
 use Rattle.book.specs.Netted.{netted}
 
--- the cells of a table: an hour each for sales, and for purchases
+-- how many cells a table has: one for the sales of each hour, and one for its purchases
 abbrev pub waitsSize : ℕ
 waitsSize = 2 * mostHours
 
@@ -25,7 +25,7 @@ pub record Waits (side h : ℕ) : Type 0 where
   pub hour-low : 1 ≤ h
   pub hour-high : h ≤ mostHours
 
--- the table holds what waits on the account by these rows, and no cell is above what they hold together
+-- each cell holds the account's pending sum among these rows, and none is above the greatest quantity times the number of rows
 pub record WaitsOf (rows : List Row) (a : ℕ) (table : List ℕ) : Type 0 where
   pub whole : length table ≡ waitsSize
   pub waits-at : (side h : ℕ) → Waits side h → getD table (waitCell side h) 0 ≡ waiting side rows a h
@@ -37,14 +37,14 @@ pub record WaitsOf (rows : List Row) (a : ℕ) (table : List ℕ) : Type 0 where
 unfoldable pub noWaits : List ℕ
 noWaits = replicate waitsSize 0
 
--- one row more: each cell has its share of what waits on the account, and no cell grows by more than the most energy
+-- one row more: each cell has grown by what the row adds to the account's pending sum, and none by more than the greatest quantity
 pub record WaitAdded (before after : List ℕ) (r : Row) (a : ℕ) : Type 0 where
   pub share : (side h : ℕ) → Waits side h → getD after (waitCell side h) 0 ≡ getD before (waitCell side h) 0 + waiting side (r ∷ []) a h
   pub grown : (k : ℕ) → getD after k 0 ≤ getD before k 0 + mostEnergy
 
 -- ---- what is read off it
 
--- what an account holds in an hour, with its net position by itself
+-- the account hour, with its net position by itself
 abbrev pub nettedHour : List Row → ℕ → ℕ → AccountHour
 nettedHour rows a h =
     record { net = netted (netOf rows a h); sales = kwh (pendingSales rows a h); purchases = kwh (pendingPurchases rows a h) }

@@ -10,6 +10,7 @@ ghost use Rattle.rules.specs.Opening.{setupRefusal, opened, openOutcome, guaran
 ghost use Rattle.image.specs.Valid.{bookBytes};
 ghost use Rattle.book.specs.Fresh.{guaranteesCleared, guaranteesPut};
 ghost use Rattle.book.specs.Answers.{openBytes};
+use crate::state::REGISTRATION;
 use image::layout::BOOK_SIZE;
 use image::layout::PHASE_OFFSET;
 use image::layout::PRESENT_OFFSET;
@@ -86,7 +87,7 @@ fn fill(setup: &[u8], book: &mut [u8])
     let n = counts(setup);
     let from = operators_offset(n);
     put_setup(book, setup, from, n.operators);
-    put_u8(book, PHASE_OFFSET, 1);
+    put_u8(book, PHASE_OFFSET, REGISTRATION);
     put_guarantees(book, PRESENT_OFFSET, setup, from, n.operators);
 }
 

@@ -1,14 +1,14 @@
 // Net positions as settlement works from them: read off the 4 bytes that hold each.
 ghost use mathlib.Core.Path.{_≡_};
 ghost use mathlib.Core.Bool.{true};
-ghost use Prim.Native.Nat.{_+_, _≤_};
+ghost use Prim.Native.Nat.{_+_};
 ghost use Rattle.wire.specs.Numbers.{numberAt};
 ghost use Rattle.rules.specs.Limits.{mostHours};
-ghost use Rattle.rules.specs.Books.{accountCount, periods};
 ghost use Rattle.rules.specs.Registration.{netOf};
 ghost use Rattle.image.specs.Valid.{isBook, bookIn};
 ghost use Rattle.image.specs.Layout.{presentOffset, netOffset, netWidth};
 ghost use Rattle.image.specs.Tables.{InTable};
+ghost use Rattle.book.specs.Members.{IsAccount, IsHour};
 ghost use Rattle.book.specs.Netted.{netted};
 use crate::state::net_offset;
 use image::layout::MOST_IN_4;
@@ -30,7 +30,7 @@ pub fn stored_net(book: &[u8], account: u8, hour: u8) -> u32
 
 // The net position of an account in an hour, both of the set-up: what was bought over what was sold, or the reverse.
 pub fn net_at(book: &[u8], account: u8, hour: u8) -> Net
-    requires { ⌜ (isBook (now book) ≡ true) × ((1 ≤ account) × (account ≤ accountCount (bookIn (now book) .setup))) × ((1 ≤ hour) × (hour ≤ periods (bookIn (now book) .setup))) ⌝ }
+    requires { ⌜ (isBook (now book) ≡ true) × IsAccount (bookIn (now book)) account × IsHour (bookIn (now book)) hour ⌝ }
     ensures { λ r. ⌜ r ≡ netted (netOf (bookIn (now (book .entry)) .part .rows) account hour) ⌝ }
 {
     let stored = stored_net(book, account, hour);

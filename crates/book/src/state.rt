@@ -1,15 +1,16 @@
-// What stands in a book, read from its bytes.
+// The state of a book, read from its bytes.
 ghost use mathlib.Core.Path.{_≡_};
 ghost use mathlib.Core.Bool.{true};
 ghost use Prim.Native.Nat.{_+_, _-_, _≤_};
 ghost use lib.ListN.{length};
 ghost use Rattle.rules.specs.Basics.{isSome};
 ghost use Rattle.rules.specs.Limits.{mostRows, mostSchedules, mostHours, mostOperators};
-ghost use Rattle.rules.specs.Books.{operatorOf, operatorCount, accountCount};
+ghost use Rattle.rules.specs.Books.{operatorOf};
 ghost use Rattle.rules.specs.Calls.{restored};
 ghost use Rattle.image.specs.Layout.{presentOffset, rowOffset, netOffset};
 ghost use Rattle.image.specs.Valid.{isBook, bookIn};
 ghost use Rattle.image.specs.Tables.{InTable};
+ghost use Rattle.book.specs.Members.{IsAccount, IsOperator};
 use image::layout::ACCOUNT_NETS;
 use image::layout::FLAG_OFFSET;
 use image::layout::NET_WIDTH;
@@ -55,7 +56,7 @@ pub fn batch_open(book: &[u8]) -> bool
     get_u8(book, FLAG_OFFSET) == 1
 }
 
-// How many rows have numbers.
+// How many rows there are, withdrawn ones too.
 pub fn row_count(book: &[u8]) -> u16
     requires { ⌜ isBook (now book) ≡ true ⌝ }
     ensures { λ r. ⌜ r ≡ length (bookIn (now (book .entry)) .part .rows) ⌝ }
@@ -64,7 +65,7 @@ pub fn row_count(book: &[u8]) -> u16
     get_u16(book, PRESENT_OFFSET + ROW_COUNT_OFFSET)
 }
 
-// How many schedules stand.
+// How many schedules there are.
 pub fn schedule_count(book: &[u8]) -> u16
     requires { ⌜ isBook (now book) ≡ true ⌝ }
     ensures { λ r. ⌜ r ≡ length (bookIn (now (book .entry)) .schedules) ⌝ }
@@ -73,11 +74,11 @@ pub fn schedule_count(book: &[u8]) -> u16
     get_u16(book, SCHEDULE_COUNT_OFFSET)
 }
 
-// How many rows had numbers when the open batch was opened: at most as many as now.
+// How many rows the open batch saved: at most as many as there are now.
 pub fn saved_row_count(book: &[u8]) -> u16
     requires { ⌜ isBook (now book) ≡ true ⌝ }
     requires { ⌜ isSome (bookIn (now book) .saved) ≡ true ⌝ }
-    ensures { λ r. ⌜ r ≡ length (restored (bookIn (now (book .entry)) .saved) (bookIn (now (book .entry)) .part) .rows) ⌝ }
+    ensures { λ r. ⌜ (let b = bookIn (now (book .entry)) in r ≡ length (restored (b .saved) (b .part) .rows)) ⌝ }
     ensures bound { λ r. ⌜ r ≤ length (bookIn (now (book .entry)) .part .rows) ⌝ }
 {
     get_u16(book, SAVED_OFFSET + ROW_COUNT_OFFSET)
@@ -102,9 +103,10 @@ pub fn net_offset(account: u8, hour: u8) -> usize
 
 // The operator of an account.
 pub fn operator_of(book: &[u8], number: u8) -> u8
-    requires { ⌜ (isBook (now book) ≡ true) × (1 ≤ number) × (number ≤ accountCount (bookIn (now book) .setup)) ⌝ }
+    requires { ⌜ (isBook (now book) ≡ true) × IsAccount (bookIn (now book)) number ⌝ }
     ensures meaning { λ r. ⌜ r ≡ operatorOf (bookIn (now (book .entry)) .setup) number ⌝ }
-    ensures inside { λ r. ⌜ (1 ≤ r) × (r ≤ operatorCount (bookIn (now (book .entry)) .setup)) × (r ≤ mostOperators) ⌝ }
+    ensures inside { λ r. ⌜ IsOperator (bookIn (now (book .entry))) r ⌝ }
+    ensures bound { λ r. ⌜ r ≤ mostOperators ⌝ }
 {
     let entry = account(book, number);
     entry.operator

@@ -1,14 +1,14 @@
-// What waits on one account: its own pending rows by hour, sales and then purchases.
+// The pending rows of one account in a table: for each hour the sum of its pending sales, then for each hour that of its pending purchases.
 ghost use mathlib.Core.Path.{_≡_};
 ghost use mathlib.Core.Bool.{true};
 ghost use Prim.Native.Nat.{_+_, _-_, _≤_};
 ghost use lib.ListN.{length, getD};
-ghost use Rattle.rules.specs.Basics.{anyPasses, nth};
+ghost use Rattle.rules.specs.Basics.{anyPasses};
 ghost use Rattle.rules.specs.Limits.{mostEnergy, mostHours};
-ghost use Rattle.rules.specs.Books.{noRow, accountCount, periods};
 ghost use Rattle.rules.specs.Registration.{alike};
 ghost use Rattle.image.specs.Valid.{isBook, bookIn};
 ghost use Rattle.image.specs.Tables.{Tabled, Room, Raised};
+ghost use Rattle.book.specs.Members.{IsAccount, IsHour, IsRow, numberedRow};
 ghost use Rattle.book.specs.Waits.{waitCell, Waits, WaitsOf, noWaits, WaitAdded, nettedHour, waitsSize};
 use crate::positions::net_at;
 use crate::state::PENDING;
@@ -23,10 +23,10 @@ use rules::limits::PERIODS;
 use units::Kwh;
 use wire::numbers::get_u8;
 
-// The cells of what waits: an hour each for sales, and for purchases.
+// How many cells the table has: one for the sales of each hour, and one for its purchases.
 pub const WAITS_SIZE: usize = 2 * PERIODS;
 
-// The cell of an hour on a side.
+// The cell of an hour: side 1 are sales, side 2 purchases.
 fn wait_cell(side: u8, hour: u8) -> usize
     requires { ⌜ Waits side hour ⌝ }
     ensures { λ r. ⌜ r ≡ waitCell side hour ⌝ }
@@ -45,8 +45,8 @@ fn add_waiting(table: &mut [u32], r: Row)
     add_range(table, at, n, quantity.0);
 }
 
-// Takes the row of that number where it is pending and the account's own, and tells whether it has this counterparty and code. Most rows
-// are another's, so that the proposer is looked at first.
+// Adds the row of that number to the table if it is pending and the account proposed it. Answers whether it is such a row and also has this
+// counterparty and code. Most rows have another proposer, so that is tested first.
 fn add_own(
     table: &mut [u32],
     book: &[u8],
@@ -55,9 +55,9 @@ fn add_own(
     counterparty: u8,
     code: u64,
 ) -> bool
-    requires { ⌜ (length (now table) ≡ waitsSize) × Room (now table) 0 mostEnergy × (isBook (now book) ≡ true) × (1 ≤ number) × (number ≤ length (bookIn (now book) .part .rows)) ⌝ }
-    ensures waits { λ _. ⌜ WaitAdded (now (table .entry)) (now (table .exit)) (nth (bookIn (now (book .entry)) .part .rows) number noRow) account ⌝ }
-    ensures tells { λ r. ⌜ r ≡ alike account counterparty code (nth (bookIn (now (book .entry)) .part .rows) number noRow) ⌝ }
+    requires { ⌜ (length (now table) ≡ waitsSize) × Room (now table) 0 mostEnergy × (isBook (now book) ≡ true) × IsRow (bookIn (now book)) number ⌝ }
+    ensures waits { λ _. ⌜ WaitAdded (now (table .entry)) (now (table .exit)) (numberedRow (bookIn (now (book .entry))) number) account ⌝ }
+    ensures tells { λ r. ⌜ r ≡ alike account counterparty code (numberedRow (bookIn (now (book .entry))) number) ⌝ }
 {
     let at = row_offset(number);
     if get_u8(book, at) != account {
@@ -71,14 +71,14 @@ fn add_own(
     (r.counterparty == counterparty) & (r.code == code)
 }
 
-// A table of no rows.
+// The table of no rows: every cell is 0.
 pub fn no_waits() -> [u32; WAITS_SIZE]
     ensures { λ r. ⌜ r ≡ noWaits ⌝ }
 {
     [0u32; WAITS_SIZE]
 }
 
-// Takes the account's own pending rows into a table of no rows, and tells whether one of them has this counterparty and code.
+// Adds the pending rows that the account proposed to a table of no rows. Answers whether one of them has this counterparty and code.
 pub fn fill_waits(table: &mut [u32], book: &[u8], account: u8, counterparty: u8, code: u64) -> bool
     requires { ⌜ (now table ≡ noWaits) × (isBook (now book) ≡ true) ⌝ }
     ensures waits { λ _. ⌜ WaitsOf (bookIn (now (book .entry)) .part .rows) account (now (table .exit)) ⌝ }
@@ -95,7 +95,7 @@ pub fn fill_waits(table: &mut [u32], book: &[u8], account: u8, counterparty: u8,
     found
 }
 
-// What waits on the account in an hour, on a side.
+// The account's pending sum of an hour, on a side.
 fn wait_at(waits: &[u32], side: u8, hour: u8) -> u32
     requires { ⌜ (length (now waits) ≡ waitsSize) × Waits side hour ⌝ }
     ensures { λ r. ⌜ r ≡ getD (now (waits .entry)) (waitCell side hour) 0 ⌝ }
@@ -104,9 +104,9 @@ fn wait_at(waits: &[u32], side: u8, hour: u8) -> u32
     waits[k]
 }
 
-// What an account holds in an hour, both of the set-up: its net position off the book, and what waits off the table.
+// The net position of an account in an hour, from the book, with its pending sales and purchases, from the table.
 pub fn account_hour(book: &[u8], waits: &[u32], account: u8, hour: u8) -> AccountHour
-    requires { ⌜ (isBook (now book) ≡ true) × WaitsOf (bookIn (now book) .part .rows) account (now waits) × ((1 ≤ account) × (account ≤ accountCount (bookIn (now book) .setup))) × ((1 ≤ hour) × (hour ≤ periods (bookIn (now book) .setup))) ⌝ }
+    requires { ⌜ (let b = bookIn (now book) in (isBook (now book) ≡ true) × WaitsOf (b .part .rows) account (now waits) × IsAccount b account × IsHour b hour) ⌝ }
     ensures { λ r. ⌜ r ≡ nettedHour (bookIn (now (book .entry)) .part .rows) account hour ⌝ }
 {
     let net = net_at(book, account, hour);

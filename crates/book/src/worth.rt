@@ -1,15 +1,18 @@
-// The exposure of an operator in two parts: what lies below zero of its net positions, and its pending sales row by row.
+// The exposure of an operator in two parts: what of its net positions lies below zero, and its pending sales, row by row.
 ghost use mathlib.Core.Path.{_≡_};
 ghost use mathlib.Core.Bool.{true};
 ghost use Prim.Native.Nat.{_-_, _*_, _^_, _≤_, _<_};
 ghost use lib.ListN.{length, getD};
-ghost use Rattle.rules.specs.Basics.{total, nth, Each};
-ghost use Rattle.rules.specs.Limits.{mostEnergy, mostPrice, mostHours, mostAccounts, mostRows};
-ghost use Rattle.rules.specs.Books.{noRow, estimateAt, operatorOf, accountCount, periods};
+ghost use Rattle.rules.specs.Basics.{total, Each};
+ghost use Rattle.rules.specs.Limits.{mostEnergy, mostPrice, mostAccounts, mostRows};
+ghost use Rattle.rules.specs.Books.{estimateAt, operatorOf};
 ghost use Rattle.rules.specs.Registration.{exposureWith};
 ghost use Rattle.image.specs.Valid.{isBook, bookIn};
-ghost use Rattle.book.specs.Worth.{AccountsAt, addedRows, QuantityInRange, shortAfter, shortWorth, saleWorth, PriceSums, TradeInRange, accountShort, shortShare, netWith, sumsSize};
+ghost use Rattle.book.specs.Members.{IsAccount, IsHour, IsRow, numberedRow};
+ghost use Rattle.book.specs.Worth.{entriesIn, addedRows, QuantityInRange, shortOf, shortAfter, shortWorth, saleWorth, PriceSums, PricedSpan, SaleInputs, TradeInRange, accountShort, shortShare, netsWith, sumsSize, mostShort, mostShortWorth, mostSaleWorth};
 use crate::positions::net_at;
+use crate::state::CONFIRMED;
+use crate::state::PENDING;
 use crate::state::row_count;
 use crate::state::row_offset;
 use image::rows::row_at;
@@ -33,23 +36,44 @@ pub enum Added {
     One(Row),
 }
 
-// The hours that a day can have, and none.
+// Where the entries of the accounts are: the first begins at `from`, and each is `width` bytes long.
+pub struct AccountEntries {
+    pub from: usize,
+    pub width: usize,
+}
+
+// How many sums of prices there are: one for each hour that a day can have, and one for no hour.
 const PRICE_SUMS: usize = PERIODS + 1;
 
-// The operator of an account, of a book whose accounts begin at `from` with `width` bytes each: the first byte of its entry.
-fn entry_operator(book: &[u8], from: usize, width: usize, number: u8) -> u8
-    requires { ⌜ (isBook (now book) ≡ true) × AccountsAt from width (now book) × (1 ≤ number) × (number ≤ accountCount (bookIn (now book) .setup)) ⌝ }
+// ---- the accounts' entries
+
+// Where a book has the entries of its accounts.
+fn account_entries(book: &[u8]) -> AccountEntries
+    requires { ⌜ isBook (now book) ≡ true ⌝ }
+    ensures { λ r. ⌜ r ≡ entriesIn (now (book .entry)) ⌝ }
+{
+    let n = counts(book);
+    AccountEntries {
+        from: accounts_offset(n),
+        width: account_entry(n),
+    }
+}
+
+// The operator of an account: the first byte of the account's entry.
+fn entry_operator(book: &[u8], entries: AccountEntries, number: u8) -> u8
+    requires { ⌜ (isBook (now book) ≡ true) × (entries ≡ entriesIn (now book)) × IsAccount (bookIn (now book)) number ⌝ }
     ensures { λ r. ⌜ r ≡ operatorOf (bookIn (now (book .entry)) .setup) number ⌝ }
 {
-    get_u8(book, from + width * (number as usize - 1))
+    get_u8(book, entries.from + entries.width * (number as usize - 1))
 }
 
 // ---- prices
 
 // The estimated price of an hour.
 fn price(book: &[u8], hour: u8) -> CentsPerMwh
-    requires { ⌜ (isBook (now book) ≡ true) × (1 ≤ hour) × (hour ≤ periods (bookIn (now book) .setup)) ⌝ }
-    ensures { λ r. ⌜ (r ≡ estimateAt (bookIn (now (book .entry)) .setup) hour) × (r .0 ≤ mostPrice) ⌝ }
+    requires { ⌜ (isBook (now book) ≡ true) × IsHour (bookIn (now book)) hour ⌝ }
+    ensures meaning { λ r. ⌜ r ≡ estimateAt (bookIn (now (book .entry)) .setup) hour ⌝ }
+    ensures bounded { λ r. ⌜ r .0 ≤ mostPrice ⌝ }
 {
     estimate(book, hour)
 }
@@ -81,9 +105,9 @@ fn price_sums(book: &[u8]) -> [u64; PRICE_SUMS]
 
 // ---- pending sales
 
-// The quantity at the estimated prices of its hours together.
+// What a quantity is worth in each hour from `first` to `last` together: the sum up to `last`, less that before `first`.
 fn span_worth(sums: &[u64], first: u8, last: u8, quantity: Kwh) -> MilliCents
-    requires { ⌜ (length (now sums) ≡ sumsSize) × (1 ≤ first) × (first ≤ last) × (last ≤ mostHours) × (getD (now sums) (first - 1) 0 ≤ getD (now sums) last 0) × (getD (now sums) last 0 ≤ mostHours * mostPrice) × (quantity .0 ≤ mostEnergy) ⌝ }
+    requires { ⌜ PricedSpan (now sums) first last (quantity .0) ⌝ }
     ensures { λ m. ⌜ m .0 ≡ quantity .0 * (getD (now (sums .entry)) last 0 - getD (now (sums .entry)) (first - 1) 0) ⌝ }
 {
     let end = sums[last as usize];
@@ -91,65 +115,84 @@ fn span_worth(sums: &[u64], first: u8, last: u8, quantity: Kwh) -> MilliCents
     MilliCents((quantity.0 as u64) * (end - start))
 }
 
-// What a row weighs on the operator as a pending sale, of a book whose accounts begin at `from` with `width` bytes each.
-fn sale_of(book: &[u8], sums: &[u64], from: usize, width: usize, operator: u8, r: Row) -> MilliCents
-    requires { ⌜ (isBook (now book) ≡ true) × PriceSums (bookIn (now book) .setup) (now sums) × AccountsAt from width (now book) × TradeInRange (bookIn (now book) .setup) r ⌝ }
-    ensures { λ m. ⌜ (m .0 ≡ saleWorth (bookIn (now (book .entry)) .setup) operator r) × (m .0 ≤ mostEnergy * (mostHours * mostPrice)) ⌝ }
+// What a row adds to the operator's exposure as a pending sale.
+fn sale_of(book: &[u8], sums: &[u64], entries: AccountEntries, operator: u8, r: Row) -> MilliCents
+    requires { ⌜ SaleInputs (now book) (now sums) entries × TradeInRange (bookIn (now book) .setup) r ⌝ }
+    ensures meaning { λ m. ⌜ m .0 ≡ saleWorth (bookIn (now (book .entry)) .setup) operator r ⌝ }
+    ensures bounded { λ m. ⌜ m .0 ≤ mostSaleWorth ⌝ }
 {
-    if (r.status != 1) | (r.side != 1) {
+    if (r.status != PENDING) | (r.side != 1) {
         return MilliCents(0);
     }
-    if entry_operator(book, from, width, r.proposer) == operator {
+    if entry_operator(book, entries, r.proposer) == operator {
         return span_worth(sums, r.first, r.last, r.quantity);
     }
     MilliCents(0)
 }
 
-// What the row of that number weighs on the operator as a pending sale. Most rows are another's, so that the owner is looked at first.
+// The same of the book's row of that number. Most rows are another operator's, so that the operator is looked at first.
 fn row_sale(
     book: &[u8],
     sums: &[u64],
-    from: usize,
-    width: usize,
+    entries: AccountEntries,
     operator: u8,
     number: u16,
 ) -> MilliCents
-    requires { ⌜ (isBook (now book) ≡ true) × PriceSums (bookIn (now book) .setup) (now sums) × AccountsAt from width (now book) × (1 ≤ number) × (number ≤ length (bookIn (now book) .part .rows)) ⌝ }
-    ensures { λ m. ⌜ (m .0 ≡ saleWorth (bookIn (now (book .entry)) .setup) operator (nth (bookIn (now (book .entry)) .part .rows) number noRow)) × (m .0 ≤ mostEnergy * (mostHours * mostPrice)) ⌝ }
+    requires { ⌜ SaleInputs (now book) (now sums) entries × IsRow (bookIn (now book)) number ⌝ }
+    ensures meaning { λ m. ⌜ (let b = bookIn (now (book .entry)) in m .0 ≡ saleWorth (b .setup) operator (numberedRow b number)) ⌝ }
+    ensures bounded { λ m. ⌜ m .0 ≤ mostSaleWorth ⌝ }
 {
     let at = row_offset(number);
-    if entry_operator(book, from, width, get_u8(book, at)) != operator {
+    if entry_operator(book, entries, get_u8(book, at)) != operator {
         return MilliCents(0);
     }
-    sale_of(book, sums, from, width, operator, row_at(book, at))
+    sale_of(book, sums, entries, operator, row_at(book, at))
 }
 
-// What the rows weigh on the operator as pending sales.
-fn sales_worth(book: &[u8], sums: &[u64], operator: u8) -> MilliCents
-    requires { ⌜ (isBook (now book) ≡ true) × PriceSums (bookIn (now book) .setup) (now sums) ⌝ }
-    ensures { λ m. ⌜ (m .0 ≡ total (saleWorth (bookIn (now (book .entry)) .setup) operator) (bookIn (now (book .entry)) .part .rows)) × (m .0 ≤ mostRows * (mostEnergy * (mostHours * mostPrice))) ⌝ }
+// The same of all rows of the book.
+fn sales_worth(book: &[u8], sums: &[u64], entries: AccountEntries, operator: u8) -> MilliCents
+    requires { ⌜ SaleInputs (now book) (now sums) entries ⌝ }
+    ensures meaning { λ m. ⌜ (let b = bookIn (now (book .entry)) in m .0 ≡ total (saleWorth (b .setup) operator) (b .part .rows)) ⌝ }
+    ensures bounded { λ m. ⌜ m .0 ≤ mostRows * mostSaleWorth ⌝ }
 {
-    let n = counts(book);
-    let from = accounts_offset(n);
-    let width = account_entry(n);
     let rows = row_count(book);
     let mut sum = MilliCents(0);
     let mut number: u16 = 1;
     while number <= rows {
-        sum = sum.plus(row_sale(book, sums, from, width, operator, number));
+        sum = sum.plus(row_sale(book, sums, entries, operator, number));
         number = number + 1;
     }
     sum
 }
 
-// ---- net positions
+// The same of what is to be added.
+fn added_sale(
+    book: &[u8],
+    sums: &[u64],
+    entries: AccountEntries,
+    operator: u8,
+    added: Added,
+) -> MilliCents
+    requires { ⌜ SaleInputs (now book) (now sums) entries × Each (TradeInRange (bookIn (now book) .setup)) (addedRows added) ⌝ }
+    ensures meaning { λ m. ⌜ m .0 ≡ total (saleWorth (bookIn (now (book .entry)) .setup) operator) (addedRows added) ⌝ }
+    ensures bounded { λ m. ⌜ m .0 ≤ mostSaleWorth ⌝ }
+{
+    match added {
+        Added::Nothing => MilliCents(0),
+        Added::One(r) => sale_of(book, sums, entries, operator, r),
+    }
+}
+
+// ---- net positions below zero
 
 // What of a net position lies below zero once the account took the trade.
 fn short_with(net: Net, account: u8, hour: u8, trade: Row) -> Kwh
     requires { ⌜ (net .bought .0 ≤ mostEnergy) × (net .sold .0 ≤ mostEnergy) × (trade .quantity .0 ≤ mostEnergy) ⌝ }
     ensures { λ r. ⌜ r .0 ≡ shortAfter net trade account hour ⌝ }
 {
-    if (trade.status == 2) & ((trade.proposer == account) | (trade.counterparty == account)) {
+    if (trade.status == CONFIRMED)
+        & ((trade.proposer == account) | (trade.counterparty == account))
+    {
         let held = AccountHour {
             net,
             sales: Kwh(0),
@@ -161,10 +204,11 @@ fn short_with(net: Net, account: u8, hour: u8, trade: Row) -> Kwh
     short(net)
 }
 
-// What of an account's net position in an hour lies below zero once it took what is added.
+// What of an account's net position in an hour lies below zero, with what is to be added.
 fn short_at(book: &[u8], account: u8, hour: u8, added: Added) -> Kwh
-    requires { ⌜ (isBook (now book) ≡ true) × ((1 ≤ account) × (account ≤ accountCount (bookIn (now book) .setup))) × ((1 ≤ hour) × (hour ≤ periods (bookIn (now book) .setup))) × QuantityInRange added ⌝ }
-    ensures { λ r. ⌜ (r .0 ≡ netWith (bookIn (now (book .entry)) .part .rows) (addedRows added) account hour .sold .0 - netWith (bookIn (now (book .entry)) .part .rows) (addedRows added) account hour .bought .0) × (r .0 ≤ 2 * mostEnergy) ⌝ }
+    requires { ⌜ (let b = bookIn (now book) in (isBook (now book) ≡ true) × IsAccount b account × IsHour b hour × QuantityInRange added) ⌝ }
+    ensures meaning { λ r. ⌜ r .0 ≡ shortOf (netsWith (bookIn (now (book .entry))) added account hour) ⌝ }
+    ensures bounded { λ r. ⌜ r .0 ≤ mostShort ⌝ }
 {
     let net = net_at(book, account, hour);
     match added {
@@ -173,10 +217,11 @@ fn short_at(book: &[u8], account: u8, hour: u8, added: Added) -> Kwh
     }
 }
 
-// What of an account's net positions lies below zero with what is added, at estimated prices.
+// The same in all hours, at estimated prices.
 fn account_short(book: &[u8], account: u8, added: Added) -> MilliCents
-    requires { ⌜ (isBook (now book) ≡ true) × ((1 ≤ account) × (account ≤ accountCount (bookIn (now book) .setup))) × QuantityInRange added ⌝ }
-    ensures { λ r. ⌜ (r .0 ≡ accountShort (bookIn (now (book .entry)) .setup) (netWith (bookIn (now (book .entry)) .part .rows) (addedRows added)) account) × (r .0 ≤ mostHours * (2 * mostEnergy * mostPrice)) ⌝ }
+    requires { ⌜ (isBook (now book) ≡ true) × IsAccount (bookIn (now book)) account × QuantityInRange added ⌝ }
+    ensures meaning { λ r. ⌜ (let b = bookIn (now (book .entry)) in r .0 ≡ accountShort (b .setup) (netsWith b added) account) ⌝ }
+    ensures bounded { λ r. ⌜ r .0 ≤ mostShortWorth ⌝ }
 {
     let n = counts(book);
     let mut sum = MilliCents(0);
@@ -190,36 +235,35 @@ fn account_short(book: &[u8], account: u8, added: Added) -> MilliCents
     sum
 }
 
-// The same of one account, where it is the operator's; nothing where it is another's.
+// The same where the account is one of the operator's; nothing where it is another's.
 fn short_share(
     book: &[u8],
-    from: usize,
-    width: usize,
+    entries: AccountEntries,
     account: u8,
     operator: u8,
     added: Added,
 ) -> MilliCents
-    requires { ⌜ (isBook (now book) ≡ true) × AccountsAt from width (now book) × ((1 ≤ account) × (account ≤ accountCount (bookIn (now book) .setup))) × QuantityInRange added ⌝ }
-    ensures { λ r. ⌜ (r .0 ≡ shortShare (bookIn (now (book .entry)) .setup) (netWith (bookIn (now (book .entry)) .part .rows) (addedRows added)) operator account) × (r .0 ≤ mostHours * (2 * mostEnergy * mostPrice)) ⌝ }
+    requires { ⌜ (isBook (now book) ≡ true) × (entries ≡ entriesIn (now book)) × IsAccount (bookIn (now book)) account × QuantityInRange added ⌝ }
+    ensures meaning { λ r. ⌜ (let b = bookIn (now (book .entry)) in r .0 ≡ shortShare (b .setup) (netsWith b added) operator account) ⌝ }
+    ensures bounded { λ r. ⌜ r .0 ≤ mostShortWorth ⌝ }
 {
-    if entry_operator(book, from, width, account) == operator {
+    if entry_operator(book, entries, account) == operator {
         return account_short(book, account, added);
     }
     MilliCents(0)
 }
 
-// What of the operator's net positions lies below zero with what is added, at estimated prices.
-fn short_worth(book: &[u8], operator: u8, added: Added) -> MilliCents
-    requires { ⌜ (isBook (now book) ≡ true) × QuantityInRange added ⌝ }
-    ensures { λ r. ⌜ (r .0 ≡ shortWorth (bookIn (now (book .entry)) .setup) (netWith (bookIn (now (book .entry)) .part .rows) (addedRows added)) operator) × (r .0 ≤ mostAccounts * (mostHours * (2 * mostEnergy * mostPrice))) ⌝ }
+// What of the operator's net positions lies below zero, with what is to be added, at estimated prices.
+fn short_worth(book: &[u8], entries: AccountEntries, operator: u8, added: Added) -> MilliCents
+    requires { ⌜ (isBook (now book) ≡ true) × (entries ≡ entriesIn (now book)) × QuantityInRange added ⌝ }
+    ensures meaning { λ r. ⌜ (let b = bookIn (now (book .entry)) in r .0 ≡ shortWorth (b .setup) (netsWith b added) operator) ⌝ }
+    ensures bounded { λ r. ⌜ r .0 ≤ mostAccounts * mostShortWorth ⌝ }
 {
     let n = counts(book);
-    let from = accounts_offset(n);
-    let width = account_entry(n);
     let mut sum = MilliCents(0);
     let mut account: u8 = 1;
     while account <= n.accounts {
-        sum = sum.plus(short_share(book, from, width, account, operator, added));
+        sum = sum.plus(short_share(book, entries, account, operator, added));
         account = account + 1;
     }
     sum
@@ -227,36 +271,16 @@ fn short_worth(book: &[u8], operator: u8, added: Added) -> MilliCents
 
 // ---- exposure
 
-// What is added weighs on the operator as a pending sale, of a book whose accounts begin at `from` with `width` bytes each.
-fn added_sale(
-    book: &[u8],
-    sums: &[u64],
-    from: usize,
-    width: usize,
-    operator: u8,
-    added: Added,
-) -> MilliCents
-    requires { ⌜ (isBook (now book) ≡ true) × PriceSums (bookIn (now book) .setup) (now sums) × AccountsAt from width (now book) × Each (TradeInRange (bookIn (now book) .setup)) (addedRows added) ⌝ }
-    ensures { λ m. ⌜ (m .0 ≡ total (saleWorth (bookIn (now (book .entry)) .setup) operator) (addedRows added)) × (m .0 ≤ mostEnergy * (mostHours * mostPrice)) ⌝ }
-{
-    match added {
-        Added::Nothing => MilliCents(0),
-        Added::One(r) => sale_of(book, sums, from, width, operator, r),
-    }
-}
-
-// The exposure of an operator with what is added.
+// The exposure of an operator, with what is to be added.
 pub fn exposure_with(book: &[u8], operator: u8, added: Added) -> MilliCents
     requires { ⌜ (isBook (now book) ≡ true) × Each (TradeInRange (bookIn (now book) .setup)) (addedRows added) ⌝ }
     ensures meaning { λ r. ⌜ (let b = bookIn (now (book .entry)) in r .0 ≡ exposureWith (b .setup) (b .part .rows) (addedRows added) operator) ⌝ }
     ensures bounded { λ r. ⌜ r .0 < 2 ^ 63 ⌝ }
 {
     let sums = price_sums(book);
-    let n = counts(book);
-    let from = accounts_offset(n);
-    let width = account_entry(n);
-    let below = short_worth(book, operator, added);
-    let waits = sales_worth(book, &sums, operator);
-    let own = added_sale(book, &sums, from, width, operator, added);
+    let entries = account_entries(book);
+    let below = short_worth(book, entries, operator, added);
+    let waits = sales_worth(book, &sums, entries, operator);
+    let own = added_sale(book, &sums, entries, operator, added);
     below.plus(waits).plus(own)
 }

@@ -5,11 +5,11 @@ use native.Mathlib.Omega.{arith}
 use borrow.Author.Needs.{needs}
 use Rattle.rules.specs.declared.Counts.{Counts}
 use Rattle.rules.specs.Basics.{total, counting}
-use Rattle.rules.specs.Limits.{mostEnergy, mostPrice, mostHours}
+use Rattle.rules.specs.Limits.{mostPrice, mostHours}
 use Rattle.rules.specs.Books.{periods}
 use Rattle.rules.proofs.Basics.CountingLaws.{sum-begins, sum-next, sum-done}
 use Rattle.image.specs.Valid.{bookIn}
-use Rattle.book.specs.Worth.{addedRows, netWith}
+use Rattle.book.specs.Worth.{netsWith, mostShort}
 use Rattle.book.proofs.StateLaws.{book-length, book-is-sound}
 use Rattle.book.proofs.WorthParts.{hours-in}
 use Rattle.book.proofs.ShortLaws.{hourShort, hour-short-read, short-most, short-by-hour}
@@ -23,9 +23,9 @@ Inv-loop book account added n sum₀ hour₀ sum hour =
     × (n .hours ≤ mostHours)
     × (1 ≤ hour)
     × (hour ≤ n .hours + 1)
-    × (sum .0 ≤ (hour - 1) * (2 * mostEnergy * mostPrice))
-    × (sum .0 + total (hourShort (b .setup) (netWith (b .part .rows) (addedRows added)) account) (counting (periods (b .setup) + 1 - hour) hour)
-    ≡ total (hourShort (b .setup) (netWith (b .part .rows) (addedRows added)) account) (counting (periods (b .setup)) 1))
+    × (sum .0 ≤ (hour - 1) * (mostShort * mostPrice))
+    × (sum .0 + total (hourShort (b .setup) (netsWith b added) account) (counting (periods (b .setup) + 1 - hour) hour)
+    ≡ total (hourShort (b .setup) (netsWith b added) account) (counting (periods (b .setup)) 1))
 
 abbrev μ-loop : tie.MeasureT-loop
 μ-loop book account added n sum₀ hour₀ sum hour = n .hours + 1 - hour
@@ -53,7 +53,7 @@ short-at-requires c κs =
 
 price-requires : tie.Need-price-requires Inv-loop μ-loop
 price-requires c κs =
-    let l = c .before .before .before .loop in (c .before .before .before .before .before .before .pre .0, l .inv .2, omega (arith, l .inv .0))
+    let l = c .before .before .before .loop in (c .before .before .before .before .before .before .pre .0, (l .inv .2, omega (arith, l .inv .0)))
 
 at-requires : tie.Need-at-requires Inv-loop μ-loop
 at-requires c κs = search needs

@@ -1,4 +1,4 @@
--- Nothing weighs nothing, and one row what it weighs.
+-- Where nothing is added no sale is, and the sum over one row is what that row adds.
 use native.Mathlib.Omega.{arith}
 use borrow.Author.Needs.{needs}
 use Rattle.rules.specs.Basics.{total}
@@ -16,7 +16,7 @@ enum-known-added c = search needs
 sale-of-requires : tie.Need-sale-of-requires
 sale-of-requires c κs =
     let pre = c .before .before .before .before .before .pre in
-    (pre .0, pre .1, pre .2, each-at noRow 0 (rw (c .before .added .given .1) at (pre .3)) (omega arith))
+    (pre .0, each-at noRow 0 (rw (c .before .added .given .1) at (pre .1)) (omega arith))
 
 returns : tie.Need-returns
 unfolding total

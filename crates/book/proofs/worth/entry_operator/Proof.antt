@@ -12,27 +12,27 @@ sub-get-u8 c = search needs
 
 mul-get-u8 : tie.Need-mul-get-u8
 mul-get-u8 c =
-    let start = c .before in
+    let start = c .before .before in
     let pre = start .pre in
-    omega (arith, entry-inside _ (pre .0) (start .args .from) (start .args .width) (start .args .number) (pre .1) (pre .2) (pre .3), book-length _ (pre .0))
+    omega (arith, entry-inside _ (pre .0) (start .args .number) (start .args .entries) (pre .1) (pre .2), book-length _ (pre .0))
 
 add-get-u8 : tie.Need-add-get-u8
 add-get-u8 c =
-    let start = c .before in
+    let start = c .before .before .before in
     let pre = start .pre in
-    omega (arith, entry-inside _ (pre .0) (start .args .from) (start .args .width) (start .args .number) (pre .1) (pre .2) (pre .3), book-length _ (pre .0))
+    omega (arith, entry-inside _ (pre .0) (start .args .number) (start .args .entries) (pre .1) (pre .2), book-length _ (pre .0))
 
 get-u8-requires : tie.Need-get-u8-requires
 get-u8-requires c κs =
-    let start = c .before in
+    let start = c .before .before .before in
     let pre = start .pre in
-    omega (arith, entry-inside _ (pre .0) (start .args .from) (start .args .width) (start .args .number) (pre .1) (pre .2) (pre .3))
+    omega (arith, entry-inside _ (pre .0) (start .args .number) (start .args .entries) (pre .1) (pre .2))
 
 returns : tie.Need-returns
 returns c =
-    let start = c .before .before in
+    let start = c .before .before .before .before in
     let pre = start .pre in
-    c .get-u8 .ensures ∙ entry-operator-is _ (pre .0) (start .args .from) (start .args .width) (start .args .number) (pre .1) (pre .2) (pre .3)
+    c .get-u8 .ensures ∙ entry-operator-is _ (pre .0) (start .args .number) (start .args .entries) (pre .1) (pre .2)
 
 pub entry-operator-spec : {M : Type 1} → statement M
 entry-operator-spec = tie.close (tie.spec sub-get-u8 mul-get-u8 add-get-u8 get-u8-requires returns)

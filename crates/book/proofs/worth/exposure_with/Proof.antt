@@ -1,10 +1,7 @@
 -- The three parts together are the exposure.
-use mathlib.Core.Path.{ap, _∙_}
 use native.Mathlib.Omega.{arith}
 use borrow.Author.Needs.{needs}
-use Rattle.rules.specs.Opening.{accountsOffset, accountEntry}
 use Rattle.book.specs.Worth.{addedRows}
-use Rattle.book.proofs.StateLaws.{book-length}
 use Rattle.book.proofs.WorthParts.{exposure-joined, trade-quantity}
 use Rattle.book.proofs.worth.exposure_with.Statement.{statement}
 use Rattle.book.proofs.worth.exposure_with.Tie as tie
@@ -12,17 +9,12 @@ use Rattle.book.proofs.worth.exposure_with.Tie as tie
 price-sums-requires : tie.Need-price-sums-requires
 price-sums-requires c κs = search needs
 
-counts-requires : tie.Need-counts-requires
-counts-requires c κs = omega (arith, book-length _ (c .before .before .pre .0))
-
-accounts-offset-requires : tie.Need-accounts-offset-requires
-accounts-offset-requires c κs = search needs
-
-account-entry-requires : tie.Need-account-entry-requires
-account-entry-requires c κs = search needs
+account-entries-requires : tie.Need-account-entries-requires
+account-entries-requires c κs = search needs
 
 short-worth-requires : tie.Need-short-worth-requires
-short-worth-requires c κs = let pre = c .before .before .before .before .before .pre in (pre .0, trade-quantity _ (pre .1))
+short-worth-requires c κs =
+    let pre = c .before .before .before .pre in (pre .0, c .account-entries .ensures, trade-quantity _ (pre .1))
 
 slice-aggregate-sales-worth : tie.Need-slice-aggregate-sales-worth
 slice-aggregate-sales-worth c = search needs
@@ -35,11 +27,7 @@ slice-aggregate-added-sale c = search needs
 
 added-sale-requires : tie.Need-added-sale-requires
 added-sale-requires c κs =
-    let places = c .before .before .before .before in
-    let counted = places .before .before in
-    let read = counted .counts .ensures in
-    let pre = counted .before .before .before .pre in
-    (pre .0, counted .before .price-sums .ensures, (places .before .accounts-offset .ensures ∙ ap accountsOffset read, places .account-entry .ensures .0 ∙ ap accountEntry read), pre .1)
+    search needs
 
 plus-requires : tie.Need-plus-requires
 plus-requires c κs = search needs
@@ -49,12 +37,13 @@ plus-requires-2 c κs = search needs
 
 returns : tie.Need-returns
 returns c =
-    let own = c .before .before .added-sale .ensures in
-    let waits = c .before .before .before .before .sales-worth .ensures in
-    let below = c .before .before .before .before .before .before .short-worth .ensures in
-    let start = c .before .before .before .before .before .before .before .before .before .before .before .before in (
-      exposure-joined _ (start .pre .0) (start .args .operator) (addedRows (start .args .added)) (start .pre .1) _ _ _ _ _ (below .0) (waits .0) (own .0) (c .before .plus .ensures) (c .plus2 .ensures),
-      omega (arith, c .plus2 .ensures, c .before .plus .ensures, below .1, waits .1, own .1),
+    let added = c .before .before in
+    let waiting = added .before .before in
+    let below = waiting .before .before in
+    let start = below .before .before .before .before in (
+      exposure-joined _ (start .pre .0) (start .args .operator) (addedRows (start .args .added)) (start .pre .1) _ _ _ _ _
+          (below .short-worth .ensures .0) (waiting .sales-worth .ensures .0) (added .added-sale .ensures .0) (c .before .plus .ensures) (c .plus2 .ensures),
+      omega (arith, c .plus2 .ensures, c .before .plus .ensures, below .short-worth .ensures .1, waiting .sales-worth .ensures .1, added .added-sale .ensures .1),
     )
 
 pub exposure-with-spec : {M : Type 1} → statement M
@@ -62,9 +51,7 @@ exposure-with-spec =
     tie.close
     (tie.spec
     price-sums-requires
-    counts-requires
-    accounts-offset-requires
-    account-entry-requires
+    account-entries-requires
     short-worth-requires
     slice-aggregate-sales-worth
     sales-worth-requires

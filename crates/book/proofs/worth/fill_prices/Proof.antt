@@ -35,7 +35,7 @@ loop-holds c =
 
 price-requires : tie.Need-price-requires Inv-loop μ-loop
 price-requires c κs =
-    let l = c .before .before .loop in (c .before .before .before .before .before .before .pre .1, l .inv .2, omega (arith, l .inv .0))
+    let l = c .before .before .loop in (c .before .before .before .before .before .before .pre .1, (l .inv .2, omega (arith, l .inv .0)))
 
 cast-sums : tie.Need-cast-sums Inv-loop μ-loop
 cast-sums c = search needs

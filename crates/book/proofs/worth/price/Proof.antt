@@ -7,7 +7,7 @@ use Rattle.book.proofs.worth.price.Tie as tie
 
 estimate-requires : tie.Need-estimate-requires
 estimate-requires c κs =
-    let pre = c .before .pre in (setup-tabled _ (pre .0) .whole, pre .1, omega (arith, hours-in _ (pre .0)))
+    let pre = c .before .pre in (setup-tabled _ (pre .0) .whole, pre .1 .0, omega (arith, pre .1, hours-in _ (pre .0)))
 
 returns : tie.Need-returns
 returns c = estimate-stands _ (c .before .before .pre .0) (c .before .before .args .hour) _ (c .estimate .ensures)

@@ -1,8 +1,7 @@
--- A pending sale whose proposer's operator it is weighs its quantity at the prices of its hours, another row nothing.
+-- A pending sale by one of the operator's accounts adds its quantity at the prices of its hours, and any other row nothing.
 use mathlib.Core.Path.{sym}
 use native.Mathlib.Omega.{arith}
-use Rattle.book.proofs.StateLaws.{book-is-sound}
-use Rattle.book.proofs.WorthParts.{cheap-in, spanned, sale-waits, sale-skipped, sale-of-others, sale-priced}
+use Rattle.book.proofs.WorthParts.{spanned, sale-waits, sale-skipped, sale-of-others, sale-priced}
 use Rattle.book.proofs.worth.sale_of.Statement.{statement}
 use Rattle.book.proofs.worth.sale_of.Tie as tie
 
@@ -13,24 +12,21 @@ returns c =
 entry-operator-requires : tie.Need-entry-operator-requires
 entry-operator-requires c κs =
     let start = c .before .before .before .before .before in
-    let known = start .pre .3 .proposer-known (sale-waits (start .args .r) (c .if1 .left)) in
-    (start .pre .0, start .pre .2, known .0, known .1)
+    let known = start .pre .1 .proposer-known (sale-waits (start .args .r) (c .if1 .left)) in
+    (start .pre .0 .is-book, start .pre .0 .account-entries, known)
 
 span-worth-requires : tie.Need-span-worth-requires
 span-worth-requires c κs =
     let start = c .before .before .before .before .before .before .before in
-    let hours = start .pre .3 .hours-known (sale-waits (start .args .r) (c .before .before .if1 .left)) in
-    let sound = book-is-sound _ (start .pre .0) .setup-sound in
-    let span = spanned _ _ (start .args .r) (cheap-in _ (start .pre .0)) (sound .hours-high) (start .pre .1) hours in
-    (start .pre .1 .whole, hours .0, hours .1, omega (arith, hours .2, sound .hours-high), span .ordered, span .high, start .pre .3 .quantity-high)
+    spanned _ _ _ (start .args .r) (start .pre .0) (start .pre .1) (sale-waits (start .args .r) (c .before .before .if1 .left)) .priced
 
 returns-2 : tie.Need-returns-2
 returns-2 c =
     let read = c .before .before in
     let waits = read .before .if1 .left in
     let start = c .before .before .before .before .before .before .before .before in
-    let span = spanned _ _ (start .args .r) (cheap-in _ (start .pre .0)) (book-is-sound _ (start .pre .0) .setup-sound .hours-high) (start .pre .1) (start .pre .3 .hours-known (sale-waits (start .args .r) waits)) in
-    sale-priced _ (start .args .operator) _ (start .args .r) _ _ span (start .pre .3 .quantity-high) waits (read .entry-operator .ensures) (c .before .if2 .taken) (c .span-worth .ensures)
+    let span = spanned _ _ _ (start .args .r) (start .pre .0) (start .pre .1) (sale-waits (start .args .r) waits) in
+    sale-priced _ (start .args .operator) _ (start .args .r) _ _ span waits (read .entry-operator .ensures) (c .before .if2 .taken) (c .span-worth .ensures)
 
 returns-3 : tie.Need-returns-3
 returns-3 c =

@@ -1,63 +1,42 @@
 -- The sum and what the rows of later numbers weigh make what all rows weigh.
 use Prim.Native.Nat.{_+_, _-_, _*_, _≤_}
-use mathlib.Core.Path.{_≡_, ap, _∙_}
+use mathlib.Core.Path.{_≡_}
 use native.Mathlib.Nat.{zero-add}
 use native.Mathlib.Omega.{arith}
 use lib.ListN.{length, drop}
 use borrow.Author.Needs.{needs}
 use Rattle.rules.specs.Basics.{total}
-use Rattle.rules.specs.Limits.{mostEnergy, mostPrice, mostHours, mostRows}
-use Rattle.rules.specs.Opening.{accountsOffset, accountEntry}
+use Rattle.rules.specs.Limits.{mostRows}
 use Rattle.image.specs.Valid.{bookIn}
-use Rattle.book.specs.Worth.{AccountsAt, saleWorth}
-use Rattle.book.proofs.StateLaws.{book-length}
+use Rattle.book.specs.Worth.{saleWorth, mostSaleWorth}
 use Rattle.book.proofs.WorthParts.{rows-next, rows-done}
 use Rattle.book.proofs.worth.sales_worth.Statement.{statement}
 use Rattle.book.proofs.worth.sales_worth.Tie as tie
 
 abbrev Inv-loop : tie.InvT-loop
-Inv-loop book sums operator from width rows sum₀ number₀ sum number =
+Inv-loop book sums entries operator rows sum₀ number₀ sum number =
     let b = bookIn book in
-    AccountsAt from width book
-    × (rows ≡ length (b .part .rows))
+    (rows ≡ length (b .part .rows))
     × (rows ≤ mostRows)
     × (1 ≤ number)
     × (number ≤ rows + 1)
-    × (sum .0 ≤ (number - 1) * (mostEnergy * (mostHours * mostPrice)))
+    × (sum .0 ≤ (number - 1) * mostSaleWorth)
     × (sum .0 + total (saleWorth (b .setup) operator) (drop (number - 1) (b .part .rows)) ≡ total (saleWorth (b .setup) operator) (b .part .rows))
 
 abbrev μ-loop : tie.MeasureT-loop
-μ-loop book sums operator from width rows sum₀ number₀ sum number = rows + 1 - number
-
-counts-requires : tie.Need-counts-requires Inv-loop μ-loop
-counts-requires c κs = omega (arith, book-length _ (c .before .before .pre .0))
-
-accounts-offset-requires : tie.Need-accounts-offset-requires Inv-loop μ-loop
-accounts-offset-requires c κs = search needs
-
-account-entry-requires : tie.Need-account-entry-requires Inv-loop μ-loop
-account-entry-requires c κs = search needs
+μ-loop book sums entries operator rows sum₀ number₀ sum number = rows + 1 - number
 
 row-count-requires : tie.Need-row-count-requires Inv-loop μ-loop
 row-count-requires c κs = search needs
 
 loop-holds : tie.Need-loop-holds Inv-loop μ-loop
-loop-holds c =
-    let read = c .before .before .before .counts .ensures in (
-      (c .before .before .accounts-offset .ensures ∙ ap accountsOffset read, c .before .account-entry .ensures .0 ∙ ap accountEntry read),
-      c .row-count .ensures .0,
-      c .row-count .ensures .1,
-      omega arith,
-      omega arith,
-      omega arith,
-      zero-add _,
-    )
+loop-holds c = (c .row-count .ensures .0, c .row-count .ensures .1, omega arith, omega arith, omega arith, zero-add _)
 
 row-sale-requires : tie.Need-row-sale-requires Inv-loop μ-loop
 row-sale-requires c κs =
     let l = c .before .loop in
-    let pre = c .before .before .before .before .before .before .before .before .pre in
-    (pre .0, pre .1, l .inv .0, l .inv .3, omega (arith, l .inv .1))
+    let pre = c .before .before .before .before .before .pre in
+    (pre, (l .inv .2, omega (arith, l .inv .0)))
 
 plus-requires : tie.Need-plus-requires Inv-loop μ-loop
 plus-requires c κs = omega arith
@@ -74,16 +53,15 @@ loop-again c =
     let sale = c .before .row-sale .ensures in (
       l .inv .0,
       l .inv .1,
-      l .inv .2,
       omega arith,
       omega arith,
-      omega (arith, c .plus .ensures, sale .1, l .inv .5),
-      rows-next _ _ (l .number) _ _ _ _ (l .inv .3) (omega (arith, l .inv .1)) (c .plus .ensures) (sale .0) (l .inv .6),
+      omega (arith, c .plus .ensures, sale .1, l .inv .4),
+      rows-next _ _ (l .number) _ _ _ _ (l .inv .2) (omega (arith, l .inv .0)) (c .plus .ensures) (sale .0) (l .inv .5),
     )
 
 returns : tie.Need-returns Inv-loop μ-loop
 returns c =
-    let l = c .before .loop in (rows-done _ _ (l .number - 1) _ _ (omega (arith, l .inv .1)) (l .inv .6), omega (arith, l .inv .5, l .inv .2))
+    let l = c .before .loop in (rows-done _ _ (l .number - 1) _ _ (omega (arith, l .inv .0)) (l .inv .5), omega (arith, l .inv .4, l .inv .1))
 
 pub sales-worth-spec : {M : Type 1} → statement M
 sales-worth-spec =
@@ -91,9 +69,6 @@ sales-worth-spec =
     (tie.spec
     Inv-loop
     μ-loop
-    counts-requires
-    accounts-offset-requires
-    account-entry-requires
     row-count-requires
     loop-holds
     row-sale-requires

@@ -6,7 +6,7 @@ use Rattle.book.proofs.worth.short_share.Statement.{statement}
 use Rattle.book.proofs.worth.short_share.Tie as tie
 
 entry-operator-requires : tie.Need-entry-operator-requires
-entry-operator-requires c κs = let pre = c .before .pre in (pre .0, pre .1, pre .2 .0, pre .2 .1)
+entry-operator-requires c κs = let pre = c .before .pre in (pre .0, pre .1, pre .2)
 
 account-short-requires : tie.Need-account-short-requires
 account-short-requires c κs = let pre = c .before .before .before .pre in (pre .0, pre .2, pre .3)

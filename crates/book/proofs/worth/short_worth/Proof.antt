@@ -5,12 +5,11 @@ use native.Mathlib.Omega.{arith}
 use borrow.Author.Needs.{needs}
 use Rattle.rules.specs.declared.Counts.{Counts}
 use Rattle.rules.specs.Basics.{total, counting}
-use Rattle.rules.specs.Limits.{mostEnergy, mostPrice, mostHours, mostAccounts}
+use Rattle.rules.specs.Limits.{mostAccounts}
 use Rattle.rules.specs.Books.{accountCount}
-use Rattle.rules.specs.Opening.{accountsOffset, accountEntry}
 use Rattle.rules.proofs.Basics.CountingLaws.{sum-begins, sum-next, sum-done}
 use Rattle.image.specs.Valid.{bookIn}
-use Rattle.book.specs.Worth.{AccountsAt, addedRows, shortShare, netWith}
+use Rattle.book.specs.Worth.{shortShare, netsWith, mostShortWorth}
 use Rattle.book.proofs.StateLaws.{book-length, book-is-sound}
 use Rattle.book.proofs.WorthParts.{accounts-in}
 use Rattle.book.proofs.ShortLaws.{short-by-account}
@@ -18,37 +17,28 @@ use Rattle.book.proofs.worth.short_worth.Statement.{statement}
 use Rattle.book.proofs.worth.short_worth.Tie as tie
 
 abbrev Inv-loop : tie.InvT-loop
-Inv-loop book operator added n from width sum₀ account₀ sum account =
+Inv-loop book entries operator added n sum₀ account₀ sum account =
     let b = bookIn book in
     (n .accounts ≡ accountCount (b .setup))
     × (n .accounts ≤ mostAccounts)
-    × AccountsAt from width book
     × (1 ≤ account)
     × (account ≤ n .accounts + 1)
-    × (sum .0 ≤ (account - 1) * (mostHours * (2 * mostEnergy * mostPrice)))
-    × (sum .0 + total (shortShare (b .setup) (netWith (b .part .rows) (addedRows added)) operator) (counting (accountCount (b .setup) + 1 - account) account)
-    ≡ total (shortShare (b .setup) (netWith (b .part .rows) (addedRows added)) operator) (counting (accountCount (b .setup)) 1))
+    × (sum .0 ≤ (account - 1) * mostShortWorth)
+    × (sum .0 + total (shortShare (b .setup) (netsWith b added) operator) (counting (accountCount (b .setup) + 1 - account) account)
+    ≡ total (shortShare (b .setup) (netsWith b added) operator) (counting (accountCount (b .setup)) 1))
 
 abbrev μ-loop : tie.MeasureT-loop
-μ-loop book operator added n from width sum₀ account₀ sum account = n .accounts + 1 - account
+μ-loop book entries operator added n sum₀ account₀ sum account = n .accounts + 1 - account
 
 counts-requires : tie.Need-counts-requires Inv-loop μ-loop
 counts-requires c κs = omega (arith, book-length _ (c .before .pre .0))
 
-accounts-offset-requires : tie.Need-accounts-offset-requires Inv-loop μ-loop
-accounts-offset-requires c κs = search needs
-
-account-entry-requires : tie.Need-account-entry-requires Inv-loop μ-loop
-account-entry-requires c κs = search needs
-
 loop-holds : tie.Need-loop-holds Inv-loop μ-loop
 loop-holds c =
-    let start = c .before .before .before .before in
-    let read = c .before .before .counts .ensures in
-    let accounts = ap (λ (n : Counts). n .accounts) read ∙ accounts-in _ (start .pre .0) in (
+    let start = c .before .before in
+    let accounts = ap (λ (n : Counts). n .accounts) (c .counts .ensures) ∙ accounts-in _ (start .pre .0) in (
       accounts,
       omega (arith, accounts, book-is-sound _ (start .pre .0) .setup-sound .accounts-high),
-      (c .before .accounts-offset .ensures ∙ ap accountsOffset read, c .account-entry .ensures .0 ∙ ap accountEntry read),
       omega arith,
       omega arith,
       omega arith,
@@ -58,8 +48,8 @@ loop-holds c =
 short-share-requires : tie.Need-short-share-requires Inv-loop μ-loop
 short-share-requires c κs =
     let l = c .before .before .loop in
-    let pre = c .before .before .before .before .before .before .before .pre in
-    (pre .0, l .inv .2, (l .inv .3, omega (arith, l .inv .0)), pre .1)
+    let pre = c .before .before .before .before .before .pre in
+    (pre .0, pre .1, (l .inv .2, omega (arith, l .inv .0)), pre .2)
 
 plus-requires : tie.Need-plus-requires Inv-loop μ-loop
 plus-requires c κs = omega arith
@@ -76,17 +66,16 @@ loop-again c =
     let share = c .before .short-share .ensures in (
       l .inv .0,
       l .inv .1,
-      l .inv .2,
       omega arith,
       omega arith,
-      omega (arith, l .inv .5, c .plus .ensures, share .1),
-      sum-next _ _ _ _ _ _ _ (omega (arith, l .inv .0)) (c .plus .ensures ∙ ap (λ (x : ℕ). l .sum .0 + x) (share .0)) (l .inv .6),
+      omega (arith, l .inv .4, c .plus .ensures, share .1),
+      sum-next _ _ _ _ _ _ _ (omega (arith, l .inv .0)) (c .plus .ensures ∙ ap (λ (x : ℕ). l .sum .0 + x) (share .0)) (l .inv .5),
     )
 
 returns : tie.Need-returns Inv-loop μ-loop
 returns c =
     let l = c .before .before .loop in
-    (sum-done _ _ _ _ _ (omega (arith, l .inv .0)) (l .inv .6) ∙ sym (short-by-account _ _ _), omega (arith, l .inv .5, l .inv .1))
+    (sum-done _ _ _ _ _ (omega (arith, l .inv .0)) (l .inv .5) ∙ sym (short-by-account _ _ _), omega (arith, l .inv .4, l .inv .1))
 
 pub short-worth-spec : {M : Type 1} → statement M
 short-worth-spec =
@@ -95,8 +84,6 @@ short-worth-spec =
     Inv-loop
     μ-loop
     counts-requires
-    accounts-offset-requires
-    account-entry-requires
     loop-holds
     short-share-requires
     plus-requires

@@ -32,7 +32,7 @@ mul-t14 : tie.Need-mul-t14
 mul-t14 c =
     let start = c .before .before .before in
     let sums = start .args .sums .now in
-    omega (arith, span-most (start .args .quantity .0) (getD sums (start .args .last) 0 - getD sums (start .args .first - 1) 0) (start .pre .6) (omega arith))
+    omega (arith, span-most (start .args .quantity .0) (getD sums (start .args .last) 0 - getD sums (start .args .first - 1) 0) (start .pre .quantity-high) (omega arith))
 
 returns : tie.Need-returns
 returns c = search needs
