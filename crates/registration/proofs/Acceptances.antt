@@ -1,6 +1,6 @@
 -- What an accepted confirm or withdraw writes: the bytes are the image of the book, so that the write laws of images apply, and the
 -- checks that it passed keep the book sound.
-use Prim.Native.Nat.{ℕ, suc, _+_, _-_, _^_}
+use Prim.Native.Nat.{ℕ, suc, _+_, _-_, _≤_}
 use mathlib.Core.Path.{_≡_, refl, sym, ap, _∙_}
 use mathlib.Core.List.{List}
 use mathlib.Core.Option.{none, some}
@@ -10,22 +10,20 @@ use native.Mathlib.Omega.{arith}
 use lib.ListN.{getD}
 use Rattle.wire.specs.Numbers.{le}
 use Rattle.wire.specs.Regions.{splice}
-use Rattle.wire.specs.Parts.{sweep}
 use Rattle.rules.specs.declared.Row.{Row}
 use Rattle.rules.specs.declared.Request.{Request}
 use Rattle.rules.specs.Limits.{mostHours, bookSize}
 use Rattle.rules.specs.Verdicts.{accepted}
 use Rattle.rules.specs.Basics.{nth}
 use Rattle.rules.specs.Books.{Book, noRow}
-use Rattle.rules.specs.Registration.{pending, seller, buyer, confirms}
+use Rattle.rules.specs.Registration.{pending, confirms}
 use Rattle.rules.specs.Requests.{confirm, withdraw}
 use Rattle.rules.specs.Calls.{confirmedNumber, given}
 use Rattle.rules.proofs.Rows.RowTests.{passed-confirm, passed-withdraw}
 use Rattle.rules.proofs.Rows.AccountHours.{pending-inside}
 use Rattle.rules.proofs.Basics.Searches.{each-nth}
-use Rattle.image.specs.Layout.{presentOffset, rowOffset, netOffset, statusOffset, netWidth}
+use Rattle.image.specs.Layout.{presentOffset, rowOffset, statusOffset}
 use Rattle.image.specs.Valid.{isBook, bookIn}
-use Rattle.image.specs.Changes.{raised}
 use Rattle.image.proofs.Writing.Sizes.{RowFits, row-fits-of}
 use Rattle.image.proofs.Writing.BookWrites.{write-confirmed, write-withdrawn}
 use Rattle.image.proofs.Keeping.KeepsChanges.{apply-keeps}
@@ -33,18 +31,15 @@ use Rattle.image.proofs.Keeping.KeepsKinds.{confirm-allowed, withdraw-allowed}
 use Rattle.book.specs.Kinds.{decided}
 use Rattle.book.proofs.StateLaws.{book-image, book-fits, book-is-sound}
 use Rattle.book.proofs.Answers.{decided-clear, Answered, accepted-answered}
+use Rattle.registration.specs.Positions.{netsMoved, markedConfirmed}
 
 module _ (s t : List ℕ) (h : isBook s ≡ true) where
   -- 2: the row's status, the hours of its seller, those of its buyer
-  pub confirmed-answered : (q : Request) (i n at low high : ℕ) (r : Row) → decided confirm (bookIn s) q ≡ none
-      → confirms (bookIn s .part .rows) q ≡ some i → r ≡ getD (bookIn s .part .rows) i noRow → r .first + n ≡ suc (r .last)
-      → at ≡ presentOffset + rowOffset i + statusOffset
-      → low ≡ presentOffset + netOffset mostHours (seller r) (r .first) → high ≡ presentOffset + netOffset mostHours (buyer r) (r .first)
-      → t
-      ≡ sweep (raised netWidth (r .quantity .0)) netWidth (sweep (raised netWidth (256 ^ netWidth - r .quantity .0)) netWidth (splice s at (le 1 2)) low n) high n
+  pub confirmed-answered : (q : Request) (i : ℕ) (r : Row) → decided confirm (bookIn s) q ≡ none → confirms (bookIn s .part .rows) q ≡ some i
+      → r ≡ getD (bookIn s .part .rows) i noRow → r .first ≤ r .last → t ≡ netsMoved (markedConfirmed s (i + 1)) r
       → Answered confirm s q (accepted (i + 1)) t
   unfolding given
-  confirmed-answered q i n at low high r d named row hours place sells buys e =
+  confirmed-answered q i r d named row order e =
       let b : Book = bookIn s in
       let sound = book-is-sound s h in
       let clear = decided-clear confirm b q d in
@@ -58,8 +53,9 @@ module _ (s t : List ℕ) (h : isBook s ≡ true) where
       (each-nth noRow (confirmedNumber b q) (sound .part-sound .rows-sound) (w .low) (w .high))) in
       accepted-answered confirm s q h t (i + 1) d (add-one i ∙ sym number)
       (e
-      ∙ ap (λ (x : List ℕ). sweep (raised netWidth (r .quantity .0)) netWidth (sweep (raised netWidth (256 ^ netWidth - r .quantity .0)) netWidth (splice x at (le 1 2)) low n) high n) (book-image s h)
-      ∙ write-confirmed mostHours bookSize b (book-fits s h) (confirmedNumber b q) i n at low high r number here pend fit hours place sells buys)
+      ∙ ap (λ (x : List ℕ). netsMoved (markedConfirmed x (i + 1)) r) (book-image s h)
+      ∙ write-confirmed mostHours bookSize b (book-fits s h) (confirmedNumber b q) i (r .last - r .first + 1) (presentOffset + rowOffset (i + 1 - 1) + statusOffset) _ _ r
+      number here pend fit (omega arith) (omega arith) refl refl)
       (apply-keeps _ b sound (confirm-allowed b q sound clear))
 
   -- 3: the row's status

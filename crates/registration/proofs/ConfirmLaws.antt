@@ -1,5 +1,5 @@
--- A row confirmed: what it is by being named; what it weighs once it is a trade; the tests of confirm in the order of their numbers, each
--- on the book as it would be; and its status with the nets of both parties as all that is written.
+-- A row confirmed: what it is by being named; what it adds to an exposure once it is a trade; the tests of confirm in the order of their
+-- numbers, each on the book as it would be; and its status with the nets of both parties as all that is written.
 use Prim.Native.Nat.{ℕ, suc, _+_, _-_, _^_, _≤_}
 use mathlib.Core.Path.{_≡_, refl, sym, ap, _∙_}
 use mathlib.Core.List.{List, [], _∷_}
@@ -10,29 +10,25 @@ use native.Mathlib.Omega.{arith}
 use lib.ListN.{length, getD}
 use lib.Dec.{eqb, leb}
 use borrow.Author.Tests.{ne-eqb}
-use Rattle.wire.specs.Numbers.{le}
-use Rattle.wire.specs.Regions.{splice}
-use Rattle.wire.specs.Parts.{sweep}
 use Rattle.rules.specs.declared.Row.{Row}
 use Rattle.rules.specs.declared.Request.{Request}
 use Rattle.rules.specs.declared.Refusal.the-variants.{NoSuchRow, NotMirrored, MarginBroken, Uncovered}
 use Rattle.rules.specs.Basics.{indexOf, nth, counting}
 use Rattle.rules.specs.Limits.{mostEnergy, mostHours}
 use Rattle.rules.specs.Verdicts.{accepted}
-use Rattle.rules.specs.Books.{Setup, Book, noRow, operatorOf, accountCount, periods, marginsAt}
+use Rattle.rules.specs.Books.{Setup, Book, noRow, operatorOf, periods, marginsAt}
 use Rattle.rules.specs.Requests.{confirm}
-use Rattle.rules.specs.Registration.{pending, seller, buyer, withStatus, mark, alike, confirms, mirrors, accountHour, afterTrade, keepsMargins, brokenHour, brokenBy, exposure, available, covered, exposureWith}
+use Rattle.rules.specs.Registration.{pending, withStatus, mark, alike, confirms, mirrors, accountHour, afterTrade, keepsMargins, brokenHour, brokenBy, exposure, covered}
 use Rattle.rules.specs.Calls.{numberFrom, confirmedNumber, next, apply}
 use Rattle.rules.proofs.Basics.Searches.{index-first}
 use Rattle.rules.proofs.Rows.RowTests.{Alike, alike-true, passed-confirm}
 use Rattle.rules.proofs.Checks.Passed.{passed-16-confirm}
 use Rattle.rules.proofs.Rows.AccountHours.{pending-inside, hour-takes-confirmed}
-use Rattle.image.specs.Layout.{presentOffset, rowOffset, netOffset, statusOffset, netWidth}
-use Rattle.image.specs.Changes.{raised}
 use Rattle.image.specs.Valid.{isBook, bookIn}
 use Rattle.image.specs.Tables.{Tabled}
 use Rattle.image.proofs.Sound.Soundness.{SoundRow}
 use Rattle.image.proofs.Keeping.Easing.{sale-eases-operators}
+use Rattle.book.specs.Members.{IsAccount, IsRow, numberedRow}
 use Rattle.book.specs.Worth.{saleWorth, TradeInRange}
 use Rattle.book.specs.Kinds.{decided}
 use Rattle.book.proofs.StateLaws.{book-is-sound}
@@ -40,7 +36,9 @@ use Rattle.book.proofs.BookRows.{sound-tabled, numbered-sound}
 use Rattle.book.proofs.WorthLaws.{with-confirmed}
 use Rattle.book.proofs.Answers.{decided-clear, Answered}
 use Rattle.registration.specs.Confirming.{Confirming, WaitsIn}
-use Rattle.registration.specs.Margins.{broken}
+use Rattle.registration.specs.Margins.{TradeInRange, broken}
+use Rattle.registration.specs.Cover.{exposureConfirming, coveredConfirming}
+use Rattle.registration.specs.Positions.{netsMoved, markedConfirmed}
 use Rattle.registration.specs.declared.margins.Broken.the-variants.{Hour, Nowhere}
 use Rattle.registration.proofs.Decisions.{no-row-to-confirm, terms-differ, confirm-breaks, confirm-uncovered, confirm-passes}
 use Rattle.registration.proofs.Acceptances.{confirmed-answered}
@@ -96,52 +94,54 @@ unfolding confirms
 confirmed-high b q = number-high (alike (q .other) (q .account) (q .code)) (b .part .rows)
 
 -- the row of a number is sound
-row-sound : (s : List ℕ) (h : isBook s ≡ true) (n : ℕ) (r : Row) → 1 ≤ n → n ≤ length (bookIn s .part .rows)
-    → r ≡ nth (bookIn s .part .rows) n noRow → SoundRow (bookIn s .setup) r
-row-sound s h n r low high e = rw e (numbered-sound s h n low high)
+row-sound : (s : List ℕ) (h : isBook s ≡ true) (n : ℕ) (r : Row) → IsRow (bookIn s) n → r ≡ numberedRow (bookIn s) n → SoundRow (bookIn s .setup) r
+row-sound s h n r own e = rw e (numbered-sound s h n own)
 
--- ---- a row that waits, once it is confirmed
+-- ---- a pending row, once it is confirmed
 
--- a purchase weighs nothing while it waits, so that nothing is taken off what is owed
+-- a pending purchase adds nothing to an exposure, so that nothing is subtracted for it
 pub purchase-frees-none : (u : Setup) (o owed limit : ℕ) (r : Row) → (r .side ≡ 1 → ⊥) → leb owed limit ≡ leb (owed - saleWorth u o r) limit
 unfolding saleWorth
 purchase-frees-none u o owed limit r buys = rw (ne-eqb (r .side) 1 buys, and-false (pending r), sub-zero owed)
 
 module _ (s : List ℕ) (r : Row) (h : isBook s ≡ true) (w : WaitsIn (bookIn s) r) where
-  waiting-inside : (1 ≤ w .number) × (w .number ≤ length (bookIn s .part .rows))
+  waiting-inside : IsRow (bookIn s) (w .number)
   waiting-inside = pending-inside (bookIn s .part .rows) (w .number) (rw (← w .row) (w .is-pending))
 
   waiting-sound : SoundRow (bookIn s .setup) r
-  waiting-sound = row-sound s h (w .number) r (waiting-inside .0) (waiting-inside .1) (w .row)
+  waiting-sound = row-sound s h (w .number) r waiting-inside (w .row)
 
   module _ (trade : Row) (e : trade ≡ withStatus 2 r) where
-    pub trade-energy : trade .quantity .0 ≤ mostEnergy
-    trade-energy = rw e (waiting-sound .quantity-high)
+    -- as a trade it is in range, and can be added
+    pub trade-in-range : (a : ℕ) → IsAccount (bookIn s) a → TradeInRange (bookIn s) a trade
+    trade-in-range a own =
+        let sound = waiting-sound in
+        rw e (record {
+          account-known = own;
+          quantity-high = sound .quantity-high;
+          first-low = sound .first-low;
+          in-order = sound .in-order;
+          last-high = sound .last-high;
+        })
 
-    pub trade-hours : (1 ≤ trade .first) × (trade .first ≤ trade .last) × (trade .last ≤ periods (bookIn s .setup))
-    trade-hours = rw e (waiting-sound .first-low, waiting-sound .in-order, waiting-sound .last-high)
-
-    -- as a trade it can be taken
     pub trade-trade-in-range : TradeInRange (bookIn s .setup) trade
-    trade-trade-in-range = settled-trade-in-range (bookIn s .setup) trade trade-energy (rw e)
+    trade-trade-in-range = settled-trade-in-range (bookIn s .setup) trade (rw e (waiting-sound .quantity-high)) (rw e)
 
-    -- with the trade taken the exposure is that of the rows where it is confirmed, and what the row weighs as one that waits
-    trade-worth : (o : ℕ) → exposureWith (bookIn s .setup) (bookIn s .part .rows) (trade ∷ []) o
-        ≡ exposure (bookIn s .setup) (mark (w .number) 2 (bookIn s .part .rows)) o + saleWorth (bookIn s .setup) o r
-    trade-worth o =
-        rw e (with-confirmed (bookIn s .setup) o (bookIn s .part .rows) r (w .number) (waiting-inside .0) (waiting-inside .1) (w .row) (w .is-pending)
-        (waiting-sound .proposer-low, waiting-sound .proposer-high))
+  -- once the row is confirmed the exposure is that of the rows where it is marked so
+  confirming-exposure : (o : ℕ) → exposureConfirming (bookIn s) r o ≡ exposure (bookIn s .setup) (mark (w .number) 2 (bookIn s .part .rows)) o
+  confirming-exposure o =
+      omega (
+        arith,
+        with-confirmed (bookIn s .setup) o (bookIn s .part .rows) r (w .number) (waiting-inside .0) (waiting-inside .1) (w .row) (w .is-pending)
+            (waiting-sound .proposer-low, waiting-sound .proposer-high),
+      )
 
-    -- a sale that is confirmed leaves every operator covered
-    pub sale-covered : (a : ℕ) → 1 ≤ a → a ≤ accountCount (bookIn s .setup) → r .side ≡ 1
-        → true
-        ≡ leb
-        (exposureWith (bookIn s .setup) (bookIn s .part .rows) (trade ∷ []) (operatorOf (bookIn s .setup) a) - saleWorth (bookIn s .setup) (operatorOf (bookIn s .setup) a) r)
-        (available (bookIn s .setup) (bookIn s .part) (operatorOf (bookIn s .setup) a))
-    sale-covered a low high sells =
-        let o : ℕ = operatorOf (bookIn s .setup) a in
-        still-covered s a _ h low high
-        (omega (arith, trade-worth o, sale-eases-operators (bookIn s .setup) (bookIn s .part .rows) (w .number) o (rw (← w .row) (w .is-pending)) (rw (← w .row) sells)))
+  -- a sale that is confirmed leaves every operator covered
+  pub sale-covered : (a : ℕ) → IsAccount (bookIn s) a → r .side ≡ 1 → true ≡ coveredConfirming (bookIn s) r (operatorOf (bookIn s .setup) a)
+  sale-covered a own sells =
+      let o : ℕ = operatorOf (bookIn s .setup) a in
+      still-covered s a _ h own
+      (omega (arith, confirming-exposure o, sale-eases-operators (bookIn s .setup) (bookIn s .part .rows) (w .number) o (rw (← w .row) (w .is-pending)) (rw (← w .row) sells)))
 
 -- ---- the row that is named and mirrored
 
@@ -162,7 +162,7 @@ module _ (s : List ℕ) (q : Request) (r : Row) (h : isBook s ≡ true) (w : Con
   named-sound = waiting-sound s r h named-waits
 
   -- the calling account is one of the book's, and not the proposer
-  pub caller-in-book : (1 ≤ q .account) × (q .account ≤ accountCount (bookIn s .setup))
+  pub caller-in-book : IsAccount (bookIn s) (q .account)
   caller-in-book = let same = named-alike .counterparty in (omega (arith, same, named-sound .counterparty-low), omega (arith, same, named-sound .counterparty-high))
 
   not-own : eqb (r .proposer) (q .account) ≡ false
@@ -191,17 +191,12 @@ module _ (s : List ℕ) (q : Request) (r : Row) (h : isBook s ≡ true) (w : Con
         confirm-breaks (bookIn s) q (w .in-registration) i named same-terms k (broken-next ∙ found-hour _ _ _ _ _ k e f)
 
     module _ (kept : Nowhere ≡ broken (brokenBy (bookIn s .setup) (bookIn s .part .rows) (trade ∷ []) (q .account))) (t : Bool)
-        (weight : t
-        ≡ leb
-        (exposureWith (bookIn s .setup) (bookIn s .part .rows) (trade ∷ []) (operatorOf (bookIn s .setup) (q .account)) - saleWorth (bookIn s .setup) (operatorOf (bookIn s .setup) (q .account)) r)
-        (available (bookIn s .setup) (bookIn s .part) (operatorOf (bookIn s .setup) (q .account)))) where
+        (test : t ≡ coveredConfirming (bookIn s) r (operatorOf (bookIn s .setup) (q .account))) where
       covered-next : covered (bookIn s .setup) (next confirm (bookIn s) q .part) (operatorOf (bookIn s .setup) (q .account)) ≡ t
       unfolding apply
       covered-next =
-          let u : Setup = bookIn s .setup in
-          let o : ℕ = operatorOf u (q .account) in
-          let rows : List Row = bookIn s .part .rows in
-          covered-at u (bookIn s .part .guarantees) rows (mark (confirmedNumber (bookIn s) q) 2 rows) o _ (omega (arith, trade-worth s r h named-waits trade e o)) ∙ sym weight
+          let o : ℕ = operatorOf (bookIn s .setup) (q .account) in
+          covered-at (bookIn s) (mark (confirmedNumber (bookIn s) q) 2 (bookIn s .part .rows)) o _ (confirming-exposure s r h named-waits o) ∙ sym test
 
       -- 19
       pub trade-uncovered : t ≡ false → decided confirm (bookIn s) q ≡ some Uncovered
@@ -218,14 +213,14 @@ module _ (s : List ℕ) (q : Request) (r : Row) (h : isBook s ≡ true) (w : Con
 
 module _ (s : List ℕ) (q : Request) (number : ℕ) (h : isBook s ≡ true) (free : decided confirm (bookIn s) q ≡ none)
     (same : number ≡ confirmedNumber (bookIn s) q) where
-  pub accepted-number : (1 ≤ number) × (number ≤ length (bookIn s .part .rows))
+  pub accepted-number : IsRow (bookIn s) number
   accepted-number =
       let w = passed-confirm (bookIn s) q (decided-clear confirm (bookIn s) q free) in
       (omega (arith, same, w .low), omega (arith, same, w .high))
 
   module _ (r : Row) (row : r ≡ nth (bookIn s .part .rows) number noRow) where
     accepted-sound : SoundRow (bookIn s .setup) r
-    accepted-sound = row-sound s h number r (accepted-number .0) (accepted-number .1) row
+    accepted-sound = row-sound s h number r accepted-number row
 
     pub accepted-tabled : Tabled mostHours r
     accepted-tabled = sound-tabled (bookIn s .setup) (book-is-sound s h .setup-sound) r accepted-sound
@@ -233,19 +228,10 @@ module _ (s : List ℕ) (q : Request) (number : ℕ) (h : isBook s ≡ true) (fr
     pub accepted-energy : 1 ≤ r .quantity .0
     accepted-energy = accepted-sound .quantity-low
 
-    pub trade-answered : (t : List ℕ)
-        → t
-        ≡ sweep (raised netWidth (r .quantity .0)) netWidth
-        (sweep (raised netWidth (256 ^ netWidth - r .quantity .0)) netWidth (splice s (presentOffset + rowOffset (number - 1) + statusOffset) (le 1 2))
-        (presentOffset + netOffset mostHours (seller r) (r .first)) (r .last - r .first + 1))
-        (presentOffset + netOffset mostHours (buyer r) (r .first)) (r .last - r .first + 1)
-        → Answered confirm s q (accepted number) t
+    pub trade-answered : (t : List ℕ) → t ≡ netsMoved (markedConfirmed s number) r → Answered confirm s q (accepted number) t
     trade-answered t e =
         let (i, named) = passed-16-confirm (bookIn s) q (decided-clear confirm (bookIn s) q free) in
         let next-one : number ≡ suc i = same ∙ ap numberFrom named in
         let here : r ≡ getD (bookIn s .part .rows) i noRow = row ∙ ap (λ (n : ℕ). nth (bookIn s .part .rows) n noRow) next-one in
-        let given : i + 1 ≡ number = omega (arith, next-one) in
-        let order = accepted-sound .in-order in
-        rw given at
-        (confirmed-answered s t h q i (r .last - r .first + 1) (presentOffset + rowOffset (number - 1) + statusOffset) _ _ r free named here
-        (omega arith) (omega (arith, next-one)) refl refl e)
+        let given : number ≡ i + 1 = omega (arith, next-one) in
+        rw given (confirmed-answered s t h q i r free named here (accepted-sound .in-order) (rw given at e))

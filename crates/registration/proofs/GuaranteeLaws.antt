@@ -1,4 +1,4 @@
--- A guarantee replaced: the rows stand, so that the exposure is that of the present ones, and only the 8 bytes of the guarantee change.
+-- A guarantee replaced: the rows stay, so that the exposure is that of the present ones, and only the 8 bytes of the guarantee change.
 use Prim.Native.Nat.{ℕ, zero, suc, _+_, _-_, _*_, _≤_}
 use mathlib.Core.Path.{_≡_, refl, sym, ap, _∙_}
 use mathlib.Core.List.{List}
@@ -8,7 +8,6 @@ use native.Mathlib.Nat.{mul-le-mul-right}
 use native.Mathlib.Omega.{arith}
 use lib.ListN.{length}
 use lib.Seq.{getD-set-same}
-use lib.Dec.{leb}
 use borrow.Author.Tests.{eq-eqb, leb-true, le-leb}
 use Rattle.wire.specs.Numbers.{le}
 use Rattle.wire.specs.Regions.{splice}
@@ -21,7 +20,7 @@ use Rattle.rules.specs.Limits.{mostHours, mostGuarantee, thousand, bookSize}
 use Rattle.rules.specs.Verdicts.{firstToApply, accepted}
 use Rattle.rules.specs.Books.{Setup, Book, countsOf, maintenanceAt, guaranteeAt, operatorCount}
 use Rattle.rules.specs.Requests.{guarantee, inRange}
-use Rattle.rules.specs.Registration.{exposure, available, covered}
+use Rattle.rules.specs.Registration.{exposure, covered}
 use Rattle.rules.specs.Calls.{next, given, stateChecks, apply}
 use Rattle.rules.specs.Opening.{guaranteeWidth}
 use Rattle.rules.proofs.Basics.Tests.{within-true}
@@ -31,22 +30,24 @@ use Rattle.image.specs.Valid.{isBook, bookIn}
 use Rattle.image.proofs.Writing.BookWrites.{write-guarantee}
 use Rattle.image.proofs.Keeping.KeepsChanges.{apply-keeps}
 use Rattle.image.proofs.Keeping.KeepsKinds.{guarantee-allowed}
+use Rattle.book.specs.Members.{IsOperator}
 use Rattle.book.specs.Kinds.{decided, Ready}
 use Rattle.book.proofs.StateLaws.{book-image, book-fits, book-is-sound}
 use Rattle.book.proofs.Answers.{decided-clear, Answered, accepted-answered}
 use Rattle.book.proofs.Readiness.{bare, ready-input}
-use Rattle.registration.proofs.CoverLaws.{covered-at-guarantee}
+use Rattle.registration.specs.Cover.{coveredBy}
+use Rattle.registration.proofs.CoverLaws.{covered-at-guarantee, exposure-available}
 
 -- ---- a request that is ready
 
 -- it names an operator of the book and a guarantee in range
 pub ready-guarantee : (b : Book) (q : Request) → Ready guarantee b q
-    → (1 ≤ q .operator) × (q .operator ≤ operatorCount (b .setup)) × (q .guarantee .0 ≤ mostGuarantee)
+    → IsOperator b (q .operator) × (q .guarantee .0 ≤ mostGuarantee)
 unfolding bit inRange
 ready-guarantee b q r =
     let o =
     within-true 1 (q .operator) (operatorCount (b .setup)) .0 (field-in-range (countsOf (b .setup)) q 9 (r .in-range) (omega arith) (rw (r .of-kind))) in
-    (o .0, o .1, leb-true _ _ (field-in-range (countsOf (b .setup)) q 10 (r .in-range) (omega arith) (rw (r .of-kind))))
+    (o, leb-true _ _ (field-in-range (countsOf (b .setup)) q 10 (r .in-range) (omega arith) (rw (r .of-kind))))
 
 -- ---- what the state decides
 
@@ -56,7 +57,7 @@ put-same gs (suc i) g l h = getD-set-same gs i g (cents 0) (omega arith)
 
 module _ (b : Book) (q : Request) (first : b .phase ≡ 1) (low : 1 ≤ q .operator) (high : q .operator ≤ length (b .part .guarantees)) where
   new-guarantee-covered : covered (b .setup) (next guarantee b q .part) (q .operator)
-      ≡ leb (exposure (b .setup) (b .part .rows) (q .operator)) (q .guarantee .0 * (thousand - maintenanceAt (b .setup) (q .operator)))
+      ≡ coveredBy (b .setup) (exposure (b .setup) (b .part .rows) (q .operator)) (q .guarantee .0) (q .operator)
   unfolding apply
   new-guarantee-covered =
       covered-at-guarantee (b .setup) (next guarantee b q .part) (q .operator) (q .guarantee .0)
@@ -64,25 +65,24 @@ module _ (b : Book) (q : Request) (first : b .phase ≡ 1) (low : 1 ≤ q .opera
 
   -- 19
   pub too-little-guarantee-in-force : (t : Bool)
-      → t ≡ leb (exposure (b .setup) (b .part .rows) (q .operator)) (q .guarantee .0 * (thousand - maintenanceAt (b .setup) (q .operator)))
+      → t ≡ coveredBy (b .setup) (exposure (b .setup) (b .part .rows) (q .operator)) (q .guarantee .0) (q .operator)
       → t ≡ false → decided guarantee b q ≡ some Uncovered
   unfolding decided stateChecks firstToApply
   too-little-guarantee-in-force t e f = rw (eq-eqb _ 1 first, new-guarantee-covered ∙ sym e ∙ f)
 
   pub enough-guarantee-in-force : (t : Bool)
-      → t ≡ leb (exposure (b .setup) (b .part .rows) (q .operator)) (q .guarantee .0 * (thousand - maintenanceAt (b .setup) (q .operator)))
+      → t ≡ coveredBy (b .setup) (exposure (b .setup) (b .part .rows) (q .operator)) (q .guarantee .0) (q .operator)
       → t ≡ true → decided guarantee b q ≡ none
   unfolding decided stateChecks firstToApply
   enough-guarantee-in-force t e f = rw (eq-eqb _ 1 first, new-guarantee-covered ∙ sym e ∙ f)
 
--- a guarantee that is no lower than the one in force covers what a book's rows weigh
-pub no-lower-covers : (s : List ℕ) → isBook s ≡ true → (o g : ℕ) (held : Cents) → 1 ≤ o → o ≤ operatorCount (bookIn s .setup)
+-- a guarantee that is no lower than the one in force covers the exposure of a book
+pub no-lower-covers : (s : List ℕ) → isBook s ≡ true → (o g : ℕ) (held : Cents) → IsOperator (bookIn s) o
     → held ≡ guaranteeAt (bookIn s .part .guarantees) o → held .0 ≤ g
-    → true ≡ leb (exposure (bookIn s .setup) (bookIn s .part .rows) o) (g * (thousand - maintenanceAt (bookIn s .setup) o))
-unfolding covered available
-no-lower-covers s h o g held low high e more =
+    → true ≡ coveredBy (bookIn s .setup) (exposure (bookIn s .setup) (bookIn s .part .rows) o) g o
+no-lower-covers s h o g held own e more =
     let u : Setup = bookIn s .setup in
-    let fits = leb-true (exposure u (bookIn s .part .rows) o) (available u (bookIn s .part) o) (book-is-sound s h .part-sound .is-covered o low high) in
+    let fits = exposure-available s o h own in
     let room = mul-le-mul-right (thousand - maintenanceAt u o) (rw e at more) in
     sym (le-leb (exposure u (bookIn s .part .rows) o) (g * (thousand - maintenanceAt u o)) (omega arith))
 
@@ -95,8 +95,8 @@ unfolding given
 guarantee-answered s t h q at r d place e =
     let o = ready-guarantee (bookIn s) q r in
     let all = book-is-sound s h .part-sound .guarantees-all in
-    let low = o .0 in
-    let high = o .1 in
+    let low = o .0 .0 in
+    let high = o .0 .1 in
     accepted-answered guarantee s q h t 0 d refl
     (e
     ∙ ap (λ (x : List ℕ). splice x at (le 8 (q .guarantee .0))) (book-image s h)

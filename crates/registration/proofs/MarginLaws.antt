@@ -14,17 +14,19 @@ use Rattle.rules.specs.declared.AccountHour.{AccountHour}
 use Rattle.rules.specs.declared.Row.{Row}
 use Rattle.rules.specs.Basics.{find, counting}
 use Rattle.rules.specs.Limits.{mostEnergy}
-use Rattle.rules.specs.Books.{Setup, accountCount, periods, marginsAt}
+use Rattle.rules.specs.Books.{Setup, Book, periods, marginsAt}
 use Rattle.rules.specs.Registration.{pending, confirmed, includesHour, bought, sold, netOf, pendingSales, pendingPurchases, accountHour, afterTrade, keepsMargins, brokenBy}
 use Rattle.rules.proofs.Basics.Tests.{test-same}
 use Rattle.image.specs.Valid.{isBook, bookIn}
+use Rattle.image.proofs.Sound.Soundness.{SoundRow}
+use Rattle.book.specs.Members.{IsAccount, IsHour}
 use Rattle.book.specs.Netted.{netted}
 use Rattle.book.specs.Waits.{waitCell, WaitsOf, nettedHour}
 use Rattle.book.proofs.StateLaws.{book-is-sound, row-count-high}
 use Rattle.book.proofs.ReadingLaws.{net-near}
 use Rattle.book.proofs.NettedLaws.{netted-difference}
 use Rattle.book.proofs.WaitLaws.{side-hour}
-use Rattle.registration.specs.Margins.{broken}
+use Rattle.registration.specs.Margins.{TradeInRange, broken}
 use Rattle.registration.specs.declared.margins.Broken.the-variants.{Hour, Nowhere}
 use Rattle.registration.proofs.SearchLaws.{find-span}
 
@@ -32,7 +34,7 @@ use Rattle.registration.proofs.SearchLaws.{find-span}
 
 module _ (s : List ℕ) (h : isBook s ≡ true) where
   -- the net position of an hour by itself, and what waits, have room for a trade
-  pub hour-room : (waits : List ℕ) (q a k : ℕ) (x : AccountHour) → (1 ≤ a) × (a ≤ accountCount (bookIn s .setup)) → (1 ≤ k) × (k ≤ periods (bookIn s .setup))
+  pub hour-room : (waits : List ℕ) (q a k : ℕ) (x : AccountHour) → IsAccount (bookIn s) a → IsHour (bookIn s) k
       → WaitsOf (bookIn s .part .rows) a waits → q ≤ mostEnergy → x ≡ nettedHour (bookIn s .part .rows) a k
       → (x .net .bought .0 + q < 2 ^ 32) × (x .net .sold .0 + q < 2 ^ 32) × (x .sales .0 + q < 2 ^ 32) × (x .purchases .0 + q < 2 ^ 32)
   unfolding netted
@@ -47,6 +49,17 @@ module _ (s : List ℕ) (h : isBook s ≡ true) where
         omega (arith, sales, w .bounded (waitCell 1 k)),
         omega (arith, purchases, w .bounded (waitCell 2 k)),
       )
+
+-- a row of the set-up is in range of its proposer
+pub sound-in-range : (b : Book) (r : Row) → SoundRow (b .setup) r → TradeInRange b (r .proposer) r
+sound-in-range b r s =
+    record {
+      account-known = (s .proposer-low, s .proposer-high);
+      quantity-high = s .quantity-high;
+      first-low = s .first-low;
+      in-order = s .in-order;
+      last-high = s .last-high;
+    }
 
 -- ---- an hour
 
@@ -93,21 +106,20 @@ takes-elsewhere rows trade a h e =
       add-zero (pendingPurchases rows a h),
     )
 
-module _ (s : List ℕ) (h : isBook s ≡ true) (trade : Row) (a : ℕ) (low : 1 ≤ a) (high : a ≤ accountCount (bookIn s .setup)) where
+module _ (s : List ℕ) (h : isBook s ≡ true) (trade : Row) (a : ℕ) (t : TradeInRange (bookIn s) a trade) where
   -- so it breaks none there, for a book keeps its margins
   kept-elsewhere : (k : ℕ) → 1 ≤ k → k ≤ periods (bookIn s .setup) → includesHour k trade ≡ false → breaks (bookIn s .setup) (bookIn s .part .rows) trade a k ≡ false
   unfolding breaks
-  kept-elsewhere k l m e = rw (takes-elsewhere (bookIn s .part .rows) trade a k e, book-is-sound s h .part-sound .keeps-margins a k low high l m)
+  kept-elsewhere k l m e = rw (takes-elsewhere (bookIn s .part .rows) trade a k e, book-is-sound s h .part-sound .keeps-margins a k (t .account-known .0) (t .account-known .1) l m)
 
   -- the lowest hour that breaks is one of the trade's
-  pub broken-by-span : 1 ≤ trade .first → trade .first ≤ trade .last → trade .last ≤ periods (bookIn s .setup)
-      → brokenBy (bookIn s .setup) (bookIn s .part .rows) (trade ∷ []) a
+  pub broken-by-span : brokenBy (bookIn s .setup) (bookIn s .part .rows) (trade ∷ []) a
       ≡ find (breaks (bookIn s .setup) (bookIn s .part .rows) trade a) (counting (trade .last + 1 - trade .first) (trade .first))
   unfolding brokenBy breaks
-  broken-by-span f o l =
-      find-span (breaks (bookIn s .setup) (bookIn s .part .rows) trade a) (periods (bookIn s .setup)) (trade .first) (trade .last) f o l
-      (λ k m n. kept-elsewhere k m (omega arith) (rw (lt-leb (trade .first) k n)))
-      (λ k m n. kept-elsewhere k (omega arith) n (rw (lt-leb k (trade .last) m, and-false (leb (trade .first) k))))
+  broken-by-span =
+      find-span (breaks (bookIn s .setup) (bookIn s .part .rows) trade a) (periods (bookIn s .setup)) (trade .first) (trade .last) (t .first-low) (t .in-order) (t .last-high)
+      (λ k m n. kept-elsewhere k m (omega (arith, t .in-order, t .last-high)) (rw (lt-leb (trade .first) k n)))
+      (λ k m n. kept-elsewhere k (omega (arith, t .first-low, t .in-order)) n (rw (lt-leb k (trade .last) m, and-false (leb (trade .first) k))))
 
 -- the test as code makes it
 pub breaks-tested : (u : Setup) (rows : List Row) (trade : Row) (a h : ℕ) (margins : Margins) (held after : AccountHour) (t : Bool)

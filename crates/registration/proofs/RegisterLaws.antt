@@ -7,10 +7,7 @@ use mathlib.Core.Option.{none, some}
 use mathlib.Core.Bool.{Bool, true, false}
 use native.Mathlib.Omega.{arith}
 use lib.ListN.{length}
-use lib.Dec.{leb}
 use borrow.Author.Tests.{eq-eqb, le-leb, lt-leb}
-use Rattle.wire.specs.Numbers.{le}
-use Rattle.wire.specs.Regions.{splice}
 use Rattle.wire.specs.Parts.{Small}
 use Rattle.rules.specs.declared.Row.{Row}
 use Rattle.rules.specs.declared.Request.{Request}
@@ -18,14 +15,14 @@ use Rattle.rules.specs.declared.Refusal.the-variants.{AlreadyPending, RowsFull,
 use Rattle.rules.specs.Basics.{anyPasses}
 use Rattle.rules.specs.Limits.{mostHours, mostRows, bookSize}
 use Rattle.rules.specs.Verdicts.{firstToApply, accepted}
-use Rattle.rules.specs.Books.{Setup, Book, operatorOf}
+use Rattle.rules.specs.Books.{Book, operatorOf}
 use Rattle.rules.specs.Requests.{register}
-use Rattle.rules.specs.Registration.{alike, proposed, brokenHour, brokenBy, available, covered, exposureWith}
+use Rattle.rules.specs.Registration.{alike, proposed, brokenHour, brokenBy, covered}
 use Rattle.rules.specs.Calls.{next, given, stateChecks, apply}
 use Rattle.rules.proofs.Rows.AccountHours.{broken-added, exposure-added}
 use Rattle.rules.proofs.Checks.Passed.{passed-15}
-use Rattle.image.specs.Layout.{rowWidths, presentOffset, rowOffset, rowCountOffset}
-use Rattle.image.specs.Image.{rowValues, rowBytes}
+use Rattle.image.specs.Layout.{rowWidths, presentOffset, rowOffset}
+use Rattle.image.specs.Image.{rowValues}
 use Rattle.image.specs.Valid.{isBook, bookIn}
 use Rattle.image.proofs.Sound.Soundness.{SoundRow}
 use Rattle.image.proofs.Writing.Sizes.{row-small}
@@ -36,6 +33,8 @@ use Rattle.book.specs.Kinds.{decided, Ready}
 use Rattle.book.proofs.StateLaws.{book-image, book-fits, book-is-sound}
 use Rattle.book.proofs.Answers.{decided-clear, Answered, accepted-answered}
 use Rattle.book.proofs.Readiness.{bare, ready-input}
+use Rattle.registration.specs.Proposing.{Proposing, rowAppended}
+use Rattle.registration.specs.Cover.{coveredWith}
 use Rattle.registration.proofs.CoverLaws.{covered-at}
 
 -- ---- a request that is ready
@@ -55,47 +54,42 @@ module _ (b : Book) (q : Request) (first : b .phase ≡ 1) where
   unfolding decided stateChecks firstToApply
   twin-pending e = rw (eq-eqb _ 1 first, e)
 
-  module _ (alone : anyPasses (alike (q .account) (q .other) (q .code)) (b .part .rows) ≡ false) where
-    -- 15
-    pub no-number-left : mostRows ≤ length (b .part .rows) → decided register b q ≡ some RowsFull
+  -- 15
+  pub no-number-left : anyPasses (alike (q .account) (q .other) (q .code)) (b .part .rows) ≡ false → mostRows ≤ length (b .part .rows)
+      → decided register b q ≡ some RowsFull
+  unfolding decided stateChecks firstToApply
+  no-number-left alone h = rw (eq-eqb _ 1 first, alone, le-leb mostRows (length (b .part .rows)) h)
+
+module _ (b : Book) (q : Request) (p : Proposing b q) where
+  broken-next : brokenHour (b .setup) (next register b q .part .rows) (q .account) ≡ brokenBy (b .setup) (b .part .rows) (proposed q ∷ []) (q .account)
+  unfolding apply
+  broken-next = broken-added (b .setup) (b .part .rows) (proposed q ∷ []) (q .account)
+
+  -- 18
+  pub margin-breaks : (h : ℕ) → brokenBy (b .setup) (b .part .rows) (proposed q ∷ []) (q .account) ≡ some h → decided register b q ≡ some (MarginBroken h)
+  unfolding decided stateChecks firstToApply
+  margin-breaks h e =
+      rw (eq-eqb _ 1 (p .in-registration), p .no-twin, lt-leb mostRows (length (b .part .rows)) (p .has-room), broken-next ∙ e)
+
+  module _ (kept : brokenBy (b .setup) (b .part .rows) (proposed q ∷ []) (q .account) ≡ none) (t : Bool)
+      (test : t ≡ coveredWith b (proposed q) (operatorOf (b .setup) (q .account))) where
+    -- the exposure is that of the rows with the proposed one
+    covered-next : covered (b .setup) (next register b q .part) (operatorOf (b .setup) (q .account)) ≡ t
+    unfolding apply
+    covered-next =
+        let o : ℕ = operatorOf (b .setup) (q .account) in
+        covered-at b (b .part .rows ++ proposed q ∷ []) o _ (sym (exposure-added (b .setup) (b .part .rows) (proposed q ∷ []) o)) ∙ sym test
+
+    -- 19
+    pub row-uncovered : t ≡ false → decided register b q ≡ some Uncovered
     unfolding decided stateChecks firstToApply
-    no-number-left h = rw (eq-eqb _ 1 first, alone, le-leb mostRows (length (b .part .rows)) h)
+    row-uncovered f =
+        rw (eq-eqb _ 1 (p .in-registration), p .no-twin, lt-leb mostRows (length (b .part .rows)) (p .has-room), broken-next ∙ kept, covered-next ∙ f)
 
-    module _ (few : length (b .part .rows) < mostRows) where
-      broken-next : brokenHour (b .setup) (next register b q .part .rows) (q .account) ≡ brokenBy (b .setup) (b .part .rows) (proposed q ∷ []) (q .account)
-      unfolding apply
-      broken-next = broken-added (b .setup) (b .part .rows) (proposed q ∷ []) (q .account)
-
-      -- 18
-      pub margin-breaks : (h : ℕ) → brokenBy (b .setup) (b .part .rows) (proposed q ∷ []) (q .account) ≡ some h
-          → decided register b q ≡ some (MarginBroken h)
-      unfolding decided stateChecks firstToApply
-      margin-breaks h e = rw (eq-eqb _ 1 first, alone, lt-leb mostRows (length (b .part .rows)) few, broken-next ∙ e)
-
-      module _ (kept : brokenBy (b .setup) (b .part .rows) (proposed q ∷ []) (q .account) ≡ none) where
-        -- its exposure is that of the rows with the proposed one
-        covered-next : covered (b .setup) (next register b q .part) (operatorOf (b .setup) (q .account))
-            ≡ leb (exposureWith (b .setup) (b .part .rows) (proposed q ∷ []) (operatorOf (b .setup) (q .account))) (available (b .setup) (b .part) (operatorOf (b .setup) (q .account)))
-        unfolding apply
-        covered-next =
-            let u : Setup = b .setup in
-            let o : ℕ = operatorOf u (q .account) in
-            covered-at u (b .part .guarantees) (b .part .rows) (b .part .rows ++ proposed q ∷ []) o _ (sym (exposure-added u (b .part .rows) (proposed q ∷ []) o))
-
-        -- 19
-        pub row-uncovered : (t : Bool)
-            → t ≡ leb (exposureWith (b .setup) (b .part .rows) (proposed q ∷ []) (operatorOf (b .setup) (q .account))) (available (b .setup) (b .part) (operatorOf (b .setup) (q .account)))
-            → t ≡ false → decided register b q ≡ some Uncovered
-        unfolding decided stateChecks firstToApply
-        row-uncovered t e f =
-            rw (eq-eqb _ 1 first, alone, lt-leb mostRows (length (b .part .rows)) few, broken-next ∙ kept, covered-next ∙ sym e ∙ f)
-
-        pub covered-with-row : (t : Bool)
-            → t ≡ leb (exposureWith (b .setup) (b .part .rows) (proposed q ∷ []) (operatorOf (b .setup) (q .account))) (available (b .setup) (b .part) (operatorOf (b .setup) (q .account)))
-            → t ≡ true → decided register b q ≡ none
-        unfolding decided stateChecks firstToApply
-        covered-with-row t e f =
-            rw (eq-eqb _ 1 first, alone, lt-leb mostRows (length (b .part .rows)) few, broken-next ∙ kept, covered-next ∙ sym e ∙ f)
+    pub covered-with-row : t ≡ true → decided register b q ≡ none
+    unfolding decided stateChecks firstToApply
+    covered-with-row f =
+        rw (eq-eqb _ 1 (p .in-registration), p .no-twin, lt-leb mostRows (length (b .part .rows)) (p .has-room), broken-next ∙ kept, covered-next ∙ f)
 
 -- an accepted row has a number
 pub few-rows : (b : Book) (q : Request) → decided register b q ≡ none → length (b .part .rows) < mostRows
@@ -105,13 +99,13 @@ few-rows b q d = passed-15 b q (decided-clear register b q d)
 
 pub registered-answered : (s t : List ℕ) (h : isBook s ≡ true) (q : Request) (n : ℕ) → Ready register (bookIn s) q
     → decided register (bookIn s) q ≡ none → n ≡ length (bookIn s .part .rows) → n < mostRows
-    → t ≡ splice (splice s (presentOffset + rowOffset n) (rowBytes (proposed q))) (presentOffset + rowCountOffset) (le 2 (n + 1))
+    → t ≡ rowAppended s n (proposed q)
     → Answered register s q (accepted (n + 1)) t
 unfolding given
 registered-answered s t h q n r d e few w =
     accepted-answered register s q h t (n + 1) d (omega (arith, e))
     (w
-    ∙ ap (λ (x : List ℕ). splice (splice x (presentOffset + rowOffset n) (rowBytes (proposed q))) (presentOffset + rowCountOffset) (le 2 (n + 1))) (book-image s h)
+    ∙ ap (λ (x : List ℕ). rowAppended x n (proposed q)) (book-image s h)
     ∙ write-row mostHours bookSize (bookIn s) (book-fits s h) (proposed q) n (presentOffset + rowOffset n) refl e few refl)
     (apply-keeps _ (bookIn s) (book-is-sound s h)
     (register-allowed (bookIn s) q (book-is-sound s h) bare (sym (r .of-kind)) (r .code-fits) (ready-input register (bookIn s) q r bare refl) (decided-clear register (bookIn s) q d)))

@@ -14,6 +14,7 @@ use Rattle.rules.proofs.Basics.Tests.{and-both}
 use Rattle.rules.proofs.Rows.AccountHours.{pending-inside}
 use Rattle.image.specs.Layout.{presentOffset, rowOffset, statusOffset}
 use Rattle.image.specs.Valid.{isBook, bookIn}
+use Rattle.book.specs.Members.{IsRow}
 use Rattle.book.proofs.StateLaws.{numbered-value-stands}
 
 -- no row has that number
@@ -28,12 +29,11 @@ no-such-number rows q h = go (withdraws rows q) refl
         absurd (omega arith)
 
 -- the row of that number, by what stands at its place
-pub own-pending : (s : List ℕ) (q : Request) (at status proposer : ℕ) → isBook s ≡ true → 1 ≤ q .number
-    → q .number ≤ length (bookIn s .part .rows) → at ≡ presentOffset + rowOffset (q .number - 1)
+pub own-pending : (s : List ℕ) (q : Request) (at status proposer : ℕ) → isBook s ≡ true → IsRow (bookIn s) (q .number) → at ≡ presentOffset + rowOffset (q .number - 1)
     → status ≡ numberAt s (at + statusOffset) 1 → proposer ≡ numberAt s at 1
     → eqb status 1 && eqb proposer (q .account) ≡ withdraws (bookIn s .part .rows) q
 unfolding withdraws
-own-pending s q at status proposer h low high place e f =
-    let x = e ∙ numbered-value-stands s h (q .number) 7 (at + statusOffset) low high (omega arith) in
-    let y = f ∙ numbered-value-stands s h (q .number) 0 at low high (omega arith) in
+own-pending s q at status proposer h own place e f =
+    let x = e ∙ numbered-value-stands s h (q .number) 7 (at + statusOffset) own (omega arith) in
+    let y = f ∙ numbered-value-stands s h (q .number) 0 at own (omega arith) in
     rw (x, y)

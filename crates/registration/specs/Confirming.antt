@@ -1,4 +1,4 @@
--- What a confirm names, and a row that waits (document 01, "Registration").
+-- The row that a confirm names, and a pending row (document 01, "Registration").
 use Prim.Native.Nat.{ℕ, _≤_}
 use mathlib.Core.Path.{_≡_}
 use mathlib.Core.Bool.{true}

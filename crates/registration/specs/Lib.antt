@@ -1,5 +1,11 @@
 -- What the contracts of `registration` say.
--- Confirming: the row that a confirm names, and one that waits.
+-- Proposing: the row that a register proposes, and what is written of it.
+pub mod Proposing
+-- Confirming: the row that a confirm names, and a pending row.
 pub mod Confirming
--- Margins: what the search for a broken margin finds.
+-- Margins: what the search for a broken margin is asked and finds.
 pub mod Margins
+-- Cover: what covers an exposure.
+pub mod Cover
+-- Positions: the net positions that a trade moves, in bytes.
+pub mod Positions

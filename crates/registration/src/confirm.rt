@@ -1,27 +1,21 @@
 // Confirm: a pending row becomes a trade, and moves the net positions of its seller and its buyer.
 ghost use mathlib.Core.Path.{_≡_};
 ghost use mathlib.Core.Bool.{true};
-ghost use mathlib.Core.List.{[], _∷_};
-ghost use Prim.Native.Nat.{_+_, _-_, _^_, _≤_};
+ghost use Prim.Native.Nat.{_≤_};
 ghost use lib.ListN.{length};
-ghost use lib.Dec.{leb};
-ghost use Rattle.wire.specs.Numbers.{le};
-ghost use Rattle.wire.specs.Regions.{splice};
-ghost use Rattle.wire.specs.Parts.{sweep};
-ghost use Rattle.rules.specs.Basics.{nth};
 ghost use Rattle.rules.specs.Limits.{mostRows, mostHours, bookSize};
-ghost use Rattle.rules.specs.Books.{noRow, operatorOf, accountCount};
+ghost use Rattle.rules.specs.Books.{operatorOf};
 ghost use Rattle.rules.specs.Verdicts.{checked};
 ghost use Rattle.rules.specs.Requests.{confirm};
-ghost use Rattle.rules.specs.Registration.{seller, buyer, withStatus, mirrors, available, exposureWith};
+ghost use Rattle.rules.specs.Registration.{withStatus, mirrors};
 ghost use Rattle.rules.specs.Calls.{confirmedNumber};
-ghost use Rattle.image.specs.Layout.{presentOffset, rowOffset, statusOffset, netOffset, netWidth};
-ghost use Rattle.image.specs.Changes.{raised};
 ghost use Rattle.image.specs.Valid.{isBook, bookIn, bookBytes};
 ghost use Rattle.image.specs.Tables.{Tabled};
-ghost use Rattle.book.specs.Worth.{saleWorth};
+ghost use Rattle.book.specs.Members.{IsAccount, IsRow, numberedRow};
 ghost use Rattle.book.specs.Kinds.{decided, outcomeOn, bookAfter, Ready};
 ghost use Rattle.registration.specs.Confirming.{Confirming, WaitsIn};
+ghost use Rattle.registration.specs.Cover.{coveredConfirming};
+ghost use Rattle.registration.specs.Positions.{netsMoved, markedConfirmed};
 use crate::cover::covered_in_force;
 use crate::margins::Broken;
 use crate::margins::broken_hour;
@@ -55,8 +49,8 @@ fn confirmed_number(book: &[u8], request: Request) -> u16
 
 // The row of a number.
 fn numbered_row(book: &[u8], number: u16) -> Row
-    requires { ⌜ (isBook (now book) ≡ true) × (1 ≤ number) × (number ≤ length (bookIn (now book) .part .rows)) ⌝ }
-    ensures { λ r. ⌜ r ≡ nth (bookIn (now (book .entry)) .part .rows) number noRow ⌝ }
+    requires { ⌜ (isBook (now book) ≡ true) × IsRow (bookIn (now book)) number ⌝ }
+    ensures { λ r. ⌜ r ≡ numberedRow (bookIn (now (book .entry))) number ⌝ }
 {
     row_at(book, row_offset(number))
 }
@@ -88,22 +82,22 @@ fn confirmed_row(r: Row) -> Row
     }
 }
 
-// Whether the guarantee of the account's operator covers its exposure once the row is a trade: it is taken, and waits no longer.
+// Whether the exposure of the account's operator is covered once the pending row is confirmed; `trade` is the confirmed row.
 fn covered_with_trade(book: &[u8], row: Row, trade: Row, number: u8) -> bool
-    requires { ⌜ (isBook (now book) ≡ true) × WaitsIn (bookIn (now book)) row × (trade ≡ withStatus 2 row) × (1 ≤ number) × (number ≤ accountCount (bookIn (now book) .setup)) ⌝ }
-    ensures { λ r. ⌜ r ≡ leb (exposureWith (bookIn (now (book .entry)) .setup) (bookIn (now (book .entry)) .part .rows) (trade ∷ []) (operatorOf (bookIn (now (book .entry)) .setup) number) - saleWorth (bookIn (now (book .entry)) .setup) (operatorOf (bookIn (now (book .entry)) .setup) number) row) (available (bookIn (now (book .entry)) .setup) (bookIn (now (book .entry)) .part) (operatorOf (bookIn (now (book .entry)) .setup) number)) ⌝ }
+    requires { ⌜ (let b = bookIn (now book) in (isBook (now book) ≡ true) × WaitsIn b row × (trade ≡ withStatus 2 row) × IsAccount b number) ⌝ }
+    ensures { λ r. ⌜ (let b = bookIn (now (book .entry)) in r ≡ coveredConfirming b row (operatorOf (b .setup) number)) ⌝ }
 {
-    // What a seller has pending turns into net and its buyer's net rises, and a book covers what its rows weigh.
+    // A pending sale counts in full, so that confirming it raises no exposure; and in a book every exposure is at most what is available.
     if row.side == 1 {
         return true;
     }
-    // A purchase that waits weighs nothing.
+    // A pending purchase adds nothing to the exposure, so that nothing is to be subtracted for it.
     let operator = operator_of(book, number);
     let owed = exposure_with(book, operator, Added::One(trade));
     covered_in_force(book, owed, operator)
 }
 
-// What confirm is refused for where it mirrors the row that it names: margins and exposure as they would be.
+// What confirm is refused for once it mirrors the row that it names: a margin that the trade breaks, or an exposure that is not covered.
 fn margin_or_exposure_fault(book: &[u8], request: Request, row: Row) -> Checked
     requires { ⌜ (isBook (now book) ≡ true) × Confirming (bookIn (now book)) request row ⌝ }
     ensures { λ r. ⌜ r ≡ checked (decided confirm (bookIn (now (book .entry))) request) ⌝ }
@@ -140,7 +134,7 @@ fn confirm_fault(book: &[u8], request: Request, number: u16) -> Checked
 // The row of that number becomes a trade: its status, then the net positions of its seller and its buyer.
 fn put_trade(book: &mut [u8], number: u16, row: Row)
     requires { ⌜ (length (now book) ≡ bookSize) × (1 ≤ number) × (number ≤ mostRows) × Tabled mostHours row × (1 ≤ row .quantity .0) ⌝ }
-    ensures { λ _. ⌜ now (book .exit) ≡ sweep (raised netWidth (row .quantity .0)) netWidth (sweep (raised netWidth (256 ^ netWidth - row .quantity .0)) netWidth (splice (now (book .entry)) (presentOffset + rowOffset (number - 1) + statusOffset) (le 1 2)) (presentOffset + netOffset mostHours (seller row) (row .first)) (row .last - row .first + 1)) (presentOffset + netOffset mostHours (buyer row) (row .first)) (row .last - row .first + 1) ⌝ }
+    ensures { λ _. ⌜ now (book .exit) ≡ netsMoved (markedConfirmed (now (book .entry)) number) row ⌝ }
 {
     put_u8(book, row_offset(number) + STATUS_OFFSET, CONFIRMED);
     move_nets(book, row);

@@ -1,12 +1,12 @@
 // What covers an operator's exposure.
 ghost use mathlib.Core.Path.{_≡_};
 ghost use mathlib.Core.Bool.{true};
-ghost use Prim.Native.Nat.{_-_, _*_, _≤_};
-ghost use lib.Dec.{leb};
-ghost use Rattle.rules.specs.Limits.{mostGuarantee, thousand};
-ghost use Rattle.rules.specs.Books.{maintenanceAt, guaranteeAt, operatorCount};
-ghost use Rattle.rules.specs.Registration.{available};
+ghost use Prim.Native.Nat.{_≤_};
+ghost use Rattle.rules.specs.Limits.{mostGuarantee};
+ghost use Rattle.rules.specs.Books.{guaranteeAt};
 ghost use Rattle.image.specs.Valid.{isBook, bookIn};
+ghost use Rattle.book.specs.Members.{IsOperator};
+ghost use Rattle.registration.specs.Cover.{coveredBy, coveredInForce};
 use image::layout::PRESENT_OFFSET;
 use setup::counts::GUARANTEE_WIDTH;
 use setup::entries::operator;
@@ -16,27 +16,28 @@ use wire::numbers::get_u64;
 
 // The guarantee in force of an operator.
 pub fn guarantee_in_force(book: &[u8], number: u8) -> Cents
-    requires { ⌜ (isBook (now book) ≡ true) × (1 ≤ number) × (number ≤ operatorCount (bookIn (now book) .setup)) ⌝ }
-    ensures { λ r. ⌜ (r ≡ guaranteeAt (bookIn (now (book .entry)) .part .guarantees) number) × (r .0 ≤ mostGuarantee) ⌝ }
+    requires { ⌜ (isBook (now book) ≡ true) × IsOperator (bookIn (now book)) number ⌝ }
+    ensures meaning { λ r. ⌜ r ≡ guaranteeAt (bookIn (now (book .entry)) .part .guarantees) number ⌝ }
+    ensures bounded { λ r. ⌜ r .0 ≤ mostGuarantee ⌝ }
 {
     let at = PRESENT_OFFSET + GUARANTEE_WIDTH * (number as usize - 1);
     Cents(get_u64(book, at))
 }
 
-// Whether what is available of the guarantee covers what the operator owes.
+// Whether an exposure of the operator is at most what is available of a guarantee.
 pub fn covered_by(book: &[u8], owed: MilliCents, guarantee: Cents, number: u8) -> bool
-    requires { ⌜ (isBook (now book) ≡ true) × (guarantee .0 ≤ mostGuarantee) × (1 ≤ number) × (number ≤ operatorCount (bookIn (now book) .setup)) ⌝ }
-    ensures { λ r. ⌜ r ≡ leb (owed .0) (guarantee .0 * (thousand - maintenanceAt (bookIn (now (book .entry)) .setup) number)) ⌝ }
+    requires { ⌜ (isBook (now book) ≡ true) × (guarantee .0 ≤ mostGuarantee) × IsOperator (bookIn (now book)) number ⌝ }
+    ensures { λ r. ⌜ r ≡ coveredBy (bookIn (now (book .entry)) .setup) (owed .0) (guarantee .0) number ⌝ }
 {
     let entry = operator(book, number);
     let limit = guarantee.available(entry.maintenance);
     owed.at_most(limit)
 }
 
-// Whether the operator's guarantee in force covers what it owes.
+// Whether an exposure of the operator is at most what is available of its guarantee in force.
 pub fn covered_in_force(book: &[u8], owed: MilliCents, number: u8) -> bool
-    requires { ⌜ (isBook (now book) ≡ true) × (1 ≤ number) × (number ≤ operatorCount (bookIn (now book) .setup)) ⌝ }
-    ensures { λ r. ⌜ r ≡ leb (owed .0) (available (bookIn (now (book .entry)) .setup) (bookIn (now (book .entry)) .part) number) ⌝ }
+    requires { ⌜ (isBook (now book) ≡ true) × IsOperator (bookIn (now book)) number ⌝ }
+    ensures { λ r. ⌜ r ≡ coveredInForce (bookIn (now (book .entry))) (owed .0) number ⌝ }
 {
     let guarantee = guarantee_in_force(book, number);
     covered_by(book, owed, guarantee, number)

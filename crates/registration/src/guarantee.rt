@@ -1,15 +1,15 @@
 // Guarantee: replaces an operator's guarantee.
 ghost use mathlib.Core.Path.{_≡_};
 ghost use mathlib.Core.Bool.{true};
-ghost use Prim.Native.Nat.{_-_, _*_, _≤_};
-ghost use lib.Dec.{leb};
-ghost use Rattle.rules.specs.Limits.{mostGuarantee, thousand};
-ghost use Rattle.rules.specs.Books.{maintenanceAt, operatorCount};
+ghost use Prim.Native.Nat.{_≤_};
+ghost use Rattle.rules.specs.Limits.{mostGuarantee};
 ghost use Rattle.rules.specs.Registration.{exposure};
 ghost use Rattle.rules.specs.Verdicts.{checked};
 ghost use Rattle.rules.specs.Requests.{guarantee};
 ghost use Rattle.image.specs.Valid.{isBook, bookIn, bookBytes};
+ghost use Rattle.book.specs.Members.{IsOperator};
 ghost use Rattle.book.specs.Kinds.{decided, outcomeOn, bookAfter, Ready};
+ghost use Rattle.registration.specs.Cover.{coveredBy};
 use crate::cover::covered_by;
 use crate::cover::guarantee_in_force;
 use book::state::REGISTRATION;
@@ -26,10 +26,11 @@ use setup::counts::GUARANTEE_WIDTH;
 use units::Cents;
 use wire::numbers::put_u64;
 
-// Whether the guarantee covers what the operator is exposed to. One that is no lower than that in force does, for a book covers that.
+// Whether the operator's exposure is covered by the guarantee. One that is no lower than the guarantee in force covers it: in a book every
+// exposure is at most what is available.
 fn covered_under(book: &[u8], guarantee: Cents, number: u8) -> bool
-    requires { ⌜ (isBook (now book) ≡ true) × (guarantee .0 ≤ mostGuarantee) × (1 ≤ number) × (number ≤ operatorCount (bookIn (now book) .setup)) ⌝ }
-    ensures { λ r. ⌜ r ≡ leb (exposure (bookIn (now (book .entry)) .setup) (bookIn (now (book .entry)) .part .rows) number) (guarantee .0 * (thousand - maintenanceAt (bookIn (now (book .entry)) .setup) number)) ⌝ }
+    requires { ⌜ (isBook (now book) ≡ true) × (guarantee .0 ≤ mostGuarantee) × IsOperator (bookIn (now book)) number ⌝ }
+    ensures { λ r. ⌜ (let b = bookIn (now (book .entry)) in r ≡ coveredBy (b .setup) (exposure (b .setup) (b .part .rows) number) (guarantee .0) number) ⌝ }
 {
     let held = guarantee_in_force(book, number);
     if held.0 <= guarantee.0 {

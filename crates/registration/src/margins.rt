@@ -2,13 +2,10 @@
 ghost use mathlib.Core.Path.{_≡_};
 ghost use mathlib.Core.Bool.{true};
 ghost use mathlib.Core.List.{[], _∷_};
-ghost use Prim.Native.Nat.{_≤_};
-ghost use Rattle.rules.specs.Limits.{mostEnergy};
-ghost use Rattle.rules.specs.Books.{accountCount, periods};
 ghost use Rattle.rules.specs.Registration.{brokenBy};
 ghost use Rattle.image.specs.Valid.{isBook, bookIn};
 ghost use Rattle.book.specs.Waits.{WaitsOf};
-ghost use Rattle.registration.specs.Margins.{broken};
+ghost use Rattle.registration.specs.Margins.{TradeInRange, broken};
 use book::waits::account_hour;
 use book::waits::fill_waits;
 use book::waits::no_waits;
@@ -22,11 +19,11 @@ pub enum Broken {
     Nowhere,
 }
 
-// The lowest hour in which the account breaks a margin once it took the trade, by what waits on it. An hour that is not the trade's stays
-// as it was, and a book keeps its margins.
+// The lowest hour in which the account breaks a margin once it took the trade; `waits` holds the account's pending sums. Only the trade's
+// hours are tested: the other hours stay as they are, and in a book no margin is broken.
 pub fn first_broken(book: &[u8], waits: &[u32], trade: Row, number: u8) -> Broken
-    requires { ⌜ (isBook (now book) ≡ true) × WaitsOf (bookIn (now book) .part .rows) number (now waits) × (trade .quantity .0 ≤ mostEnergy) × (1 ≤ number) × (number ≤ accountCount (bookIn (now book) .setup)) × (1 ≤ trade .first) × (trade .first ≤ trade .last) × (trade .last ≤ periods (bookIn (now book) .setup)) ⌝ }
-    ensures { λ r. ⌜ r ≡ broken (brokenBy (bookIn (now (book .entry)) .setup) (bookIn (now (book .entry)) .part .rows) (trade ∷ []) number) ⌝ }
+    requires { ⌜ (let b = bookIn (now book) in (isBook (now book) ≡ true) × WaitsOf (b .part .rows) number (now waits) × TradeInRange b number trade) ⌝ }
+    ensures { λ r. ⌜ (let b = bookIn (now (book .entry)) in r ≡ broken (brokenBy (b .setup) (b .part .rows) (trade ∷ []) number)) ⌝ }
 {
     let own = margins(book, number);
     let mut hour: u8 = trade.first;
@@ -45,10 +42,10 @@ pub fn first_broken(book: &[u8], waits: &[u32], trade: Row, number: u8) -> Broke
     found
 }
 
-// The lowest hour in which the account of that number breaks a margin once it took the trade. Whether a row of its own is alike is not asked.
+// The same, with the account's pending sums worked out here.
 pub fn broken_hour(book: &[u8], trade: Row, number: u8) -> Broken
-    requires { ⌜ (isBook (now book) ≡ true) × (trade .quantity .0 ≤ mostEnergy) × (1 ≤ number) × (number ≤ accountCount (bookIn (now book) .setup)) × (1 ≤ trade .first) × (trade .first ≤ trade .last) × (trade .last ≤ periods (bookIn (now book) .setup)) ⌝ }
-    ensures { λ r. ⌜ r ≡ broken (brokenBy (bookIn (now (book .entry)) .setup) (bookIn (now (book .entry)) .part .rows) (trade ∷ []) number) ⌝ }
+    requires { ⌜ (isBook (now book) ≡ true) × TradeInRange (bookIn (now book)) number trade ⌝ }
+    ensures { λ r. ⌜ (let b = bookIn (now (book .entry)) in r ≡ broken (brokenBy (b .setup) (b .part .rows) (trade ∷ []) number)) ⌝ }
 {
     let mut waits = no_waits();
     fill_waits(&mut waits, book, number, trade.counterparty, trade.code);

@@ -1,14 +1,14 @@
 // The net positions that a confirmed trade moves: the seller's fall, the buyer's rise.
 ghost use mathlib.Core.Path.{_≡_};
-ghost use Prim.Native.Nat.{_+_, _-_, _*_, _^_, _≤_};
+ghost use Prim.Native.Nat.{_+_, _*_, _≤_};
 ghost use lib.ListN.{length, take, drop};
 ghost use Rattle.wire.specs.Regions.{splice};
 ghost use Rattle.wire.specs.Parts.{sweep};
 ghost use Rattle.rules.specs.Limits.{bookSize, mostHours};
-ghost use Rattle.rules.specs.Registration.{seller, buyer};
-ghost use Rattle.image.specs.Layout.{presentOffset, netOffset, netWidth};
+ghost use Rattle.image.specs.Layout.{netWidth};
 ghost use Rattle.image.specs.Changes.{raised};
 ghost use Rattle.image.specs.Tables.{Tabled};
+ghost use Rattle.registration.specs.Positions.{netsMoved};
 use book::state::net_offset;
 use image::layout::MOST_IN_4;
 use image::layout::NET_WIDTH;
@@ -17,7 +17,7 @@ use rules::Row;
 use wire::numbers::get_u32;
 use wire::numbers::put_u32;
 
-// Raises the number in the 4 bytes at `at`; what is more than fits goes round.
+// Raises the number in the 4 bytes at `at`; of a sum that does not fit the highest bit is dropped.
 fn raise_net(s: &mut [u8], at: usize, more: u32)
     requires { ⌜ at + netWidth ≤ length (now s) ⌝ }
     ensures { λ _. ⌜ now (s .exit) ≡ splice (now (s .entry)) at (raised netWidth more (take netWidth (drop at (now (s .entry))))) ⌝ }
@@ -43,7 +43,7 @@ fn raise_nets(s: &mut [u8], from: usize, n: usize, more: u32)
 // Moves the nets of both parties of a trade in each of its hours: the seller's fall by its quantity, then the buyer's rise by it.
 pub fn move_nets(book: &mut [u8], r: Row)
     requires { ⌜ (length (now book) ≡ bookSize) × Tabled mostHours r × (1 ≤ r .quantity .0) ⌝ }
-    ensures { λ _. ⌜ now (book .exit) ≡ sweep (raised netWidth (r .quantity .0)) netWidth (sweep (raised netWidth (256 ^ netWidth - r .quantity .0)) netWidth (now (book .entry)) (presentOffset + netOffset mostHours (seller r) (r .first)) (r .last - r .first + 1)) (presentOffset + netOffset mostHours (buyer r) (r .first)) (r .last - r .first + 1) ⌝ }
+    ensures { λ _. ⌜ now (book .exit) ≡ netsMoved (now (book .entry)) r ⌝ }
 {
     let quantity = r.quantity;
     let n = (r.last - r.first) as usize + 1;

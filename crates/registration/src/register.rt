@@ -1,25 +1,23 @@
 // Register: makes a pending row with the next number.
 ghost use mathlib.Core.Path.{_≡_};
-ghost use mathlib.Core.Bool.{true, false};
-ghost use mathlib.Core.List.{[], _∷_};
-ghost use Prim.Native.Nat.{_+_, _*_, _≤_, _<_};
+ghost use mathlib.Core.Bool.{true};
+ghost use Prim.Native.Nat.{_<_};
 ghost use lib.ListN.{length};
-ghost use lib.Dec.{leb};
-ghost use Rattle.wire.specs.Numbers.{le};
-ghost use Rattle.wire.specs.Regions.{splice};
 ghost use Rattle.wire.specs.Parts.{Small};
-ghost use Rattle.rules.specs.Basics.{anyPasses};
 ghost use Rattle.rules.specs.Limits.{mostRows, bookSize};
 ghost use Rattle.rules.specs.Verdicts.{checked};
 ghost use Rattle.rules.specs.Requests.{register};
-ghost use Rattle.rules.specs.Books.{operatorOf, accountCount};
-ghost use Rattle.rules.specs.Registration.{pending, alike, proposed, available, exposureWith};
-ghost use Rattle.image.specs.Layout.{rowWidths, presentOffset, rowOffset, rowCountOffset};
-ghost use Rattle.image.specs.Image.{rowValues, rowBytes};
+ghost use Rattle.rules.specs.Books.{operatorOf};
+ghost use Rattle.rules.specs.Registration.{pending, proposed};
+ghost use Rattle.image.specs.Layout.{rowWidths};
+ghost use Rattle.image.specs.Image.{rowValues};
 ghost use Rattle.image.specs.Valid.{isBook, bookIn, bookBytes};
+ghost use Rattle.book.specs.Members.{IsAccount};
 ghost use Rattle.book.specs.Waits.{WaitsOf};
 ghost use Rattle.book.specs.Worth.{TradeInRange};
 ghost use Rattle.book.specs.Kinds.{decided, outcomeOn, bookAfter, Ready};
+ghost use Rattle.registration.specs.Proposing.{Proposing, rowAppended};
+ghost use Rattle.registration.specs.Cover.{coveredWith};
 use crate::cover::covered_in_force;
 use crate::margins::Broken;
 use crate::margins::first_broken;
@@ -64,12 +62,12 @@ fn proposed_row(request: Request) -> Row
     }
 }
 
-// Whether the guarantee of the account's operator covers its exposure once the row is taken.
+// Whether the exposure of the account's operator is covered once the row is added.
 fn covered_with_row(book: &[u8], row: Row, number: u8) -> bool
-    requires { ⌜ (isBook (now book) ≡ true) × TradeInRange (bookIn (now book) .setup) row × (pending row ≡ true) × (1 ≤ number) × (number ≤ accountCount (bookIn (now book) .setup)) ⌝ }
-    ensures { λ r. ⌜ r ≡ leb (exposureWith (bookIn (now (book .entry)) .setup) (bookIn (now (book .entry)) .part .rows) (row ∷ []) (operatorOf (bookIn (now (book .entry)) .setup) number)) (available (bookIn (now (book .entry)) .setup) (bookIn (now (book .entry)) .part) (operatorOf (bookIn (now (book .entry)) .setup) number)) ⌝ }
+    requires { ⌜ (let b = bookIn (now book) in (isBook (now book) ≡ true) × TradeInRange (b .setup) row × (pending row ≡ true) × IsAccount b number) ⌝ }
+    ensures { λ r. ⌜ (let b = bookIn (now (book .entry)) in r ≡ coveredWith b row (operatorOf (b .setup) number)) ⌝ }
 {
-    // A purchase that waits weighs nothing, and a book covers what its rows weigh.
+    // A pending purchase adds nothing to the exposure, and in a book the exposure is at most what is available.
     if row.side != 1 {
         return true;
     }
@@ -78,9 +76,10 @@ fn covered_with_row(book: &[u8], row: Row, number: u8) -> bool
     covered_in_force(book, owed, operator)
 }
 
-// What register is refused for where its row is no twin and has a number: margins, by what waits on the account, and exposure as they would be.
+// What register is refused for once its row has no twin and there is a number for it: a margin that it breaks, or an exposure that is not
+// covered. `waits` holds the account's pending sums.
 fn margin_or_exposure_fault(book: &[u8], waits: &[u32], request: Request) -> Checked
-    requires { ⌜ (isBook (now book) ≡ true) × WaitsOf (bookIn (now book) .part .rows) (request .account) (now waits) × Ready register (bookIn (now book)) request × (bookIn (now book) .phase ≡ 1) × (anyPasses (alike (request .account) (request .other) (request .code)) (bookIn (now book) .part .rows) ≡ false) × (length (bookIn (now book) .part .rows) < mostRows) ⌝ }
+    requires { ⌜ (let b = bookIn (now book) in (isBook (now book) ≡ true) × WaitsOf (b .part .rows) (request .account) (now waits) × Proposing b request) ⌝ }
     ensures { λ r. ⌜ r ≡ checked (decided register (bookIn (now (book .entry))) request) ⌝ }
 {
     let row = proposed_row(request);
@@ -102,7 +101,7 @@ fn register_fault(book: &[u8], request: Request) -> Checked
     if phase(book) != REGISTRATION {
         return Checked::Fails(Refusal::WrongPhase);
     }
-    // What waits on the account is summed while a row alike is looked for.
+    // One pass over the rows sums those that the account has pending, and finds whether one of them is a twin.
     let mut waits = no_waits();
     if fill_waits(
         &mut waits,
@@ -119,10 +118,10 @@ fn register_fault(book: &[u8], request: Request) -> Checked
     margin_or_exposure_fault(book, &waits, request)
 }
 
-// Puts a row after the `n` that stand, and counts it.
+// Puts a row after the `n` that there are, and counts it.
 fn append_row(book: &mut [u8], n: u16, r: Row)
     requires { ⌜ (length (now book) ≡ bookSize) × (n < mostRows) × Small rowWidths (rowValues r) ⌝ }
-    ensures { λ _. ⌜ now (book .exit) ≡ splice (splice (now (book .entry)) (presentOffset + rowOffset n) (rowBytes r)) (presentOffset + rowCountOffset) (le 2 (n + 1)) ⌝ }
+    ensures { λ _. ⌜ now (book .exit) ≡ rowAppended (now (book .entry)) n r ⌝ }
 {
     let bytes = row_bytes(r);
     copy_in(

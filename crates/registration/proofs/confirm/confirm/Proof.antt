@@ -40,8 +40,7 @@ numbered-row-requires c κs =
     let number = fault .before .before in
     let pre = number .before .before .before .pre in
     let free = checked-same _ none (sym (fault .confirm-fault .ensures) ∙ told .enum-told .given .1) in
-    let within = accepted-number _ _ _ (pre .0) free (number .confirmed-number .ensures .0) in
-    (pre .0, within .0, within .1)
+    (pre .0, accepted-number _ _ _ (pre .0) free (number .confirmed-number .ensures .0))
 
 put-trade-requires : tie.Need-put-trade-requires
 put-trade-requires c κs =

@@ -26,7 +26,7 @@ numbered-row-requires : tie.Need-numbered-row-requires
 numbered-row-requires c κs =
     let start = c .before .before .before .before in
     let pre = start .pre in
-    (pre .0, omega arith, omega (arith, pre .1, confirmed-high (bookIn (start .args .book .now)) (start .args .request)))
+    (pre .0, (omega arith, omega (arith, pre .1, confirmed-high (bookIn (start .args .book .now)) (start .args .request))))
 
 is-mirrored-requires : tie.Need-is-mirrored-requires
 is-mirrored-requires c κs = search needs

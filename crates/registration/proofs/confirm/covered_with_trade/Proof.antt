@@ -1,5 +1,5 @@
--- A sale that is confirmed leaves every operator covered. Of a purchase, which weighs nothing while it waits, what is owed is the exposure
--- of the account's operator with the trade taken.
+-- A sale that is confirmed leaves every operator covered. A pending purchase adds nothing to the exposure, so that with one the exposure is
+-- that of the rows and the trade, which is worked out and tested.
 use mathlib.Core.Path.{_∙_}
 use borrow.Author.Needs.{needs}
 use Rattle.rules.specs.Basics.{nil, cons}
@@ -10,7 +10,7 @@ use Rattle.registration.proofs.confirm.covered_with_trade.Tie as tie
 returns : tie.Need-returns
 returns c =
     let pre = c .before .before .before .pre in
-    sale-covered _ _ (pre .0) (pre .1) _ (pre .2) _ (pre .3) (pre .4) (c .if1 .taken)
+    sale-covered _ _ (pre .0) (pre .1) _ (pre .3) (c .if1 .taken)
 
 operator-of-requires : tie.Need-operator-of-requires
 operator-of-requires c κs = search needs
@@ -27,7 +27,8 @@ returns-2 : tie.Need-returns-2
 returns-2 c =
     let operator = c .before .before in
     c .covered-in-force .ensures
-    ∙ rw (c .before .exposure-with .ensures .0, operator .operator-of .ensures .0) (purchase-frees-none _ _ _ _ _ (operator .before .if1 .left))
+    ∙ rw (c .before .exposure-with .ensures .0, operator .operator-of .ensures .0, operator .before .before .before .before .pre .2)
+    (purchase-frees-none _ _ _ _ _ (operator .before .if1 .left))
 
 pub covered-with-trade-spec : {M : Type 1} → statement M
 covered-with-trade-spec =

@@ -1,7 +1,7 @@
--- The search for a broken margin, and then the exposure with the trade taken and the row waiting no longer.
+-- The margins are tested first and then the exposure, both as they are once the row is confirmed, as the refusals are ranked.
 use mathlib.Core.Path.{sym, ap, _∙_}
 use Rattle.rules.specs.Verdicts.{checked}
-use Rattle.registration.proofs.ConfirmLaws.{named-waits, caller-in-book, trade-energy, trade-hours, trade-breaks, trade-uncovered, covered-with-trade}
+use Rattle.registration.proofs.ConfirmLaws.{named-waits, caller-in-book, trade-in-range, trade-breaks, trade-uncovered, covered-with-trade}
 use borrow.Author.Needs.{needs}
 use Rattle.registration.proofs.confirm.margin_or_exposure_fault.Statement.{statement}
 use Rattle.registration.proofs.confirm.margin_or_exposure_fault.Tie as tie
@@ -12,10 +12,7 @@ confirmed-row-requires c κs = search needs
 broken-hour-requires : tie.Need-broken-hour-requires
 broken-hour-requires c κs =
     let pre = c .before .before .pre in
-    let caller = caller-in-book _ _ _ (pre .0) (pre .1) in
-    let waits = named-waits _ _ _ (pre .0) (pre .1) in
-    let hours = trade-hours _ _ (pre .0) waits _ (c .confirmed-row .ensures) in
-    (pre .0, trade-energy _ _ (pre .0) waits _ (c .confirmed-row .ensures), caller .0, caller .1, hours .0, hours .1, hours .2)
+    (pre .0, trade-in-range _ _ (pre .0) (named-waits _ _ _ (pre .0) (pre .1)) _ (c .confirmed-row .ensures) _ (caller-in-book _ _ _ (pre .0) (pre .1)))
 
 enum-known-hour : tie.Need-enum-known-hour
 enum-known-hour c = search needs
@@ -34,8 +31,7 @@ covered-with-trade-requires : tie.Need-covered-with-trade-requires
 covered-with-trade-requires c κs =
     let trade = c .before .before .before in
     let pre = trade .before .before .pre in
-    let caller = caller-in-book _ _ _ (pre .0) (pre .1) in
-    (pre .0, named-waits _ _ _ (pre .0) (pre .1), trade .confirmed-row .ensures, caller .0, caller .1)
+    (pre .0, named-waits _ _ _ (pre .0) (pre .1), trade .confirmed-row .ensures, caller-in-book _ _ _ (pre .0) (pre .1))
 
 returns-2 : tie.Need-returns-2
 returns-2 c =

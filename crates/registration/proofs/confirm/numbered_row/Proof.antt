@@ -17,7 +17,7 @@ row-at-requires c κs =
 returns : tie.Need-returns
 returns c =
     let start = c .before .before .before in
-    c .row-at .ensures ∙ numbered-row-stands _ (start .pre .0) (start .args .number) _ (start .pre .1) (start .pre .2) (c .before .row-offset .ensures)
+    c .row-at .ensures ∙ numbered-row-stands _ (start .pre .0) (start .args .number) _ (start .pre .1) (c .before .row-offset .ensures)
 
 pub numbered-row-spec : {M : Type 1} → statement M
 numbered-row-spec = tie.close (tie.spec row-offset-requires row-at-requires returns)

@@ -12,14 +12,14 @@ use Rattle.registration.proofs.cover.covered_by.Tie as tie
 operator-requires : tie.Need-operator-requires
 operator-requires c κs =
     let pre = c .before .pre in
-    (setup-tabled _ (pre .0) .whole, pre .2, operators-read _ (pre .0) _ (pre .2) (pre .3))
+    (setup-tabled _ (pre .0) .whole, pre .2 .0, operators-read _ (pre .0) _ (pre .2))
 
 available-requires : tie.Need-available-requires
 available-requires c κs =
     let start = c .before .before in
     let pre = start .pre in
-    let read = maintenance-read _ (pre .0) (start .args .number) (pre .2) (pre .3) _ (c .operator .ensures) in
-    let high = maintenance-high _ (pre .0) (start .args .number) (pre .2) (pre .3) in
+    let read = maintenance-read _ (pre .0) (start .args .number) (pre .2) _ (c .operator .ensures) in
+    let high = maintenance-high _ (pre .0) (start .args .number) (pre .2) in
     (pre .1, omega arith)
 
 at-most-requires : tie.Need-at-most-requires
@@ -29,7 +29,7 @@ returns : tie.Need-returns
 returns c =
     let start = c .before .before .before .before in
     let pre = start .pre in
-    let read = maintenance-read _ (pre .0) (start .args .number) (pre .2) (pre .3) _ (c .before .before .operator .ensures) in
+    let read = maintenance-read _ (pre .0) (start .args .number) (pre .2) _ (c .before .before .operator .ensures) in
     let limit = c .before .available .ensures ∙ ap (λ (m : ℕ). start .args .guarantee .0 * (thousand - m)) read in
     c .at-most .ensures ∙ rw limit
 

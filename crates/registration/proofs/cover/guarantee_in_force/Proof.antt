@@ -24,7 +24,7 @@ returns : tie.Need-returns
 returns c =
     let start = c .before .before in
     let pre = start .pre in
-    let stands = guarantee-stands _ (pre .0) (start .args .number) (pre .1) (pre .2) _ refl in
+    let stands = guarantee-stands _ (pre .0) (start .args .number) (pre .1) _ refl in
     let read = c .get-u64 .ensures ∙ stands .0 in
     (ap cents read, omega (arith, read, stands .1))
 

@@ -1,4 +1,4 @@
--- A guarantee that is no lower covers what was covered; a lower one is held against the exposure with nothing added.
+-- A guarantee that is no lower covers what was covered; a lower one is compared with the exposure, nothing added.
 use mathlib.Core.Path.{_∙_}
 use Rattle.rules.specs.Basics.{nil}
 use Rattle.registration.proofs.GuaranteeLaws.{no-lower-covers}
@@ -14,7 +14,7 @@ returns c =
     let held = c .before .before .before in
     let start = held .before .before in
     let pre = start .pre in
-    no-lower-covers _ (pre .0) (start .args .number) _ _ (pre .2) (pre .3) (held .guarantee-in-force .ensures .0) (c .if1 .taken)
+    no-lower-covers _ (pre .0) (start .args .number) _ _ (pre .2) (held .guarantee-in-force .ensures .0) (c .if1 .taken)
 
 exposure-with-requires : tie.Need-exposure-with-requires
 exposure-with-requires c κs =

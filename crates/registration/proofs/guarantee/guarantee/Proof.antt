@@ -32,7 +32,7 @@ cast-put-u64 c = search needs
 
 sub-put-u64 : tie.Need-sub-put-u64
 sub-put-u64 c =
-    let low = ready-guarantee _ _ (c .before .before .before .before .before .before .before .before .pre .1) .0 in omega arith
+    let low = ready-guarantee _ _ (c .before .before .before .before .before .before .before .before .pre .1) .0 .0 in omega arith
 
 mul-put-u64 : tie.Need-mul-put-u64
 mul-put-u64 c = search needs

@@ -20,7 +20,7 @@ covered-under-requires : tie.Need-covered-under-requires
 covered-under-requires c κs =
     let pre = c .before .before .before .pre in
     let r = ready-guarantee _ _ (pre .1) in
-    (pre .0, r .2, r .0, r .1)
+    (pre .0, r .1, r .0)
 
 returns-2 : tie.Need-returns-2
 returns-2 c =
@@ -28,7 +28,7 @@ returns-2 c =
     let pre = phase .before .before .pre in
     let r = ready-guarantee _ _ (pre .1) in
     let all = book-is-sound _ (pre .0) .part-sound .guarantees-all in
-    ap checked (sym (enough-guarantee-in-force _ _ (sym (phase .phase .ensures) ∙ c .before .before .if1 .left) (r .0) (omega (arith, r .1, all)) _ (c .before .covered-under .ensures) (c .if2 .taken)))
+    ap checked (sym (enough-guarantee-in-force _ _ (sym (phase .phase .ensures) ∙ c .before .before .if1 .left) (r .0 .0) (omega (arith, r .0 .1, all)) _ (c .before .covered-under .ensures) (c .if2 .taken)))
 
 returns-3 : tie.Need-returns-3
 returns-3 c =
@@ -36,7 +36,7 @@ returns-3 c =
     let pre = phase .before .before .pre in
     let r = ready-guarantee _ _ (pre .1) in
     let all = book-is-sound _ (pre .0) .part-sound .guarantees-all in
-    ap checked (sym (too-little-guarantee-in-force _ _ (sym (phase .phase .ensures) ∙ c .before .before .if1 .left) (r .0) (omega (arith, r .1, all)) _ (c .before .covered-under .ensures) (c .if2 .left)))
+    ap checked (sym (too-little-guarantee-in-force _ _ (sym (phase .phase .ensures) ∙ c .before .before .if1 .left) (r .0 .0) (omega (arith, r .0 .1, all)) _ (c .before .covered-under .ensures) (c .if2 .left)))
 
 pub guarantee-fault-spec : {M : Type 1} → statement M
 guarantee-fault-spec = tie.close (tie.spec phase-requires returns covered-under-requires returns-2 returns-3)

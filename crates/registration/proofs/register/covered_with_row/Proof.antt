@@ -1,4 +1,4 @@
--- A purchase that waits exposes nobody. Of a sale, what is owed is the exposure of the account's operator with the row taken.
+-- A pending purchase adds nothing to an exposure, so that it stays covered. With a sale the exposure is worked out and tested.
 use mathlib.Core.Path.{_∙_}
 use borrow.Author.Needs.{needs}
 use Rattle.rules.specs.Basics.{nil, cons}
@@ -10,7 +10,7 @@ use Rattle.registration.proofs.register.covered_with_row.Tie as tie
 returns : tie.Need-returns
 returns c =
     let pre = c .before .before .before .pre in
-    still-covered _ _ _ (pre .0) (pre .3) (pre .4) (purchase-exposes-none _ _ _ _ (pre .2) (c .if1 .taken))
+    still-covered _ _ _ (pre .0) (pre .3) (purchase-exposes-none _ _ _ _ (pre .2) (c .if1 .taken))
 
 operator-of-requires : tie.Need-operator-of-requires
 operator-of-requires c κs = search needs

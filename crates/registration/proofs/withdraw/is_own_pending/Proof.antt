@@ -26,7 +26,10 @@ get-u8-requires-2 : tie.Need-get-u8-requires-2
 get-u8-requires-2 c κs = let n = book-length _ (c .before .before .before .before .before .before .pre .0) in omega arith
 
 returns-2 : tie.Need-returns-2
-returns-2 c = own-pending _ _ _ _ _ (c .before .before .before .before .before .before .before .before .pre .0) (c .before .before .before .before .before .before .before .before .pre .1) (omega arith) (c .before .before .before .row-offset .ensures) (c .before .before .get-u8 .ensures) (c .before .get-u82 .ensures)
+returns-2 c =
+    let place = c .before .before .before in
+    let pre = place .before .before .before .before .before .pre in
+    own-pending _ _ _ _ _ (pre .0) (pre .1, omega arith) (place .row-offset .ensures) (c .before .before .get-u8 .ensures) (c .before .get-u82 .ensures)
 
 pub is-own-pending-spec : {M : Type 1} → statement M
 is-own-pending-spec =

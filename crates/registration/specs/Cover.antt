@@ -1,0 +1,31 @@
+-- What covers an exposure (document 01, "Registration"): one test, at the exposure and the guarantee that a caller asks about.
+-- `covered` of the rules is this test at a part's own exposure and guarantee.
+use Prim.Native.Nat.{ℕ, _-_, _*_}
+use mathlib.Core.List.{[], _∷_}
+use mathlib.Core.Bool.{Bool}
+use lib.Dec.{leb}
+use Rattle.rules.specs.declared.Row.{Row}
+use Rattle.rules.specs.Limits.{thousand}
+use Rattle.rules.specs.Books.{Setup, Book, maintenanceAt, guaranteeAt}
+use Rattle.rules.specs.Registration.{withStatus, exposureWith}
+use Rattle.book.specs.Worth.{saleWorth}
+
+-- an exposure of the operator is at most what is available of a guarantee
+abbrev pub coveredBy : Setup → ℕ → ℕ → ℕ → Bool
+coveredBy u exposure guarantee o = leb exposure (guarantee * (thousand - maintenanceAt u o))
+
+-- it is at most what is available of the operator's guarantee in force
+abbrev pub coveredInForce : Book → ℕ → ℕ → Bool
+coveredInForce b exposure o = coveredBy (b .setup) exposure (guaranteeAt (b .part .guarantees) o .0) o
+
+-- the exposure once the row is added is covered
+abbrev pub coveredWith : Book → Row → ℕ → Bool
+coveredWith b row o = coveredInForce b (exposureWith (b .setup) (b .part .rows) (row ∷ []) o) o
+
+-- the exposure once the pending row is confirmed: the trade is added, and a sale is pending no longer
+abbrev pub exposureConfirming : Book → Row → ℕ → ℕ
+exposureConfirming b row o = exposureWith (b .setup) (b .part .rows) (withStatus 2 row ∷ []) o - saleWorth (b .setup) o row
+
+-- that exposure is covered
+abbrev pub coveredConfirming : Book → Row → ℕ → Bool
+coveredConfirming b row o = coveredInForce b (exposureConfirming b row o) o

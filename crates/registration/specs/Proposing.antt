@@ -1,0 +1,29 @@
+-- The row that a register proposes, and what is written of it (document 01, "Registration"; docs/LAYOUT.md).
+use Prim.Native.Nat.{ℕ, _+_, _<_}
+use mathlib.Core.Path.{_≡_}
+use mathlib.Core.List.{List}
+use mathlib.Core.Bool.{false}
+use lib.ListN.{length}
+use Rattle.wire.specs.Numbers.{le}
+use Rattle.wire.specs.Regions.{splice}
+use Rattle.rules.specs.declared.Row.{Row}
+use Rattle.rules.specs.declared.Request.{Request}
+use Rattle.rules.specs.Basics.{anyPasses}
+use Rattle.rules.specs.Limits.{mostRows}
+use Rattle.rules.specs.Books.{Book}
+use Rattle.rules.specs.Requests.{register}
+use Rattle.rules.specs.Registration.{alike}
+use Rattle.image.specs.Layout.{presentOffset, rowOffset, rowCountOffset}
+use Rattle.image.specs.Image.{rowBytes}
+use Rattle.book.specs.Kinds.{Ready}
+
+-- in the phase of registration, the request proposes a row that is no twin of a pending one, and there is a number for it
+pub record Proposing (b : Book) (q : Request) : Type 0 where
+  pub ready : Ready register b q
+  pub in-registration : b .phase ≡ 1
+  pub no-twin : anyPasses (alike (q .account) (q .other) (q .code)) (b .part .rows) ≡ false
+  pub has-room : length (b .part .rows) < mostRows
+
+-- the row put after the n that there are, and counted
+abbrev pub rowAppended : List ℕ → ℕ → Row → List ℕ
+rowAppended s n r = splice (splice s (presentOffset + rowOffset n) (rowBytes r)) (presentOffset + rowCountOffset) (le 2 (n + 1))
