@@ -6,10 +6,10 @@ use mathlib.Core.List.{List}
 use mathlib.Core.Option.{none, some}
 use mathlib.Core.Bool.{Bool, true}
 use native.Mathlib.Omega.{arith}
-use lib.ListN.{length, drop}
+use lib.ListN.{length}
 use Rattle.wire.specs.Numbers.{le}
-use Rattle.wire.specs.Regions.{splice, pasted}
-use Rattle.wire.specs.Parts.{zeros, sweep}
+use Rattle.wire.specs.Regions.{splice}
+use Rattle.wire.specs.Parts.{sweep}
 use Rattle.rules.specs.declared.Request.{Request}
 use Rattle.rules.specs.declared.Checked.{Checked}
 use Rattle.rules.specs.declared.Checked.the-variants.{Clear, Fails}
@@ -19,7 +19,7 @@ use Rattle.rules.specs.Requests.{openBatch, undo, keep, closeGate}
 use Rattle.rules.specs.Calls.{restored, given, savePart, restorePart, dropSaved, shutGate}
 use Rattle.rules.proofs.Checks.Clearing.{checked-same}
 use Rattle.rules.proofs.Checks.Passed.{passed-11, passed-12, passed-13}
-use Rattle.image.specs.Layout.{rowWidth, partSize, phaseOffset, flagOffset, presentOffset, savedOffset, rowOffset}
+use Rattle.image.specs.Layout.{rowWidth, phaseOffset, presentOffset, savedOffset, rowOffset}
 use Rattle.image.specs.Valid.{isBook, bookIn}
 use Rattle.image.specs.Changes.{ended}
 use Rattle.image.proofs.Writing.Sizes.{statuses-small}
@@ -28,18 +28,18 @@ use Rattle.image.proofs.Keeping.KeepsChanges.{apply-keeps}
 use Rattle.book.specs.Kinds.{decided}
 use Rattle.book.proofs.StateLaws.{book-image, book-fits, book-is-sound}
 use Rattle.book.proofs.Answers.{decided-clear, AnsweredAll, accepted-answered, answered-all, refused-all}
-use Rattle.batches.specs.Saving.{isClear, answerTo, savedIf}
+use Rattle.batches.specs.Rooms.{partCopied}
+use Rattle.batches.specs.Saving.{isClear, answerTo, savedIf, batchOpened, batchEnded}
 
 module _ (s t : List ℕ) (h : isBook s ≡ true) where
   -- 5: the present part copied over the saved one, and the flag
   pub opened-answered : ((q : Request) → decided openBatch (bookIn s) q ≡ none)
-      → t ≡ splice (pasted s (savedOffset mostHours) (drop presentOffset s) (partSize mostHours)) flagOffset (le 1 1)
-      → AnsweredAll openBatch s (accepted 0) t
+      → t ≡ batchOpened s → AnsweredAll openBatch s (accepted 0) t
   unfolding given
   opened-answered d e =
       answered-all openBatch s (accepted 0) t (λ q. accepted-answered openBatch s q h t 0 (d q) refl
       (e
-      ∙ ap (λ (x : List ℕ). splice (pasted x (savedOffset mostHours) (drop presentOffset x) (partSize mostHours)) flagOffset (le 1 1)) (book-image s h)
+      ∙ ap batchOpened (book-image s h)
       ∙ write-saved mostHours bookSize (bookIn s) (book-fits s h) (omega arith))
       (apply-keeps savePart (bookIn s) (book-is-sound s h) (passed-11 (bookIn s) q openBatch (decided-clear openBatch (bookIn s) q (d q)))))
 
@@ -54,8 +54,7 @@ module _ (s t : List ℕ) (h : isBook s ≡ true) where
   -- 6: the saved part copied over the present one and cleared, and the flag
   pub undone-answered : (n : ℕ) → ((q : Request) → decided undo (bookIn s) q ≡ none)
       → n ≡ length (bookIn s .part .rows) - length (restored (bookIn s .saved) (bookIn s .part) .rows)
-      → t ≡ splice (splice (pasted s presentOffset (drop (savedOffset mostHours) s) (partSize mostHours)) (savedOffset mostHours) (zeros (partSize mostHours))) flagOffset (le 1 0)
-      → AnsweredAll undo s (accepted n) t
+      → t ≡ batchEnded (partCopied s (savedOffset mostHours) presentOffset) → AnsweredAll undo s (accepted n) t
   unfolding given
   undone-answered n d g e =
       answered-all undo s (accepted n) t (λ q.
@@ -63,19 +62,17 @@ module _ (s t : List ℕ) (h : isBook s ≡ true) where
       let (p, saved) = passed-13 (bookIn s) q undo refl clear in
       accepted-answered undo s q h t n (d q) g
       (e
-      ∙ ap (λ (x : List ℕ). splice (splice (pasted x presentOffset (drop (savedOffset mostHours) x) (partSize mostHours)) (savedOffset mostHours) (zeros (partSize mostHours))) flagOffset (le 1 0)) (book-image s h)
+      ∙ ap (λ (x : List ℕ). batchEnded (partCopied x (savedOffset mostHours) presentOffset)) (book-image s h)
       ∙ write-restored mostHours bookSize (bookIn s) (book-fits s h) p (omega arith) saved)
       (apply-keeps restorePart (bookIn s) (book-is-sound s h) (passed-11 (bookIn s) q undo clear)))
 
   -- 7: the saved part cleared, and the flag
-  pub kept-answered : ((q : Request) → decided keep (bookIn s) q ≡ none)
-      → t ≡ splice (splice s (savedOffset mostHours) (zeros (partSize mostHours))) flagOffset (le 1 0)
-      → AnsweredAll keep s (accepted 0) t
+  pub kept-answered : ((q : Request) → decided keep (bookIn s) q ≡ none) → t ≡ batchEnded s → AnsweredAll keep s (accepted 0) t
   unfolding given
   kept-answered d e =
       answered-all keep s (accepted 0) t (λ q. accepted-answered keep s q h t 0 (d q) refl
       (e
-      ∙ ap (λ (x : List ℕ). splice (splice x (savedOffset mostHours) (zeros (partSize mostHours))) flagOffset (le 1 0)) (book-image s h)
+      ∙ ap batchEnded (book-image s h)
       ∙ write-dropped mostHours bookSize (bookIn s) (book-fits s h))
       (apply-keeps dropSaved (bookIn s) (book-is-sound s h) (passed-11 (bookIn s) q keep (decided-clear keep (bookIn s) q (d q)))))
 

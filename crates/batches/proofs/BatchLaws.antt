@@ -1,4 +1,5 @@
--- A part copied or cleared in two stretches, around room behind its rows that is zero already; and where a book has such room.
+-- A part copied or cleared in two stretches: up to its last row, and from its net positions on. Between them it is zero already, as laws say
+-- of both parts of a book.
 use Prim.Native.Nat.{ℕ, _+_, _-_, _*_, _≤_}
 use mathlib.Core.Path.{_≡_, refl, sym, ap, _∙_}
 use mathlib.Core.List.{List, _++_, append-assoc}
@@ -25,7 +26,7 @@ use Rattle.image.specs.Valid.{isBook, bookIn}
 use Rattle.image.proofs.Writing.Sizes.{PartFits, Fits, length-row, wide-part, wide-book}
 use Rattle.image.proofs.Reading.ImageReads.{present-read, saved-read}
 use Rattle.book.proofs.StateLaws.{book-image, book-fits, row-count-high, saved-rows-fewer}
-use Rattle.batches.specs.Rooms.{NoRowsPast}
+use Rattle.batches.specs.Rooms.{HasPart, NoRowsPast, partCopied, partCleared}
 
 -- ---- regions
 
@@ -82,8 +83,8 @@ abbrev gap : ℕ → ℕ
 gap n = rowWidth * mostRows - rowWidth * n
 
 module _ (s x y : List ℕ) (n : ℕ) (few : n ≤ mostRows) where
-  pub part-copied : (from to : ℕ) → from + size ≤ length s → to + size ≤ length s → Apart from to size → NoRowsPast s from n → NoRowsPast s to n
-      → x ≡ pasted s to (drop from s) (rowOffset n) → y ≡ pasted x (to + netsOffset) (drop (from + netsOffset) x) nets → y ≡ pasted s to (drop from s) size
+  pub part-copied : (from to : ℕ) → HasPart s from → HasPart s to → Apart from to size → NoRowsPast s from n → NoRowsPast s to n
+      → x ≡ pasted s to (drop from s) (rowOffset n) → y ≡ pasted x (to + netsOffset) (drop (from + netsOffset) x) nets → y ≡ partCopied s from to
   unfolding NoRowsPast
   part-copied from to hf ht apart zf zt e g =
       let d : List ℕ = drop from s in
@@ -115,8 +116,8 @@ module _ (s x y : List ℕ) (n : ℕ) (few : n ≤ mostRows) where
       ∙ ap (splice s to) whole
       ∙ sym (pasted-splice s to d size (omega arith))
 
-  pub part-cleared : (at : ℕ) → at + size ≤ length s → NoRowsPast s at n
-      → x ≡ splice s at (zeros (rowOffset n)) → y ≡ splice x (at + netsOffset) (zeros nets) → y ≡ splice s at (zeros size)
+  pub part-cleared : (at : ℕ) → HasPart s at → NoRowsPast s at n
+      → x ≡ splice s at (zeros (rowOffset n)) → y ≡ splice x (at + netsOffset) (zeros nets) → y ≡ partCleared s at
   unfolding NoRowsPast
   part-cleared at h z e g =
       let a : List ℕ = zeros (rowOffset n) in
@@ -131,7 +132,7 @@ module _ (s x y : List ℕ) (n : ℕ) (few : n ≤ mostRows) where
       ∙ splice-around s at a b (zeros nets) (omega arith) (rw (lb, la) z)
       ∙ ap (splice s at) (rw (zeros-add (rowOffset n) (gap n), sum) (zeros-add netsOffset nets))
 
--- ---- where no row stands
+-- ---- where there is no row
 
 -- past some, and so past more
 rows-past-more : (s : List ℕ) (at i n : ℕ) → i ≤ n → n ≤ mostRows → NoRowsPast s at i → NoRowsPast s at n
@@ -212,7 +213,7 @@ module _ (s : List ℕ) (h : isBook s ≡ true) where
 
 -- a copy over the present part leaves the saved one
 pub saved-room-left : (s x : List ℕ) (n : ℕ) → length s ≡ bookSize → n ≤ mostRows → NoRowsPast s (savedOffset mostHours) n
-    → x ≡ pasted s presentOffset (drop (savedOffset mostHours) s) size → NoRowsPast x (savedOffset mostHours) n
+    → x ≡ partCopied s (savedOffset mostHours) presentOffset → NoRowsPast x (savedOffset mostHours) n
 unfolding NoRowsPast
 saved-room-left s x n l few z e =
     ap (λ (t : List ℕ). take (gap n) (drop (savedOffset mostHours + rowOffset n) t)) e

@@ -1,5 +1,5 @@
 -- What the contracts of `batches` say.
--- Rooms: the room behind the rows of a part.
+-- Rooms: a part in the bytes of a book, copied and cleared.
 pub mod Rooms
--- Saving: what opening a batch does by what is wrong with it.
+-- Saving: what kinds 5 to 8 are refused for, and what opening and ending a batch writes.
 pub mod Saving

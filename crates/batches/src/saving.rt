@@ -2,21 +2,17 @@
 ghost use mathlib.Core.Path.{_≡_};
 ghost use mathlib.Core.Bool.{true};
 ghost use mathlib.Core.List.{[], _∷_};
-ghost use Prim.Native.Nat.{_+_, _≤_};
-ghost use lib.ListN.{length, drop};
-ghost use Rattle.wire.specs.Numbers.{le};
-ghost use Rattle.wire.specs.Regions.{splice, pasted, Apart};
-ghost use Rattle.wire.specs.Parts.{zeros};
+ghost use Prim.Native.Nat.{_≤_};
+ghost use lib.ListN.{length};
+ghost use Rattle.wire.specs.Regions.{Apart};
 ghost use Rattle.rules.specs.declared.Request.{Request};
 ghost use Rattle.rules.specs.Limits.{mostHours, mostRows, bookSize};
-ghost use Rattle.rules.specs.Verdicts.{checked};
-ghost use Rattle.rules.specs.Requests.{Kind, openBatch, undo, keep, closeGate};
-ghost use Rattle.rules.specs.Calls.{_oneOf_};
-ghost use Rattle.image.specs.Layout.{flagOffset, savedOffset, partSize};
+ghost use Rattle.rules.specs.Requests.{openBatch, undo, keep, closeGate};
+ghost use Rattle.image.specs.Layout.{savedOffset, partSize};
 ghost use Rattle.image.specs.Valid.{isBook, bookIn, bookBytes};
-ghost use Rattle.book.specs.Kinds.{decided, outcomeOn, bookAfter};
-ghost use Rattle.batches.specs.Rooms.{NoRowsPast};
-ghost use Rattle.batches.specs.Saving.{isClear, answerTo, savedIf};
+ghost use Rattle.book.specs.Kinds.{outcomeOn, bookAfter};
+ghost use Rattle.batches.specs.Rooms.{HasPart, NoRowsPast, partCopied, partCleared};
+ghost use Rattle.batches.specs.Saving.{FaultOfEach, isClear, answerTo, savedIf, batchEnded};
 use book::state::REGISTRATION;
 use book::state::batch_open;
 use book::state::phase;
@@ -40,7 +36,7 @@ use wire::regions::copy_within;
 // What opening a batch and closing the gate are refused for.
 pub fn outside_batch(book: &[u8]) -> Checked
     requires { ⌜ isBook (now book) ≡ true ⌝ }
-    ensures { λ r. ⌜ ((k : Kind) (q : Request) → k oneOf (openBatch ∷ closeGate ∷ []) ≡ true → r ≡ checked (decided k (bookIn (now (book .entry))) q)) ⌝ }
+    ensures { λ r. ⌜ FaultOfEach (openBatch ∷ closeGate ∷ []) (bookIn (now (book .entry))) r ⌝ }
 {
     if phase(book) != REGISTRATION {
         return Checked::Fails(Refusal::WrongPhase);
@@ -54,7 +50,7 @@ pub fn outside_batch(book: &[u8]) -> Checked
 // What undo and keep are refused for.
 pub fn inside_batch(book: &[u8]) -> Checked
     requires { ⌜ isBook (now book) ≡ true ⌝ }
-    ensures { λ r. ⌜ ((k : Kind) (q : Request) → k oneOf (undo ∷ keep ∷ []) ≡ true → r ≡ checked (decided k (bookIn (now (book .entry))) q)) ⌝ }
+    ensures { λ r. ⌜ FaultOfEach (undo ∷ keep ∷ []) (bookIn (now (book .entry))) r ⌝ }
 {
     if phase(book) != REGISTRATION {
         return Checked::Fails(Refusal::WrongPhase);
@@ -65,11 +61,11 @@ pub fn inside_batch(book: &[u8]) -> Checked
     Checked::Fails(Refusal::NoBatch)
 }
 
-// Copies a part over another. Past the first n rows neither has any, so that room is left alone.
+// Copies a part over another. Past the first n rows both are zero up to their net positions, so that this room is left alone.
 fn copy_part(book: &mut [u8], from: usize, to: usize, n: u16)
-    requires { ⌜ (from + partSize mostHours ≤ length (now book)) × (to + partSize mostHours ≤ length (now book)) × Apart from to (partSize mostHours) ⌝ }
+    requires { ⌜ HasPart (now book) from × HasPart (now book) to × Apart from to (partSize mostHours) ⌝ }
     requires { ⌜ (n ≤ mostRows) × NoRowsPast (now book) from n × NoRowsPast (now book) to n ⌝ }
-    ensures { λ _. ⌜ now (book .exit) ≡ pasted (now (book .entry)) to (drop from (now (book .entry))) (partSize mostHours) ⌝ }
+    ensures { λ _. ⌜ now (book .exit) ≡ partCopied (now (book .entry)) from to ⌝ }
 {
     copy_within(book, from, to, ROWS_OFFSET + ROW_WIDTH * (n as usize));
     copy_within(
@@ -82,19 +78,19 @@ fn copy_part(book: &mut [u8], from: usize, to: usize, n: u16)
 
 // Clears a part that has no more than n rows.
 fn clear_part(book: &mut [u8], at: usize, n: u16)
-    requires { ⌜ at + partSize mostHours ≤ length (now book) ⌝ }
+    requires { ⌜ HasPart (now book) at ⌝ }
     requires { ⌜ (n ≤ mostRows) × NoRowsPast (now book) at n ⌝ }
-    ensures { λ _. ⌜ now (book .exit) ≡ splice (now (book .entry)) at (zeros (partSize mostHours)) ⌝ }
+    ensures { λ _. ⌜ now (book .exit) ≡ partCleared (now (book .entry)) at ⌝ }
 {
     clear_at(book, at, ROWS_OFFSET + ROW_WIDTH * (n as usize));
     clear_at(book, at + NETS_OFFSET, PART_SIZE - NETS_OFFSET);
 }
 
-// Clears what the batch saved, no more than n rows, and the flag.
+// Ends the batch: clears the saved part, which has no more than n rows, and the flag.
 fn end_batch(book: &mut [u8], n: u16)
     requires { ⌜ length (now book) ≡ bookSize ⌝ }
     requires { ⌜ (n ≤ mostRows) × NoRowsPast (now book) (savedOffset mostHours) n ⌝ }
-    ensures { λ _. ⌜ now (book .exit) ≡ splice (splice (now (book .entry)) (savedOffset mostHours) (zeros (partSize mostHours))) flagOffset (le 1 0) ⌝ }
+    ensures { λ _. ⌜ now (book .exit) ≡ batchEnded (now (book .entry)) ⌝ }
 {
     clear_part(book, SAVED_OFFSET, n);
     put_u8(book, FLAG_OFFSET, 0);
@@ -171,7 +167,7 @@ pub fn undo(book: &mut [u8]) -> Outcome
     }
 }
 
-// Kind 7: lets go of what the batch saved.
+// Kind 7: keeps the present part, and clears what the batch saved.
 pub fn keep(book: &mut [u8]) -> Outcome
     requires { ⌜ isBook (now book) ≡ true ⌝ }
     ensures answer { λ o. ⌜ ((q : Request) → o ≡ outcomeOn keep (bookIn (now (book .entry))) q) ⌝ }

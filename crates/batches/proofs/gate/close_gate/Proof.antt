@@ -34,7 +34,10 @@ same-length : tie.Need-same-length
 same-length c = search needs
 
 returns : tie.Need-returns
-returns c = refused-all closeGate _ _ (c .before .before .before .before .before .before .pre) (λ q. checked-same _ (some _) (sym (c .before .before .before .outside-batch .ensures closeGate q refl) ∙ c .before .r .given .1))
+returns c =
+    let tested = c .before .before .before in
+    refused-all closeGate _ _ (tested .before .before .before .pre)
+    (λ q. checked-same _ (some _) (sym (tested .outside-batch .ensures closeGate q refl) ∙ c .before .r .given .1))
 
 enum-told : tie.Need-enum-told
 enum-told c = search needs
@@ -49,13 +52,24 @@ end-rows-requires : tie.Need-end-rows-requires
 end-rows-requires c κs = let n = book-length _ (c .before .before .before .before .before .before .before .before .pre) in omega arith
 
 put-u8-requires : tie.Need-put-u8-requires
-put-u8-requires c κs = let n = book-length _ (c .before .before .before .before .before .before .before .before .before .before .before .before .pre) in omega arith
+put-u8-requires c κs =
+    let counted = c .before .before .before .before .before in
+    let start = counted .before .before .before .before .before .before .before in
+    let n = book-length _ (start .pre) in
+    omega arith
 
 same-length-2 : tie.Need-same-length-2
 same-length-2 c = search needs
 
 returns-2 : tie.Need-returns-2
-returns-2 c = closed-answered _ _ (c .before .before .before .before .before .before .before .before .before .before .before .before .before .before .before .pre) _ (free (c .before .before .before .before .before .before .before .before .before .before)) (c .before .before .before .before .before .before .before .before .row-count .ensures .0) (c .before .before .put-u8 .ensures ∙ ap (λ (x : List ℕ). splice x phaseOffset (le 1 2)) (c .before .before .before .before .before .before .end-rows .ensures))
+returns-2 c =
+    let phase = c .before .before in
+    let ended = phase .before .before .before .before in
+    let counted = ended .before .before in
+    let clear = counted .before .before in
+    let start = clear .before .before .before .before .before in
+    closed-answered _ _ (start .pre) _ (free clear) (counted .row-count .ensures .0)
+    (phase .put-u8 .ensures ∙ ap (λ (x : List ℕ). splice x phaseOffset (le 1 2)) (ended .end-rows .ensures))
 
 pub close-gate-spec : {M : Type 1} → statement M
 close-gate-spec =

@@ -27,9 +27,11 @@ same-length c = search needs
 
 returns : tie.Need-returns
 returns c =
-    let start = c .before .before .before .before .before .before .before .before .before in
+    let nets = c .before .before in
+    let rows = nets .before .before .before .before in
+    let start = rows .before .before .before in
     let (few, room) = start .pre .1 in
-    part-cleared _ _ _ _ few _ (start .pre .0) room (c .before .before .before .before .before .before .clear-at .ensures) (c .before .before .clear-at2 .ensures)
+    part-cleared _ _ _ _ few _ (start .pre .0) room (rows .clear-at .ensures) (nets .clear-at2 .ensures)
 
 pub clear-part-spec : {M : Type 1} → statement M
 clear-part-spec =

@@ -34,10 +34,12 @@ same-length c = search needs
 
 returns : tie.Need-returns
 returns c =
-    let start = c .before .before .before .before .before .before .before .before .before in
+    let nets = c .before .before in
+    let rows = nets .before .before .before .before in
+    let start = rows .before .before .before in
     let (inside, there, apart) = start .pre .0 in
     let (few, room, gap) = start .pre .1 in
-    part-copied _ _ _ _ few _ _ inside there apart room gap (c .before .before .before .before .before .before .copy-within .ensures) (c .before .before .copy-within2 .ensures)
+    part-copied _ _ _ _ few _ _ inside there apart room gap (rows .copy-within .ensures) (nets .copy-within2 .ensures)
 
 pub copy-part-spec : {M : Type 1} → statement M
 copy-part-spec =

@@ -37,7 +37,10 @@ same-length : tie.Need-same-length
 same-length c = search needs
 
 returns : tie.Need-returns
-returns c = refused-all keep _ _ (c .before .before .before .before .before .before .pre) (λ q. checked-same _ (some _) (sym (c .before .before .before .inside-batch .ensures keep q refl) ∙ c .before .r .given .1))
+returns c =
+    let tested = c .before .before .before in
+    refused-all keep _ _ (tested .before .before .before .pre)
+    (λ q. checked-same _ (some _) (sym (tested .inside-batch .ensures keep q refl) ∙ c .before .r .given .1))
 
 enum-told : tie.Need-enum-told
 enum-told c = search needs
@@ -47,14 +50,20 @@ saved-row-count-requires c κs = (c .before .before .before .before .before .bef
 
 end-batch-requires : tie.Need-end-batch-requires
 end-batch-requires c κs =
-    let pre = c .before .before .before .before .before .before .before .before .pre in
-    (book-length _ pre, saved-rows-end _ pre (batch (c .before .before .before)) _ (c .before .saved-row-count .ensures .0))
+    let counted = c .before in
+    let clear = counted .before .before in
+    let pre = clear .before .before .before .before .before .pre in
+    (book-length _ pre, saved-rows-end _ pre (batch clear) _ (counted .saved-row-count .ensures .0))
 
 same-length-2 : tie.Need-same-length-2
 same-length-2 c = search needs
 
 returns-2 : tie.Need-returns-2
-returns-2 c = kept-answered _ _ (c .before .before .before .before .before .before .before .before .before .before .before .pre) (free (c .before .before .before .before .before .before)) (c .before .before .end-batch .ensures)
+returns-2 c =
+    let ended = c .before .before in
+    let clear = ended .before .before .before .before in
+    let start = clear .before .before .before .before .before in
+    kept-answered _ _ (start .pre) (free clear) (ended .end-batch .ensures)
 
 pub keep-spec : {M : Type 1} → statement M
 keep-spec =

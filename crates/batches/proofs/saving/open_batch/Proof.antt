@@ -23,8 +23,12 @@ same-length c = search needs
 
 returns : tie.Need-returns
 returns c =
+    let saved = c .before .before .before in
+    let told = saved .before .before in
+    let tested = told .before in
+    let start = tested .before .before .before in
     rw (c .outcome-of .ensures)
-    (opening-answered _ _ (c .before .before .before .before .before .before .before .before .before .pre) _ (λ q. c .before .before .before .before .before .before .outside-batch .ensures openBatch q refl) (c .before .before .before .before .before .is-clear .ensures) (c .before .before .before .save-if .ensures))
+    (opening-answered _ _ (start .pre) _ (λ q. tested .outside-batch .ensures openBatch q refl) (told .is-clear .ensures) (saved .save-if .ensures))
 
 pub open-batch-spec : {M : Type 1} → statement M
 open-batch-spec =

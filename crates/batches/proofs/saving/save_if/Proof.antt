@@ -1,4 +1,4 @@
--- Saved is the present part as it stands, whether a batch is open or not.
+-- The room past the rows is zero in both parts, whether a batch is open or not, so that the copy is the whole present part.
 use Prim.Native.Nat.{ℕ}
 use mathlib.Core.Path.{ap, _∙_}
 use mathlib.Core.List.{List}
@@ -24,13 +24,21 @@ copy-part-requires c κs =
     ((omega arith, omega arith, inl (omega arith)), (few, present-rows-end _ pre _ count, saved-past-rows _ pre _ count))
 
 put-u8-requires : tie.Need-put-u8-requires
-put-u8-requires c κs = let n = book-length _ (c .before .before .before .before .before .before .before .before .before .pre) in omega arith
+put-u8-requires c κs =
+    let counted = c .before .before .before .before .before in
+    let start = counted .before .before .before .before in
+    let n = book-length _ (start .pre) in
+    omega arith
 
 same-length : tie.Need-same-length
 same-length c = search needs
 
 returns : tie.Need-returns
-returns c = rw (c .before .before .before .before .before .before .before .before .before .before .if1 .taken) (c .before .before .put-u8 .ensures ∙ ap (λ (x : List ℕ). splice x flagOffset (le 1 1)) (c .before .before .before .before .before .before .copy-part .ensures))
+returns c =
+    let flagged = c .before .before in
+    let copied = flagged .before .before .before .before in
+    let clear = copied .before .before .before .before in
+    rw (clear .if1 .taken) (flagged .put-u8 .ensures ∙ ap (λ (x : List ℕ). splice x flagOffset (le 1 1)) (copied .copy-part .ensures))
 
 returns-2 : tie.Need-returns-2
 returns-2 c = search needs

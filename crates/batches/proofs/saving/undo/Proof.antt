@@ -1,25 +1,20 @@
 -- What was checked is what the state decides, and what is written is the book as it was saved, with nothing saved any more.
-use Prim.Native.Nat.{ℕ}
 use mathlib.Core.Path.{_≡_, refl, sym, ap, _∙_}
-use mathlib.Core.List.{List, []}
+use mathlib.Core.List.{[]}
 use mathlib.Core.Option.{none, some}
 use mathlib.Core.Bool.{true}
 use mathlib.Core.Logic.{inr}
 use native.Mathlib.Omega.{arith}
 use denote.Ref.{now}
-use Rattle.wire.specs.Numbers.{le}
-use Rattle.wire.specs.Regions.{splice}
-use Rattle.wire.specs.Parts.{zeros}
 use Rattle.rules.specs.declared.Request.{Request}
 use Rattle.rules.specs.Basics.{isSome}
-use Rattle.rules.specs.Limits.{mostHours}
 use Rattle.rules.specs.Requests.{undo, requestOf}
 use Rattle.rules.proofs.Checks.Clearing.{checked-same}
-use Rattle.image.specs.Layout.{flagOffset, savedOffset, partSize}
 use Rattle.image.specs.Valid.{bookIn}
 use Rattle.book.specs.Kinds.{decided}
 use Rattle.book.proofs.StateLaws.{book-length}
 use Rattle.book.proofs.Answers.{refused-all}
+use Rattle.batches.specs.Saving.{batchEnded}
 use Rattle.batches.proofs.Decisions.{ending-finds-batch}
 use Rattle.batches.proofs.Acceptances.{undone-answered}
 use Rattle.batches.proofs.BatchLaws.{present-rows-end, saved-rows-end, saved-past-present, saved-room-left}
@@ -45,7 +40,10 @@ same-length : tie.Need-same-length
 same-length c = search needs
 
 returns : tie.Need-returns
-returns c = refused-all undo _ _ (c .before .before .before .before .before .before .pre) (λ q. checked-same _ (some _) (sym (c .before .before .before .inside-batch .ensures undo q refl) ∙ c .before .r .given .1))
+returns c =
+    let tested = c .before .before .before in
+    refused-all undo _ _ (tested .before .before .before .pre)
+    (λ q. checked-same _ (some _) (sym (tested .inside-batch .ensures undo q refl) ∙ c .before .r .given .1))
 
 enum-told : tie.Need-enum-told
 enum-told c = search needs
@@ -54,30 +52,46 @@ row-count-requires : tie.Need-row-count-requires
 row-count-requires c κs = search needs
 
 saved-row-count-requires : tie.Need-saved-row-count-requires
-saved-row-count-requires c κs = (c .before .before .before .before .before .before .before .before .pre, batch (c .before .before .before))
+saved-row-count-requires c κs =
+    let clear = c .before .before .before in
+    let start = clear .before .before .before .before .before in
+    (start .pre, batch clear)
 
 sub-since : tie.Need-sub-since
 sub-since c = search needs
 
 copy-part-requires : tie.Need-copy-part-requires
 copy-part-requires c κs =
-    let pre = c .before .before .before .before .before .before .before .before .before .before .pre in
+    let counted = c .before .before .before in
+    let clear = counted .before .before in
+    let pre = clear .before .before .before .before .before .pre in
     let n = book-length _ pre in
-    let (count, few) = c .before .before .before .row-count .ensures in
-    ((omega arith, omega arith, inr (omega arith)), (few, saved-past-present _ pre (batch (c .before .before .before .before .before)) _ count, present-rows-end _ pre _ count))
+    let (count, few) = counted .row-count .ensures in
+    ((omega arith, omega arith, inr (omega arith)), (few, saved-past-present _ pre (batch clear) _ count, present-rows-end _ pre _ count))
 
 end-batch-requires : tie.Need-end-batch-requires
 end-batch-requires c κs =
-    let pre = c .before .before .before .before .before .before .before .before .before .before .before .before .before .before .pre in
+    let copied = c .before .before .before in
+    let saved = copied .before .before in
+    let clear = saved .before .before .before .before in
+    let pre = clear .before .before .before .before .before .pre in
     let n = book-length _ pre in
-    let (few, room) = saved-rows-end _ pre (batch (c .before .before .before .before .before .before .before .before .before)) _ (c .before .before .before .before .before .saved-row-count .ensures .0) in
-    (omega arith, (few, saved-room-left _ _ _ n few room (c .before .before .before .copy-part .ensures)))
+    let (few, room) = saved-rows-end _ pre (batch clear) _ (saved .saved-row-count .ensures .0) in
+    (omega arith, (few, saved-room-left _ _ _ n few room (copied .copy-part .ensures)))
 
 same-length-2 : tie.Need-same-length-2
 same-length-2 c = search needs
 
 returns-2 : tie.Need-returns-2
-returns-2 c = undone-answered _ _ (c .before .before .before .before .before .before .before .before .before .before .before .before .before .before .before .before .before .pre) _ (free (c .before .before .before .before .before .before .before .before .before .before .before .before)) (rw (c .before .before .before .before .before .before .before .before .before .before .row-count .ensures .0, c .before .before .before .before .before .before .before .before .saved-row-count .ensures .0)) (c .before .before .end-batch .ensures ∙ ap (λ (x : List ℕ). splice (splice x (savedOffset mostHours) (zeros (partSize mostHours))) flagOffset (le 1 0)) (c .before .before .before .before .before .before .copy-part .ensures))
+returns-2 c =
+    let ended = c .before .before in
+    let copied = ended .before .before .before .before in
+    let saved = copied .before .before in
+    let counted = saved .before .before in
+    let clear = counted .before .before in
+    let start = clear .before .before .before .before .before in
+    undone-answered _ _ (start .pre) _ (free clear) (rw (counted .row-count .ensures .0, saved .saved-row-count .ensures .0))
+    (ended .end-batch .ensures ∙ ap batchEnded (copied .copy-part .ensures))
 
 pub undo-spec : {M : Type 1} → statement M
 undo-spec =
