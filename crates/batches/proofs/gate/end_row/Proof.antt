@@ -1,4 +1,4 @@
--- A pending row is withdrawn at its status byte, and any other stands.
+-- A pending row gets the status of a withdrawn one, and any other row is left.
 use mathlib.Core.Path.{sym, _∙_}
 use native.Mathlib.Omega.{arith}
 use Rattle.image.proofs.Writing.Loops.{ended-pending, ended-other}

@@ -1,4 +1,4 @@
--- What is left runs down: the rows from `at` on are still to be ended, those before are.
+-- To end the rows that are left, after those ended so far, is to end all.
 use Prim.Native.Nat.{_+_, _-_, _*_, _≤_}
 use mathlib.Core.Path.{_≡_, refl, sym, _∙_}
 use native.Mathlib.Omega.{arith}

@@ -1,4 +1,4 @@
--- The room of the saved part is cleared, then the flag.
+-- The saved part is cleared, and then the flag.
 use borrow.Author.Needs.{needs}
 use Rattle.batches.proofs.saving.end_batch.Statement.{statement}
 use Rattle.batches.proofs.saving.end_batch.Tie as tie

@@ -1,4 +1,4 @@
--- What was checked is what the state decides: where nothing is wrong the present part is saved.
+-- What was checked is what the state decides, and the present part is saved only where nothing is wrong.
 use mathlib.Core.Path.{refl}
 use Rattle.rules.specs.Requests.{openBatch}
 use Rattle.batches.proofs.Acceptances.{opening-answered}

@@ -1,4 +1,4 @@
--- By cases on what is wrong.
+-- A fault is refused, and no fault is accepted with no number.
 use mathlib.Core.Path.{refl}
 use borrow.Author.Needs.{needs}
 use Rattle.batches.proofs.saving.outcome_of.Statement.{statement}

@@ -1,4 +1,4 @@
--- The tests of the two kinds, in the order of their numbers.
+-- The tests of the two kinds are the same, and are made in the order of their numbers.
 use mathlib.Core.Path.{sym, ap, _∙_}
 use Rattle.rules.specs.Verdicts.{checked}
 use Rattle.book.proofs.Answers.{in-wrong-phase}

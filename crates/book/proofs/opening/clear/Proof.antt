@@ -1,4 +1,4 @@
--- After i turns the first i bytes are zeros.
+-- The bytes before i are zeros, and i reaches the end.
 use Prim.Native.Nat.{_-_, _≤_}
 use mathlib.Core.Path.{_≡_, sym}
 use lib.ListN.{length, take, length-set}

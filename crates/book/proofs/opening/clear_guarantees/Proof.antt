@@ -1,4 +1,4 @@
--- Clearing the guarantees that still stand, in the bytes as they are, comes to clearing all of them in the bytes as they were.
+-- Clearing the guarantees that are left, after those cleared so far, comes to clearing all of them.
 use Prim.Native.Nat.{_+_, _-_, _*_, _≤_}
 use mathlib.Core.Path.{_≡_, refl, sym, _∙_}
 use lib.ListN.{length}

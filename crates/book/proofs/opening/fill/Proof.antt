@@ -26,20 +26,24 @@ put-u8-requires c κs = search needs
 
 put-guarantees-requires : tie.Need-put-guarantees-requires
 put-guarantees-requires c κs =
-    let f = c .before .before .before .before .before .before .before .before .before in
-    let k = f .before .before .before in
-    let o = openable _ (bytes-known _ (k .shared-slice-known .given)) (k .before .pre .0) (f .before .counts .ensures) in
-    (omega (arith, f .operators-offset .ensures), omega arith)
+    let phase = c .before .before .before in
+    let found = phase .before .before .before .before .before .before in
+    let start = found .before .before .before in
+    let o = openable _ (bytes-known _ (start .shared-slice-known .given)) (start .before .pre .0) (found .before .counts .ensures) in
+    (omega (arith, found .operators-offset .ensures), omega arith)
 
 same-length : tie.Need-same-length
 same-length c = search needs
 
 returns : tie.Need-returns
 returns c =
-    let f = c .before .before .before .before .before .before .before .before .before .before .before .before in
-    let k = f .before .before .before in
-    written-fresh _ (bytes-known _ (k .shared-slice-known .given)) (k .before .pre .0) (f .before .counts .ensures) (f .operators-offset .ensures) (k .before .pre .1)
-    (c .before .before .before .before .before .before .before .before .before .before .put-setup .ensures) (c .before .before .before .before .before .before .put-u8 .ensures) (c .before .before .put-guarantees .ensures)
+    let guarantees = c .before .before in
+    let phase = guarantees .before .before .before .before in
+    let copied = phase .before .before .before .before in
+    let found = copied .before .before in
+    let start = found .before .before .before in
+    written-fresh _ (bytes-known _ (start .shared-slice-known .given)) (start .before .pre .0) (found .before .counts .ensures) (found .operators-offset .ensures) (start .before .pre .1)
+    (copied .put-setup .ensures) (phase .put-u8 .ensures) (guarantees .put-guarantees .ensures)
 
 pub fill-spec : {M : Type 1} → statement M
 fill-spec =

@@ -1,4 +1,4 @@
--- Copying what is left of the guarantees, into the book as it is, comes to copying all of them into the book as it was.
+-- Copying the guarantees that are left, after those copied so far, comes to copying all of them.
 use Prim.Native.Nat.{_+_, _-_, _*_, _≤_}
 use mathlib.Core.Path.{_≡_, refl, sym, _∙_}
 use lib.ListN.{length, length-take, length-drop}

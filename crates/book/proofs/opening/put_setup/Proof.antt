@@ -1,4 +1,4 @@
--- Zeros, the set-up over their front, and its guarantees emptied: each step as its function has it.
+-- The buffer is cleared, the set-up is copied to its front, and the guarantees in it are cleared.
 use borrow.Author.Needs.{needs}
 use Rattle.book.proofs.opening.put_setup.Statement.{statement}
 use Rattle.book.proofs.opening.put_setup.Tie as tie
@@ -16,7 +16,11 @@ same-length : tie.Need-same-length
 same-length c = search needs
 
 returns : tie.Need-returns
-returns c = rw (c .before .before .clear-guarantees .ensures, c .before .before .before .before .before .before .copy-in .ensures, c .before .before .before .before .before .before .before .before .before .before .clear .ensures)
+returns c =
+    let emptied = c .before .before in
+    let copied = emptied .before .before .before .before in
+    let cleared = copied .before .before .before .before in
+    rw (emptied .clear-guarantees .ensures, copied .copy-in .ensures, cleared .clear .ensures)
 
 pub put-setup-spec : {M : Type 1} → statement M
 put-setup-spec =

@@ -1,4 +1,5 @@
--- A book keeps its margins, so that below half a turn its 4 bytes say what was bought, and from there on what was sold.
+-- In a book no margin is broken, so that a net position is nearer to zero than 2^31: below that its 4 bytes say what was bought beyond what
+-- was sold, and from there on the reverse.
 use native.Mathlib.Omega.{arith}
 use borrow.Author.Needs.{needs}
 use Rattle.book.proofs.ReadingLaws.{net-has-place}

@@ -1,4 +1,4 @@
--- The cell of an account hour stands inside the book's bytes.
+-- The 4 bytes of an account and an hour lie within the bytes of a book.
 use native.Mathlib.Omega.{arith}
 use borrow.Author.Needs.{needs}
 use Rattle.book.proofs.StateLaws.{book-length}

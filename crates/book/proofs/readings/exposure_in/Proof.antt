@@ -1,4 +1,4 @@
--- With nothing added the exposure is the operator's.
+-- With nothing added the exposure worked out is the operator's.
 use mathlib.Core.Path.{sym, _∙_}
 use native.Mathlib.Omega.{arith}
 use borrow.Author.Needs.{needs}

@@ -1,4 +1,4 @@
--- A book keeps its margins, so that the 4 bytes of a net say its position; the account is tested before the hour.
+-- In a book no margin is broken, so that the 4 bytes of a net say its position; the account is tested before the hour.
 use mathlib.Core.Path.{sym, ap, _∙_}
 use native.Mathlib.Omega.{arith}
 use borrow.Author.Needs.{needs}

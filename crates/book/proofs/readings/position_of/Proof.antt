@@ -1,4 +1,4 @@
--- Below half a turn the number stands for itself, and from there on for what it lacks of a whole turn.
+-- Below 2^31 the number is the position, and from there on 2^32 less the number is how far it lies below zero.
 use Prim.Native.Nat.{ℕ}
 use mathlib.Core.Path.{ap}
 use native.Mathlib.Omega.{arith}

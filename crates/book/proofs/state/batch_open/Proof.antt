@@ -1,4 +1,4 @@
--- The flag stands in its place, 1 while a batch is open.
+-- The bytes are the book's image, in which the flag is 1 while a batch is open.
 use Prim.Native.Nat.{ℕ}
 use mathlib.Core.Path.{ap, _∙_}
 use native.Mathlib.Omega.{arith}

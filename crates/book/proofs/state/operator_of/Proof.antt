@@ -1,4 +1,4 @@
--- The account that was read says who its operator is, and that is one of the book's.
+-- The account that is read names its operator, and that is one of the book's.
 use mathlib.Core.Path.{ap}
 use native.Mathlib.Omega.{arith}
 use Rattle.rules.specs.declared.Account.{Account}

@@ -1,4 +1,4 @@
--- The phase stands in its place.
+-- The bytes are the book's image, which has the phase at this place.
 use mathlib.Core.Path.{_∙_}
 use native.Mathlib.Omega.{arith}
 use Rattle.book.proofs.StateLaws.{book-length, phase-stands}

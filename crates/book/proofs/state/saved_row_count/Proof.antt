@@ -1,4 +1,4 @@
--- The count of the saved part stands in its place, and the saved rows are the first of the present ones.
+-- The bytes are the book's image, which has the number of saved rows at this place, and the saved rows are the first of the present ones.
 use mathlib.Core.Path.{_∙_}
 use native.Mathlib.Omega.{arith}
 use Rattle.book.proofs.StateLaws.{book-length, saved-row-count-stands, saved-rows-fewer}

@@ -1,4 +1,4 @@
--- The count stands in its place, and a sound book has at most 256 schedules.
+-- The bytes are the book's image, which has the number of schedules at this place, and a book has at most 256.
 use mathlib.Core.Path.{_∙_}
 use native.Mathlib.Omega.{arith}
 use Rattle.book.proofs.StateLaws.{book-length, schedule-count-stands, schedule-count-high}

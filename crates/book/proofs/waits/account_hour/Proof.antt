@@ -1,4 +1,4 @@
--- The net position stands in the book, and each of the two cells is what waits on its side.
+-- The net position is that of the book, and each of the two cells holds the pending sum of its side.
 use mathlib.Core.Path.{_∙_}
 use native.Mathlib.Omega.{arith}
 use Rattle.book.proofs.WaitLaws.{side-hour}

@@ -1,4 +1,4 @@
--- Its proposer and its status say whether the row is taken, and the row that is read is the one of that number.
+-- The first byte of a row is its proposer and the last its status, so that these two say whether the row is added.
 use mathlib.Core.Path.{_∙_, sym}
 use native.Mathlib.Omega.{arith}
 use Rattle.book.proofs.StateLaws.{book-length, row-count-high, numbered-row-stands}

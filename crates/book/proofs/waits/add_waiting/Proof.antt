@@ -1,4 +1,4 @@
--- The row's hours are a range of cells that begins at the cell of its first, on its side.
+-- The row's hours are a range of cells that begins at the cell of its first hour, on its side.
 use native.Mathlib.Omega.{arith}
 use borrow.Author.Needs.{needs}
 use Rattle.book.proofs.waits.add_waiting.Statement.{statement}

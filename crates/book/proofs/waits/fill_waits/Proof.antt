@@ -1,5 +1,5 @@
--- What the table holds and what waits of the rows of later numbers make what waits of all rows; what was found, or a later row alike, is that
--- some row is.
+-- What the table holds, and the pending sums of the rows that are left, make the pending sums of all rows; and a twin found so far or
+-- among the rows that are left is a twin among all.
 use Prim.Native.Nat.{_+_, _-_, _*_, _≤_}
 use mathlib.Core.Path.{_≡_, refl}
 use mathlib.Core.Bool.{_||_}

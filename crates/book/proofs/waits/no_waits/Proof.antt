@@ -1,4 +1,4 @@
--- The array is written out as the list of zeros is.
+-- An array of zeros is the list of as many zeros.
 use mathlib.Core.Path.{refl}
 use Rattle.book.specs.Waits.{noWaits}
 use Rattle.book.proofs.waits.no_waits.Statement.{statement}

@@ -1,4 +1,4 @@
--- The element at the cell.
+-- The cell lies within the table.
 use borrow.Author.Needs.{needs}
 use Rattle.book.proofs.waits.wait_at.Statement.{statement}
 use Rattle.book.proofs.waits.wait_at.Tie as tie

@@ -1,4 +1,4 @@
--- The sum and what lies below zero in the hours that are left make that of all hours.
+-- The sum so far, and what the hours that are left add, make what all hours add.
 use Prim.Native.Nat.{ℕ, _+_, _-_, _*_, _≤_}
 use mathlib.Core.Path.{_≡_, sym, ap, _∙_}
 use native.Mathlib.Omega.{arith}

@@ -1,4 +1,4 @@
--- The three parts together are the exposure.
+-- An exposure is what lies below zero, the pending sales of the rows, and those of what is added.
 use native.Mathlib.Omega.{arith}
 use borrow.Author.Needs.{needs}
 use Rattle.book.specs.Worth.{addedRows}

@@ -1,4 +1,4 @@
--- The entries below the hour are sums of the prices before it.
+-- The entries before that of the hour are the sums of the prices up to them.
 use Prim.Native.Nat.{ℕ, _+_, _-_, _≤_}
 use mathlib.Core.Path.{_≡_, ap, _∙_}
 use native.Mathlib.Omega.{arith}
@@ -55,8 +55,9 @@ cast-sums-2 c = search needs
 
 add-sums : tie.Need-add-sums Inv-loop μ-loop
 add-sums c =
-    let l = c .before .before .before .before .before .loop in
-    let start = c .before .before .before .before .before .before .before .before .before in
+    let step = c .before .before .before .before .before in
+    let l = step .loop in
+    let start = step .before .before .before .before in
     let most = prices-most (bookIn (start .args .book .now) .setup) (cheap-in _ (start .pre .1)) (l .hour - 1) in
     omega (arith, l .inv .4 .sum (l .hour - 1) (omega arith), most, c .before .before .price .ensures .1)
 

@@ -1,4 +1,4 @@
--- The sum and what the rows of later numbers weigh make what all rows weigh.
+-- The sum so far, and what the rows that are left add, make what all rows add.
 use Prim.Native.Nat.{_+_, _-_, _*_, _≤_}
 use mathlib.Core.Path.{_≡_}
 use native.Mathlib.Nat.{zero-add}

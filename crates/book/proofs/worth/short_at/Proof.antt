@@ -1,4 +1,4 @@
--- The net that was read, by itself or with the one trade taken, differs by what the two sums differ.
+-- The net position that is read differs from the two sums by the same on both sides, with the trade taken or not.
 use native.Mathlib.Omega.{arith}
 use borrow.Author.Needs.{needs}
 use Rattle.rules.specs.Books.{noRow}

@@ -1,4 +1,4 @@
--- The account's operator was read.
+-- The operator that is read decides whether the account is one of the operator's.
 use mathlib.Core.Path.{sym, _∙_}
 use native.Mathlib.Omega.{arith}
 use Rattle.book.proofs.ShortLaws.{short-of-own, short-of-others}

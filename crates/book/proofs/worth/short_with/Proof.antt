@@ -1,4 +1,4 @@
--- Where the trade moves something of the account the hour after it was made, else the net position stands.
+-- A trade that is not confirmed, or that has other parties, leaves the net position as it is; any other is taken as the definition says.
 use Prim.Native.Nat.{_-_}
 use mathlib.Core.Path.{ap, _∙_}
 use borrow.Author.Needs.{needs}

@@ -1,4 +1,4 @@
--- The sum and what the accounts that are left add make what lies below zero of the operator's net positions.
+-- The sum so far, and what the accounts that are left add, make what all accounts of the operator add.
 use Prim.Native.Nat.{ℕ, _+_, _-_, _*_, _≤_}
 use mathlib.Core.Path.{_≡_, sym, ap, _∙_}
 use native.Mathlib.Omega.{arith}

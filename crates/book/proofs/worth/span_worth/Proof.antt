@@ -1,4 +1,4 @@
--- A quantity in range at prices in range is far from too large.
+-- A quantity in range times a sum of prices in range fits 64 bits.
 use Prim.Native.Nat.{_-_}
 use native.Mathlib.Omega.{arith}
 use lib.ListN.{getD}

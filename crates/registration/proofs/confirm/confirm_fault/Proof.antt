@@ -1,4 +1,4 @@
--- The tests of confirm, in the order of their numbers.
+-- The tests of confirm are made in the order of their numbers, so that the first that fails is the refusal.
 use mathlib.Core.Path.{sym, ap, _∙_}
 use native.Mathlib.Omega.{arith}
 use Rattle.rules.specs.Requests.{confirm}

@@ -1,4 +1,4 @@
--- The row that confirm names has the caller as its counterparty.
+-- The row that confirm names is the pending one with the caller as its counterparty.
 use mathlib.Core.Path.{_∙_}
 use Rattle.image.specs.Valid.{bookIn}
 use Rattle.registration.proofs.ConfirmLaws.{confirmed-found}

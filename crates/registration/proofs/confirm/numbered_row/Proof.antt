@@ -1,4 +1,4 @@
--- The row of a number stands at its place.
+-- The bytes are the book's image, which has the row of a number at its place.
 use mathlib.Core.Path.{_∙_}
 use native.Mathlib.Omega.{arith}
 use Rattle.book.proofs.StateLaws.{book-length, row-count-high, numbered-row-stands}

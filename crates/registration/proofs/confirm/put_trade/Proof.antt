@@ -1,4 +1,4 @@
--- The row's status is written at its place, and the nets are moved in what that left.
+-- The row's status is written, and then the nets are moved.
 use mathlib.Core.Path.{_∙_}
 use borrow.Author.Needs.{needs}
 use Rattle.registration.proofs.confirm.put_trade.Statement.{statement}

@@ -1,4 +1,4 @@
--- The operator's maintenance is that of the book's set-up, and the rest is the definition.
+-- The maintenance that is read is that of the book's set-up, and the test is the definition's.
 use Prim.Native.Nat.{ℕ, _-_, _*_}
 use mathlib.Core.Path.{ap, _∙_}
 use native.Mathlib.Omega.{arith}

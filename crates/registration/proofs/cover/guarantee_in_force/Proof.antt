@@ -1,4 +1,4 @@
--- The guarantee in force stands in its 8 bytes of the present part.
+-- The bytes are the book's image, which has the guarantee in force in these 8 bytes.
 use mathlib.Core.Path.{refl, ap, _∙_}
 use native.Mathlib.Omega.{arith}
 use Rattle.units.specs.Units.{cents}

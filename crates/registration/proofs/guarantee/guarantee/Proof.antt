@@ -22,7 +22,9 @@ same-length c = search needs
 
 returns : tie.Need-returns
 returns c =
-    refused-answered guarantee _ _ (c .before .before .before .before .before .before .pre .0) _ (checked-same _ (some _) (sym (c .before .before .before .guarantee-fault .ensures) ∙ c .before .r .given .1))
+    let fault = c .before .before .before in
+    refused-answered guarantee _ _ (fault .before .before .before .pre .0) _
+    (checked-same _ (some _) (sym (fault .guarantee-fault .ensures) ∙ c .before .r .given .1))
 
 enum-told : tie.Need-enum-told
 enum-told c = search needs

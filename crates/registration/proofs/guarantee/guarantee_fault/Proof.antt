@@ -1,4 +1,4 @@
--- The tests of guarantee, in the order of their numbers.
+-- The tests of guarantee are made in the order of their numbers, so that the first that fails is the refusal.
 use mathlib.Core.Path.{sym, ap, _∙_}
 use native.Mathlib.Omega.{arith}
 use Rattle.rules.specs.Requests.{guarantee}

@@ -1,4 +1,4 @@
--- The search over all hours is that over the trade's, and that is the search over those that are left.
+-- The other hours break no margin, so that the search over all hours is that over the trade's, and then over those that are left.
 use Prim.Native.Nat.{_+_, _-_, _≤_}
 use mathlib.Core.Path.{_≡_, _∙_, sym, ap}
 use mathlib.Core.Bool.{not}

@@ -1,4 +1,4 @@
--- The seller's nets are swept first and then the buyer's, each from its own place, and what is raised by a turn less the quantity falls by it.
+-- The seller's nets are written first and then the buyer's; to raise by 2^32 less the quantity is to lower by the quantity.
 use native.Mathlib.Omega.{arith}
 use Rattle.image.proofs.Tables.TabledLaws.{first-hour, seller-in, buyer-in}
 use Rattle.registration.proofs.PositionLaws.{nets-moved}

@@ -1,4 +1,4 @@
--- What is written is the sum but for a whole turn.
+-- What is written is the remainder of the sum by 2^32.
 use mathlib.Core.Path.{sym, _∙_}
 use native.Mathlib.Omega.{arith}
 use Rattle.image.proofs.Writing.Loops.{raised-step}

@@ -1,4 +1,4 @@
--- What is left runs down: the nets from `at` on are still to be raised, those before are.
+-- To raise the nets that are left, after those raised so far, is to raise all.
 use Prim.Native.Nat.{_+_, _-_, _*_, _≤_}
 use mathlib.Core.Path.{_≡_, refl, sym, _∙_}
 use native.Mathlib.Omega.{arith}

@@ -1,4 +1,4 @@
--- The row's bytes go to the first free place, and the count follows.
+-- The row's bytes are put at the first free place, and then the count is written.
 use mathlib.Core.Path.{_∙_}
 use borrow.Author.Needs.{needs}
 use Rattle.registration.proofs.register.append_row.Statement.{statement}

@@ -1,4 +1,4 @@
--- The tests are the definition's, of the bytes that the row has: its code first, the rest where that agrees.
+-- The tests are the definition's, on the bytes of the row: the code first, and the rest where the code agrees.
 use Rattle.registration.proofs.PendingLaws.{another-code, rest-decides}
 use borrow.Author.Needs.{needs}
 use Rattle.registration.proofs.search.alike_at.Statement.{statement}

@@ -1,4 +1,4 @@
--- The number found among all rows is that found among the rows that are left, past those that were passed.
+-- The number found among all rows is that found among the rows that are left, counted on from those that were passed.
 use Prim.Native.Nat.{_+_, _-_, _*_, _≤_}
 use mathlib.Core.Path.{_≡_, sym, _∙_}
 use native.Mathlib.Omega.{arith}

@@ -1,4 +1,4 @@
--- The rows of a book stand side by side, and a number found is that of one of them.
+-- The rows of a book lie side by side, and a number found is that of one of them.
 use mathlib.Core.Path.{_≡_, sym, ap, _∙_}
 use mathlib.Core.List.{List}
 use native.Mathlib.Omega.{arith}

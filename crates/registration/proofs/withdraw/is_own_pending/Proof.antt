@@ -1,4 +1,4 @@
--- Past the last number there is no row; before it the status and the proposer stand at the row's place.
+-- Past the last number there is no row; up to it the row's bytes say its status and its proposer.
 use mathlib.Core.Path.{sym}
 use native.Mathlib.Omega.{arith}
 use Rattle.book.proofs.StateLaws.{book-length}

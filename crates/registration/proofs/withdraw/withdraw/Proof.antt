@@ -22,7 +22,10 @@ same-length : tie.Need-same-length
 same-length c = search needs
 
 returns : tie.Need-returns
-returns c = refused-answered withdraw _ _ (c .before .before .before .before .before .before .pre .0) _ (checked-same _ (some _) (sym (c .before .before .before .withdrawal-fault .ensures) ∙ c .before .r .given .1))
+returns c =
+    let fault = c .before .before .before in
+    refused-answered withdraw _ _ (fault .before .before .before .pre .0) _
+    (checked-same _ (some _) (sym (fault .withdrawal-fault .ensures) ∙ c .before .r .given .1))
 
 enum-told : tie.Need-enum-told
 enum-told c = search needs
@@ -35,8 +38,9 @@ add-put-u8 c = search needs
 
 put-u8-requires : tie.Need-put-u8-requires
 put-u8-requires c κs =
-    let n = book-length _ (c .before .before .before .before .before .before .before .pre .0) in
-    let r = ready-number _ _ (c .before .before .before .before .before .before .before .pre .1) in
+    let pre = c .before .before .before .before .before .before .before .pre in
+    let n = book-length _ (pre .0) in
+    let r = ready-number _ _ (pre .1) in
     omega arith
 
 same-length-2 : tie.Need-same-length-2
@@ -44,8 +48,11 @@ same-length-2 c = search needs
 
 returns-2 : tie.Need-returns-2
 returns-2 c =
-    let start = c .before .before .before .before .before .before .before .before .before .before in
-    withdrawn-answered _ _ (start .pre .0) _ _ (checked-same _ none (sym (c .before .before .before .before .before .before .before .withdrawal-fault .ensures) ∙ c .before .before .before .before .before .enum-told .given .1)) (omega arith) (c .before .before .put-u8 .ensures)
+    let put = c .before .before in
+    let clear = put .before .before .before in
+    let fault = clear .before .before in
+    let pre = fault .before .before .before .pre in
+    withdrawn-answered _ _ (pre .0) _ _ (checked-same _ none (sym (fault .withdrawal-fault .ensures) ∙ clear .enum-told .given .1)) (omega arith) (put .put-u8 .ensures)
 
 pub withdraw-spec : {M : Type 1} → statement M
 withdraw-spec =

@@ -1,4 +1,4 @@
--- The tests of withdraw, in the order of their numbers.
+-- The tests of withdraw are made in the order of their numbers, so that the first that fails is the refusal.
 use mathlib.Core.Path.{sym, ap, _∙_}
 use Rattle.rules.specs.Requests.{withdraw}
 use Rattle.rules.specs.Verdicts.{checked}
