@@ -30,7 +30,7 @@ use Rattle.batches.specs.Rooms.{HasPart, NoRowsPast, partCopied, partCle
 
 -- ---- regions
 
--- a region replaced around a stretch that stands already
+-- x, y and z put one after the other are put by x and z alone where y is there already
 splice-around : (s : List ℕ) (at : ℕ) (x y z : List ℕ) → at ≤ length s → take (length y) (drop (at + length x) s) ≡ y
     → splice (splice s at x) (at + length (x ++ y)) z ≡ splice s at ((x ++ y) ++ z)
 splice-around s at x y z h e =
@@ -42,7 +42,7 @@ splice-around s at x y z h e =
     splice-take-drop s at x ∙ rw rest (ap (λ (l : List ℕ). take at s ++ l) (sym (append-assoc x y (drop (at + length (x ++ y)) s)))) ∙ sym (splice-take-drop s at (x ++ y)) in
     rw more (splice-append s at (x ++ y) z h)
 
--- what stands beside a region that was copied to
+-- the bytes beside a region that was copied to are as they were
 read-beside : (d : List ℕ) (at : ℕ) (s : List ℕ) (n k m : ℕ) → at + n ≤ length d → n ≤ length s → (k + m ≤ at) ⊎ (at + n ≤ k)
     → take m (drop k (pasted d at s n)) ≡ take m (drop k d)
 unfolding pasted

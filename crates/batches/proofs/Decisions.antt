@@ -1,4 +1,4 @@
--- What the state refuses kinds 5 to 8 for, test by test: the checks of other kinds vanish, and the first that is left and holds decides.
+-- What the state refuses kinds 5 to 8 for: of the checks that these kinds have, the first that applies.
 use Prim.Native.Nat.{ℕ}
 use mathlib.Core.Path.{_≡_, refl}
 use mathlib.Core.List.{[], _∷_}
@@ -19,7 +19,7 @@ use Rattle.rules.proofs.Checks.Passed.{passed-13}
 use Rattle.book.specs.Kinds.{decided}
 use Rattle.book.proofs.Answers.{decided-clear}
 
--- ---- a kind of a list is one of it
+-- ---- one kind of two
 
 module _ (P : Kind → Type 0) (i j k : Kind) where
   of-two-go : (s t : Bool) → eqb (kindNumber k) (kindNumber i) ≡ s → eqb (kindNumber k) (kindNumber j) ≡ t → s || (t || false) ≡ true
@@ -28,7 +28,7 @@ module _ (P : Kind → Type 0) (i j k : Kind) where
   of-two-go false true e f m x y = rw (same-kind k j f) y
   of-two-go false false e f m x y = let z : _≡_ {A = ℕ} 0 1 = cc in absurd (omega arith)
 
-  -- what holds of both holds of the one that it is
+  -- what holds of both kinds holds of a kind that is one of them
   of-two : k oneOf (i ∷ j ∷ []) ≡ true → P i → P j → P k
   of-two m x y = of-two-go (eqb (kindNumber k) (kindNumber i)) (eqb (kindNumber k) (kindNumber j)) refl refl m x y
 
@@ -36,7 +36,7 @@ module _ (P : Kind → Type 0) (i j k : Kind) where
 
 module _ (b : Book) (q : Request) where
   module _ (first : b .phase ≡ 1) where
-    -- 12, of opening a batch and of closing the gate
+    -- refusal 12 of opening a batch and of closing the gate
     pub with-batch : (k : Kind) → k oneOf (openBatch ∷ closeGate ∷ []) ≡ true → isSome (b .saved) ≡ true → decided k b q ≡ some BatchOpen
     unfolding decided stateChecks firstToApply
     with-batch k m o =
@@ -47,7 +47,7 @@ module _ (b : Book) (q : Request) where
     outside-batch k m o =
         of-two (λ i. decided i b q ≡ none) openBatch closeGate k m (rw (eq-eqb _ 1 first, o)) (rw (eq-eqb _ 1 first, o))
 
-    -- 13, of undo and of keep
+    -- refusal 13 of undo and of keep
     pub without-batch : (k : Kind) → k oneOf (undo ∷ keep ∷ []) ≡ true → isSome (b .saved) ≡ false → decided k b q ≡ some NoBatch
     unfolding decided stateChecks firstToApply
     without-batch k m o =

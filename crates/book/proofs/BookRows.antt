@@ -1,5 +1,5 @@
--- The set-up and the rows of bytes that are a book stand at their places, and what they say is in range: all that the sums, the margins and
--- the exposure ask of such bytes.
+-- The bytes of a book hold its set-up and its rows at their places, and what they say is in range: all that the sums, the margins and the
+-- exposure ask of such bytes.
 use Prim.Native.Nat.{ℕ, zero, suc, _+_, _-_, _*_, _≤_, _<_}
 use mathlib.Core.Path.{_≡_, refl, sym, ap, _∙_}
 use mathlib.Core.List.{List, []}
@@ -37,7 +37,7 @@ use Rattle.book.proofs.StateLaws.{book-length, book-is-sound, row-count
 
 -- ---- a part
 
--- the rows of a part stand side by side from its place for rows on
+-- the rows of a part lie side by side
 pub part-rows : (top operators : ℕ) (s : List ℕ) (at n : ℕ) → n ≡ numberAt s (at + rowCountOffset) 2 → n ≤ mostRows
     → partAt top operators s at .rows ≡ rowsFrom s (at + rowsOffset) n
 unfolding partIn partOf rowsFrom numberAt
@@ -120,7 +120,7 @@ module _ (s : List ℕ) (h : isBook s ≡ true) where
   pub hours-few : periods (bookIn s .setup) ≤ mostHours
   hours-few = book-is-sound s h .setup-sound .hours-high
 
-  -- the operator of an account stands in the first byte of the account's entry
+  -- the first byte of an account's entry is its operator
   module _ (a : ℕ) (entries : AccountEntries) (e : entries ≡ entriesIn s) (own : IsAccount (bookIn s) a) where
     within : a ≤ countsIn s .accounts
     within = omega (arith, own .1, ap (λ (m : Counts). m .accounts) counts-in)
@@ -148,7 +148,7 @@ module _ (s : List ℕ) (h : isBook s ≡ true) where
     few : n ≤ mostRows
     few = omega (arith, book-is-sound s h .part-sound .rows-high)
 
-    -- the rows stand side by side
+    -- the rows lie side by side
     pub rows-in : bookIn s .part .rows ≡ rowsFrom s (presentOffset + rowsOffset) n
     rows-in =
         ap (λ (b : Book). b .part .rows) (decode-places mostHours bookSize s)

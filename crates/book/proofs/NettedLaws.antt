@@ -1,4 +1,4 @@
--- A net position off its 4 bytes: within the margins it is nearer to zero than half a turn.
+-- A net position from its 4 bytes: within the margins it is nearer to zero than 2^31.
 use Prim.Native.Nat.{ℕ, _+_, _-_, _^_, _≤_, _<_}
 use mathlib.Core.Path.{_≡_}
 use mathlib.Core.List.{List}
@@ -15,7 +15,7 @@ use Rattle.book.specs.Members.{IsAccount, IsHour}
 use Rattle.book.specs.Netted.{netted}
 use Rattle.book.proofs.ReadingLaws.{net-near, net-stored}
 
--- ---- off its bytes
+-- ---- from its bytes
 
 -- two of the same sums are one
 net-same : (b s c d : ℕ) → b ≡ c → s ≡ d → _≡_ {A = Net} (record { bought = kwh b; sold = kwh s }) (record { bought = kwh c; sold = kwh d })
@@ -23,7 +23,7 @@ net-same b s c d e f = rw (e, f)
 
 module _ (s : List ℕ) (k : isBook s ≡ true) (a h : ℕ) (i : IsAccount (bookIn s) a) (j : IsHour (bookIn s) h)
     (v : ℕ) (q : v ≡ numberAt s (presentOffset + netOffset mostHours a h) netWidth) where
-  -- below half a turn they say what was bought
+  -- below 2^31 they say what was bought beyond what was sold
   pub net-bought : v < 2 ^ 31 → record { bought = kwh v; sold = kwh 0 } ≡ netted (netOf (bookIn s .part .rows) a h)
   unfolding netted
   net-bought l =
@@ -31,7 +31,7 @@ module _ (s : List ℕ) (k : isBook s ≡ true) (a h : ℕ) (i : IsAccount (book
       let e = net-stored s k a h i j v q in
       net-same v 0 _ _ (omega arith) (omega arith)
 
-  -- and from there on what was sold
+  -- and from there on what was sold beyond what was bought
   pub net-sold : 2 ^ 31 ≤ v → (w : ℕ) → w ≡ 2 ^ 32 - v → record { bought = kwh 0; sold = kwh w } ≡ netted (netOf (bookIn s .part .rows) a h)
   unfolding netted
   net-sold l w d =

@@ -1,5 +1,5 @@
--- What the readings answer, by the tests that code makes: the lowest bit that is out of range, else what stands. A net within the margins is
--- read off its 4 bytes, as it is nearer to zero than half a turn.
+-- What the readings answer, by the tests that code makes: the lowest bit that is out of range, else the figure. A net within the margins is
+-- read from its 4 bytes, as it is nearer to zero than 2^31.
 use Prim.Native.Nat.{ℕ, zero, suc, _+_, _-_, _*_, _%_, _^_, _≤_}
 use mathlib.Core.Path.{_≡_, refl, sym, ap, _∙_}
 use mathlib.Core.List.{List, [], _∷_}
@@ -44,7 +44,7 @@ use Rattle.book.proofs.BookRows.{counts-in, setup-in, values-in}
 
 -- ---- a stored net
 
--- 4 bytes of a net that is nearer to zero than half a turn say its position
+-- 4 bytes of a net that is nearer to zero than 2^31 say its position
 pub stored-position : (b s v : ℕ) → v ≡ (b + (256 ^ netWidth - 1) * s) % 256 ^ netWidth → s ≤ b + mostEnergy → b ≤ s + mostEnergy
     → position (record { bought = kwh b; sold = kwh s }) ≡ (if ltb v (2 ^ 31) then Long (kwh v) else Short (kwh (2 ^ 32 - v)))
 unfolding position

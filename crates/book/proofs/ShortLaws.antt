@@ -1,4 +1,4 @@
--- What lies below zero of the net positions: off the bytes of a book, in an hour, for an account and for an operator.
+-- What of the net positions lies below zero: in an hour, from the bytes of a book; then for an account and for an operator.
 use Prim.Native.Nat.{ℕ, _*_, _≤_}
 use mathlib.Core.Path.{_≡_, refl, sym, ap, _∙_}
 use mathlib.Core.List.{List, [], _∷_}

@@ -1,4 +1,4 @@
--- What stands at a place of bytes that are a book: they are the image of the book that they say, and so each place is read there.
+-- What the bytes of a book hold at each place: they are the image of that book, so that what the image has there is read.
 use Prim.Native.Nat.{ℕ, zero, suc, _+_, _-_, _≤_, _<_}
 use mathlib.Core.Path.{_≡_, refl, sym, ap, _∙_}
 use mathlib.Core.List.{List, [], _∷_}

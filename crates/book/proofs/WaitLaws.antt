@@ -1,4 +1,4 @@
--- What waits on one account, row by row: what the table holds and what waits of the rows that are left make what waits of all.
+-- The pending rows of one account, row by row: what the table holds and the pending sums of the rows that are left make those of all rows.
 use Prim.Native.Nat.{ℕ, zero, suc, _+_, _-_, _*_, _≤_}
 use mathlib.Core.Path.{_≡_, refl, sym, ap, _∙_}
 use mathlib.Core.List.{List, [], _∷_}
@@ -26,13 +26,13 @@ use Rattle.book.proofs.StateLaws.{book-is-sound, numbered-row-stands}
 
 -- ---- one row
 
--- an own pending row waits in its hours, on its side
+-- a pending row of the account adds its quantity in its hours, on its side
 waits-own : (r : Row) (a side h : ℕ) → r .status ≡ 1 → r .proposer ≡ a
     → waiting side (r ∷ []) a h ≡ (if includesHour h r && eqb (r .side) side then r .quantity .0 else 0)
 unfolding waiting total
 waits-own r a side h e d = rw (e, eq-eqb (r .proposer) a d, and-true) (add-zero _)
 
--- another row does not
+-- another row adds nothing
 waits-none : (r : Row) (a side h : ℕ) → pending r && eqb (r .proposer) a ≡ false → waiting side (r ∷ []) a h ≡ 0
 unfolding waiting total
 waits-none r a side h e = go (pending r) (includesHour h r) (eqb (r .proposer) a) (eqb (r .side) side) e
@@ -43,11 +43,11 @@ waits-none r a side h e = go (pending r) (includesHour h r) (eqb (r .proposer) a
     go true false o s z = refl
     go false c o s z = refl
 
--- a side has its cells as an account has in the first lane
+-- the cells of a side are those that an account of this number has in the first lane of a table of sums
 side-cell : (side h : ℕ) → cellOf mostHours 0 side h ≡ waitCell side h
 side-cell side h = omega arith
 
--- the row's hours raised on its side
+-- a pending row of the account is added by raising the cells of its hours
 pub added-own : (before after : List ℕ) (r : Row) (a : ℕ) → Tabled mostHours r → 1 ≤ r .side → r .side ≤ 2 → r .status ≡ 1 → r .proposer ≡ a
     → Raised before after (waitCell (r .side) (r .first)) (r .last - r .first + 1) (r .quantity .0) → WaitAdded before after r a
 added-own before after r a t sl sh e d w =
@@ -71,7 +71,7 @@ added-none table r a e =
 
 -- ---- row by row
 
--- the table holds what waits of all rows but those that are left, and no cell is above the bound
+-- the table holds the pending sums of all rows but those that are left, and no cell is above the bound
 pub record Waiting (a : ℕ) (all left : List Row) (table : List ℕ) (most : ℕ) : Type 0 where
   pub sums : (side h : ℕ) → Waits side h → getD table (waitCell side h) 0 + waiting side left a h ≡ waiting side all a h
   pub bounded : (k : ℕ) → getD table k 0 ≤ most
@@ -118,24 +118,24 @@ waiting-last a rows k table e n f =
 
 -- ---- a book
 
--- the proposer of the row of a number stands in its first byte, its status in its last
+-- the first byte of a row is its proposer, the last its status
 pub own-stands : (s : List ℕ) (h : isBook s ≡ true) (n at : ℕ) → IsRow (bookIn s) n → at ≡ presentOffset + rowOffset (n - 1)
     → (numberAt s at 1 ≡ numberedRow (bookIn s) n .proposer) × (numberAt s (at + 17) 1 ≡ numberedRow (bookIn s) n .status)
 own-stands s h n at own e =
     let r = sym (row-at s at) ∙ numbered-row-stands s h n at own e in
     (ap (λ (x : Row). x .proposer) r, ap (λ (x : Row). x .status) r)
 
--- nothing is taken of another's row, nor of one that does not wait
+-- a row of another account adds nothing, nor does one that is not pending
 pub added-of-others : (table : List ℕ) (r : Row) (a x : ℕ) → x ≡ r .proposer → (x ≡ a → ⊥) → WaitAdded table table r a
 added-of-others table r a x e n = added-none table r a (rw (ne-eqb (r .proposer) a (λ d. n (e ∙ d))) (and-false (pending r)))
 
 pub added-of-ended : (table : List ℕ) (r : Row) (a x : ℕ) → x ≡ r .status → (x ≡ 1 → ⊥) → WaitAdded table table r a
 added-of-ended table r a x e n = added-none table r a (rw (ne-eqb (r .status) 1 (λ d. n (e ∙ d))))
 
--- ---- a row alike
+-- ---- a row with this proposer, counterparty and code
 
 module _ (r : Row) (a counterparty code x : ℕ) where
-  -- another's row is not, nor one that does not wait
+  -- a row of another account is none, nor is one that is not pending
   pub others-unlike : x ≡ r .proposer → (x ≡ a → ⊥) → false ≡ alike a counterparty code r
   unfolding alike
   others-unlike e n = rw (ne-eqb (r .proposer) a (λ d. n (e ∙ d)), and-false (pending r))
@@ -144,13 +144,13 @@ module _ (r : Row) (a counterparty code x : ℕ) where
   unfolding alike
   ended-unlike e n = rw (ne-eqb (r .status) 1 (λ d. n (e ∙ d)))
 
--- of an own one that waits the rest decides
+-- of a pending row of the account the counterparty and the code decide
 pub own-alike : (r : Row) (a counterparty code : ℕ) → r .status ≡ 1 → r .proposer ≡ a
     → (eqb (r .counterparty) counterparty && eqb (r .code) code) ≡ alike a counterparty code r
 unfolding alike
 own-alike r a counterparty code e d = rw (e, eq-eqb (r .proposer) a d)
 
--- ---- whether some row is, number by number: what was found, or some row that is left
+-- ---- whether some row passes a test, number by number: one that was found, or one that is left
 
 module _ (p : Row → Bool) (rows : List Row) where
   any-step : (x : Row) (xs : List Row) → anyPasses p (x ∷ xs) ≡ p x || anyPasses p xs

@@ -1,5 +1,5 @@
--- Exposure as the sum of two parts: each pending sale weighs on its proposer's operator by itself, and what lies below zero is the rest.
--- What the exposure is with rows that are to be added, and with one that is confirmed.
+-- An exposure is the sum of two parts: what of the operator's net positions lies below zero, and what each pending sale of its accounts adds.
+-- So it is with rows that are to be added, and once a pending row is confirmed.
 use Prim.Native.Nat.{ℕ, _+_, _-_, _*_, _≤_}
 use mathlib.Core.Path.{_≡_, refl, sym, ap, _∙_}
 use mathlib.Core.List.{List, [], _∷_, _++_}
@@ -26,7 +26,7 @@ idle : (t : Bool) → _≡_ {A = ℕ} (if t then 0 else 0) 0
 idle true = refl
 idle false = refl
 
--- what a row waits with in an hour, at the hour's price
+-- the quantity of a pending sale in an hour, at the hour's price
 at-price : (price q : ℕ) (t c e d : Bool) → price * (if t && c && e && d then q else 0) ≡ (if t && d && e then (if c then price else 0) * q else 0)
 at-price price q false c e d = mul-zero price
 at-price price q true true true true = refl
@@ -38,7 +38,7 @@ at-price price q true false false true = mul-zero price
 at-price price q true true false false = mul-zero price
 at-price price q true false false false = mul-zero price
 
--- of one account where x holds, whose operator's test is w
+-- a value that falls to one account, where x holds; w and y both test whether that account is the operator's
 of-one : (v : ℕ) (t d x w y : Bool) → (x ≡ true → w ≡ y) → (if w then (if t && d && x then v else 0) else 0) ≡ (if t && d && y && x then v else 0)
 of-one v false d x w y h = idle w
 of-one v true false x w y h = idle w
@@ -47,7 +47,7 @@ of-one v true true false w false h = idle w
 of-one v true true true w true h = rw (h refl)
 of-one v true true true w false h = rw (h refl)
 
--- a share that falls to one of 1 to n where all tests hold, which is known where the first holds
+-- a value that falls to one of the numbers 1 to n where all tests hold; that the number is one of them is known where the first test holds
 shared-known : (n x q : ℕ) (t d y : Bool) → (t ≡ true → (1 ≤ x) × (x ≤ n)) → total (λ a. if t && d && y && eqb x a then q else 0) (upTo n) ≡ (if t && d && y then q else 0)
 shared-known n x q true d y k = shared n x q (d && y) (k refl .0) (k refl .1)
 shared-known n x q false d y k = total-zero (upTo n)
@@ -90,11 +90,11 @@ module _ (u : Setup) (o : ℕ) where
 
   -- ---- pending sales
 
-  -- what a row waits with in the hour as a sale of the account
+  -- the quantity of a row in the hour where it is a pending sale of the account, and else nothing
   abbrev saleShare : Row → ℕ → ℕ → ℕ
   saleShare r a h = counted (λ r. pending r && includesHour h r && eqb (r .proposer) a && eqb (r .side) 1) r
 
-  -- over the hours of an account
+  -- its sum over the hours, at estimated prices
   account-sale : (r : Row) (a : ℕ)
       → total (λ h. estimateAt u h .0 * saleShare r a h) (upTo (periods u))
       ≡ (if pending r && eqb (r .side) 1 && eqb (r .proposer) a then r .quantity .0 * spanPrice u r else 0)
@@ -108,7 +108,7 @@ module _ (u : Setup) (o : ℕ) where
       go true = total-times (λ h. if includesHour h r then estimateAt u h .0 else 0) (r .quantity .0) (upTo (periods u)) ∙ mul-comm _ (r .quantity .0)
       go false = total-zero (upTo (periods u))
 
-  -- over the operator's accounts it is what the row weighs
+  -- its sum over the operator's accounts is what the row adds to the exposure
   sale-worth : (r : Row) → (pending r ≡ true → (1 ≤ r .proposer) × (r .proposer ≤ accountCount u)) → worthOf (saleShare r) ≡ saleWorth u o r
   unfolding worthOf ofOperator saleWorth
   sale-worth r known =
@@ -118,11 +118,11 @@ module _ (u : Setup) (o : ℕ) where
       (λ e. ap (λ (x : ℕ). eqb (operatorOf u x) o) (sym (eqb-true (r .proposer) a e))))
       ∙ shared-known (accountCount u) (r .proposer) (r .quantity .0 * spanPrice u r) (pending r) (eqb (r .side) 1) (eqb (operatorOf u (r .proposer)) o) known
 
-  -- where it waits, a row's proposer is an account of the set-up
+  -- where it is pending, a row's proposer is an account of the set-up
   abbrev Known : Row → Type 0
   Known r = pending r ≡ true → (1 ≤ r .proposer) × (r .proposer ≤ accountCount u)
 
-  -- what waits is the sum of what each row weighs
+  -- the pending sales of rows are the sum of what each row adds
   sales-worth : {rows : List Row} → Each Known rows → worthOf (pendingSales rows) ≡ total (saleWorth u o) rows
   unfolding waiting total
   sales-worth nil = worth-none
@@ -131,7 +131,7 @@ module _ (u : Setup) (o : ℕ) where
 
   -- ---- the exposure with rows that are to be added
 
-  -- an exposure is what lies below zero, and what each row weighs
+  -- an exposure is what lies below zero, and what each row adds as a pending sale
   exposure-parts : {rows : List Row} → Each Known rows → exposure u rows o ≡ shortWorth u (netOf rows) o + total (saleWorth u o) rows
   unfolding exposureOf worthOf shortWorth accountShort
   exposure-parts {rows} known =
@@ -145,7 +145,7 @@ module _ (u : Setup) (o : ℕ) where
       ap (λ (net : ℕ → ℕ → Net). shortWorth u net o) (λ i a h. hour-takes-all rows added a h i .net) in
       omega (arith, exposure-added u rows added o, exposure-parts (each-append known new), nets, total-append (saleWorth u o) rows added)
 
-  -- an hour that takes a pending row as one that is confirmed still has it waiting too
+  -- an hour that takes a row once confirmed, while the pending row is still counted, is exposed to that row twice
   confirmed-hour : (rows : List Row) (n a h : ℕ) → pending (nth rows n noRow) ≡ true
       → exposed (afterTrade a h (accountHour rows a h) (withStatus 2 (nth rows n noRow))) ≡ exposed (accountHour (mark n 2 rows) a h) + saleShare (nth rows n noRow) a h
   unfolding afterTrade

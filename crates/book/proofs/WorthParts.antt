@@ -1,4 +1,4 @@
--- The two parts of an exposure as loops work them out: sums of estimated prices, rows number by number, and net positions off their bytes.
+-- The two parts of an exposure as loops work them out: sums of estimated prices, hour by hour, and pending sales, row by row.
 use Prim.Native.Nat.{ℕ, zero, suc, _+_, _-_, _*_, _≤_, _<_}
 use mathlib.Core.Path.{_≡_, refl, sym, ap, _∙_}
 use mathlib.Core.List.{List, [], _∷_}
@@ -221,7 +221,7 @@ sale-priced u o sums r x m t e d n f = (
   omega (arith, f, span-most (r .quantity .0) (getD sums (r .last) 0 - getD sums (r .first - 1) 0) (t .priced .quantity-high) (omega (arith, t .priced .sums-high))),
 )
 
--- a row of a book can be taken
+-- a sound row can be added
 pub row-trade-in-range : (u : Setup) (r : Row) → SoundRow u r → TradeInRange u r
 row-trade-in-range u r s =
     record {
@@ -250,7 +250,7 @@ module _ (f : Row → ℕ) where
 
 -- ---- the exposure
 
--- its three parts, added one after the other
+-- it is the sum of three parts, added one after the other
 pub exposure-joined : (s : List ℕ) → isBook s ≡ true → (o : ℕ) (added : List Row) → Each (TradeInRange (bookIn s .setup)) added → (below waits own two three : ℕ)
     → below ≡ shortWorth (bookIn s .setup) (netWith (bookIn s .part .rows) added) o → waits ≡ total (saleWorth (bookIn s .setup) o) (bookIn s .part .rows)
     → own ≡ total (saleWorth (bookIn s .setup) o) added → two ≡ below + waits → three ≡ two + own
@@ -262,7 +262,7 @@ exposure-joined s k o added t below waits own two three e d f g h =
     (each-map (λ r w p. (w .proposer-low, w .proposer-high)) (book-is-sound s k .part-sound .rows-sound))
     (each-map (λ r w. w .proposer-known) t)))
 
--- what is added is no more than the greatest quantity
+-- the quantities that are added are in range
 pub trade-quantity : (u : Setup) {added : List Row} → Each (TradeInRange u) added → Each (λ r. r .quantity .0 ≤ mostEnergy) added
 trade-quantity u t = each-map (λ r w. w .quantity-high) t
 

@@ -65,7 +65,7 @@ index-named none l = absurd (omega arith)
 index-named (some i) l = (i, refl)
 
 module _ (b : Book) (q : Request) (number : ℕ) (first : b .phase ≡ 1) (same : number ≡ confirmedNumber b q) where
-  -- 16
+  -- refusal 16: it names no row
   pub names-no-row : number ≡ 0 → decided confirm b q ≡ some NoSuchRow
   names-no-row e = no-row-to-confirm b q first (go (confirms (b .part .rows) q) (sym same ∙ e))
     where
@@ -74,7 +74,7 @@ module _ (b : Book) (q : Request) (number : ℕ) (first : b .phase ≡ 1) (same 
       go (some i) z = absurd (omega arith)
 
   module _ (r : Row) (some-row : number ≡ 0 → ⊥) (row : r ≡ nth (b .part .rows) number noRow) where
-    -- 17
+    -- refusal 17: the terms are others
     pub names-other-terms : mirrors q r ≡ false → decided confirm b q ≡ some NotMirrored
     names-other-terms w =
         let (i, named) = index-named (confirms (b .part .rows) q) (omega (arith, same)) in
@@ -183,7 +183,7 @@ module _ (s : List ℕ) (q : Request) (r : Row) (h : isBook s ≡ true) (w : Con
   module _ (trade : Row) (e : trade ≡ withStatus 2 r) where
     -- ---- what the state decides
 
-    -- 18
+    -- refusal 18: the trade breaks a margin
     pub trade-breaks : (k : ℕ) → Hour k ≡ broken (brokenBy (bookIn s .setup) (bookIn s .part .rows) (trade ∷ []) (q .account))
         → decided confirm (bookIn s) q ≡ some (MarginBroken k)
     trade-breaks k f =
@@ -198,7 +198,7 @@ module _ (s : List ℕ) (q : Request) (r : Row) (h : isBook s ≡ true) (w : Con
           let o : ℕ = operatorOf (bookIn s .setup) (q .account) in
           covered-at (bookIn s) (mark (confirmedNumber (bookIn s) q) 2 (bookIn s .part .rows)) o _ (confirming-exposure s r h named-waits o) ∙ sym test
 
-      -- 19
+      -- refusal 19: the exposure is not covered
       pub trade-uncovered : t ≡ false → decided confirm (bookIn s) q ≡ some Uncovered
       trade-uncovered f =
           let (i, named) = index-named (confirms (bookIn s .part .rows) q) (w .named) in

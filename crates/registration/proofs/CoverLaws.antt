@@ -1,4 +1,4 @@
--- What stands in a book of an operator: its guarantee in force, its maintenance, and what is available of a guarantee.
+-- What the bytes of a book hold of an operator, its guarantee in force and its maintenance; and what covers its exposure.
 use Prim.Native.Nat.{ℕ, zero, suc, _+_, _-_, _*_, _≤_}
 use mathlib.Core.Path.{_≡_, sym, ap, _∙_}
 use mathlib.Core.List.{List, map}
@@ -67,7 +67,7 @@ module _ (s : List ℕ) (h : isBook s ≡ true) (o : ℕ) (own : IsOperator (boo
       go zero l m = absurd (omega arith)
       go (suc i) l m = each-at 0 i all-maintenance (omega arith)
 
-  -- the guarantee in force stands in its 8 bytes
+  -- the guarantee in force, from its 8 bytes
   pub guarantee-stands : (at : ℕ) → at ≡ presentOffset + guaranteeWidth * (o - 1)
       → (numberAt s at 8 ≡ guaranteeAt (bookIn s .part .guarantees) o .0) × (guaranteeAt (bookIn s .part .guarantees) o .0 ≤ mostGuarantee)
   guarantee-stands at e = go o (own .0) (own .1) e

@@ -1,4 +1,4 @@
--- What the state refuses confirm and withdraw for, test by test: the checks of other kinds vanish, and the first that is left and holds decides.
+-- What the state refuses confirm and withdraw for: of the checks that these kinds have, the first that applies.
 use Prim.Native.Nat.{ℕ}
 use mathlib.Core.Path.{_≡_}
 use mathlib.Core.Option.{none, some}
@@ -16,7 +16,7 @@ use Rattle.book.specs.Kinds.{decided}
 
 module _ (b : Book) (q : Request) where
   module _ (first : b .phase ≡ 1) where
-    -- 16, of withdraw
+    -- refusal 16 of withdraw
     pub no-row-to-withdraw : withdraws (b .part .rows) q ≡ false → decided withdraw b q ≡ some NoSuchRow
     unfolding decided stateChecks firstToApply
     no-row-to-withdraw w = rw (eq-eqb _ 1 first, w)
@@ -25,7 +25,7 @@ module _ (b : Book) (q : Request) where
     unfolding decided stateChecks firstToApply
     row-to-withdraw w = rw (eq-eqb _ 1 first, w)
 
-    -- 16 to 19, of confirm
+    -- refusals 16 to 19 of confirm
     pub no-row-to-confirm : confirms (b .part .rows) q ≡ none → decided confirm b q ≡ some NoSuchRow
     unfolding decided stateChecks firstToApply
     no-row-to-confirm w = rw (eq-eqb _ 1 first, w)

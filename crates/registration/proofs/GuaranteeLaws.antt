@@ -63,7 +63,7 @@ module _ (b : Book) (q : Request) (first : b .phase ≡ 1) (low : 1 ≤ q .opera
       covered-at-guarantee (b .setup) (next guarantee b q .part) (q .operator) (q .guarantee .0)
       (ap (λ (g : Cents). g .0) (put-same (b .part .guarantees) (q .operator) (q .guarantee) low high))
 
-  -- 19
+  -- refusal 19: the exposure is not covered
   pub too-little-guarantee-in-force : (t : Bool)
       → t ≡ coveredBy (b .setup) (exposure (b .setup) (b .part .rows) (q .operator)) (q .guarantee .0) (q .operator)
       → t ≡ false → decided guarantee b q ≡ some Uncovered

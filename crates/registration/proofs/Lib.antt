@@ -5,13 +5,13 @@ pub mod Decisions
 pub mod Acceptances
 -- Withdrawals: the row that a withdrawal names.
 pub mod Withdrawals
--- SearchLaws: a search that counts up, number by number, over a span, and by tests that agree.
+-- SearchLaws: a search that goes through numbers in order, or through a span of them.
 pub mod SearchLaws
 -- PendingLaws: the search for a pending row.
 pub mod PendingLaws
--- MarginLaws: what the search for a broken margin asks at each hour.
+-- MarginLaws: the test for a broken margin at each hour, and the hours that are tested.
 pub mod MarginLaws
--- CoverLaws: what stands in a book of an operator, of an account its operator, and what covers its exposure.
+-- CoverLaws: the guarantee in force and the maintenance of an operator, and what covers its exposure.
 pub mod CoverLaws
 -- LodgingLaws: what the state refuses a guarantee for, and what an accepted one writes.
 pub mod GuaranteeLaws

@@ -1,5 +1,5 @@
--- What the search for a broken margin asks at each hour: the hour has room for the trade, and with its net position by itself the margins
--- of the account that took it are the definition's test. It is asked at the hours of the trade only: a book keeps its margins in all others.
+-- The search for a broken margin. The sums of an hour with the trade fit 32 bits, and the test by the net position as it is stored is the
+-- definition's, by the sums of what was bought and sold. Only the trade's hours are searched: in a book the others break no margin.
 use Prim.Native.Nat.{ℕ, _+_, _-_, _^_, _≤_, _<_}
 use mathlib.Core.Path.{_≡_, refl, sym, ap, _∙_}
 use mathlib.Core.List.{List, [], _∷_}
@@ -33,7 +33,7 @@ use Rattle.registration.proofs.SearchLaws.{find-span}
 -- ---- what is read of a book
 
 module _ (s : List ℕ) (h : isBook s ≡ true) where
-  -- the net position of an hour by itself, and what waits, have room for a trade
+  -- the net position of an hour and the pending sums fit 32 bits, also with a trade more
   pub hour-room : (waits : List ℕ) (q a k : ℕ) (x : AccountHour) → IsAccount (bookIn s) a → IsHour (bookIn s) k
       → WaitsOf (bookIn s .part .rows) a waits → q ≤ mostEnergy → x ≡ nettedHour (bookIn s .part .rows) a k
       → (x .net .bought .0 + q < 2 ^ 32) × (x .net .sold .0 + q < 2 ^ 32) × (x .sales .0 + q < 2 ^ 32) × (x .purchases .0 + q < 2 ^ 32)
@@ -50,7 +50,7 @@ module _ (s : List ℕ) (h : isBook s ≡ true) where
         omega (arith, purchases, w .bounded (waitCell 2 k)),
       )
 
--- a row of the set-up is in range of its proposer
+-- a sound row is in range, and its proposer an account of the book
 pub sound-in-range : (b : Book) (r : Row) → SoundRow (b .setup) r → TradeInRange b (r .proposer) r
 sound-in-range b r s =
     record {
@@ -63,14 +63,14 @@ sound-in-range b r s =
 
 -- ---- an hour
 
--- two comparisons whose sides differ alike
+-- two comparisons, where both sides of one differ from those of the other by the same
 same-leb : (a b c d : ℕ) → a + d ≡ c + b → leb a b ≡ leb c d
 same-leb a b c d e =
     test-same (leb a b) (leb c d)
     (λ t. let l = leb-true a b t in le-leb c d (omega arith))
     (λ t. let l = leb-true c d t in le-leb a b (omega arith))
 
--- hours whose net positions have one difference, and on which the same waits, keep the same margins
+-- hours with the same difference of bought and sold and the same pending sums keep the same margins
 keeps-alike : (margins : Margins) (x y : AccountHour) → x .sales .0 ≡ y .sales .0 → x .purchases .0 ≡ y .purchases .0
     → x .net .bought .0 + y .net .sold .0 ≡ y .net .bought .0 + x .net .sold .0 → keepsMargins margins x ≡ keepsMargins margins y
 unfolding keepsMargins
@@ -80,7 +80,7 @@ keeps-alike margins x y e d n =
       same-leb (x .net .bought .0 + x .purchases .0) (x .net .sold .0 + margins .upper .0) (y .net .bought .0 + y .purchases .0) (y .net .sold .0 + margins .upper .0) (omega arith),
     )
 
--- so it is with the net position by itself
+-- so the stored net position keeps the margins that the sums keep
 keeps-netted : (margins : Margins) (rows : List Row) (trade : Row) (a h : ℕ)
     → keepsMargins margins (afterTrade a h (nettedHour rows a h) trade) ≡ keepsMargins margins (afterTrade a h (accountHour rows a h) trade)
 unfolding afterTrade
@@ -92,7 +92,7 @@ keeps-netted margins rows trade a h =
 unfoldable pub breaks : Setup → List Row → Row → ℕ → ℕ → Bool
 breaks u rows trade a h = not (keepsMargins (marginsAt u a h) (afterTrade a h (accountHour rows a h) trade))
 
--- a trade leaves an hour that it is not for
+-- a trade does not change an hour that is not one of its own
 takes-elsewhere : (rows : List Row) (trade : Row) (a h : ℕ) → includesHour h trade ≡ false → afterTrade a h (accountHour rows a h) trade ≡ accountHour rows a h
 unfolding afterTrade
 takes-elsewhere rows trade a h e =
@@ -107,12 +107,12 @@ takes-elsewhere rows trade a h e =
     )
 
 module _ (s : List ℕ) (h : isBook s ≡ true) (trade : Row) (a : ℕ) (t : TradeInRange (bookIn s) a trade) where
-  -- so it breaks none there, for a book keeps its margins
+  -- so it breaks no margin there: in a book none is broken
   kept-elsewhere : (k : ℕ) → 1 ≤ k → k ≤ periods (bookIn s .setup) → includesHour k trade ≡ false → breaks (bookIn s .setup) (bookIn s .part .rows) trade a k ≡ false
   unfolding breaks
   kept-elsewhere k l m e = rw (takes-elsewhere (bookIn s .part .rows) trade a k e, book-is-sound s h .part-sound .keeps-margins a k (t .account-known .0) (t .account-known .1) l m)
 
-  -- the lowest hour that breaks is one of the trade's
+  -- the lowest broken hour is one of the trade's
   pub broken-by-span : brokenBy (bookIn s .setup) (bookIn s .part .rows) (trade ∷ []) a
       ≡ find (breaks (bookIn s .setup) (bookIn s .part .rows) trade a) (counting (trade .last + 1 - trade .first) (trade .first))
   unfolding brokenBy breaks

@@ -49,12 +49,12 @@ ready-fits s q r h ready e = rw e (row-small (bookIn s .setup) (proposed q) (boo
 -- ---- what the state decides
 
 module _ (b : Book) (q : Request) (first : b .phase ≡ 1) where
-  -- 14
+  -- refusal 14: a pending row has the same parties and code
   pub twin-pending : anyPasses (alike (q .account) (q .other) (q .code)) (b .part .rows) ≡ true → decided register b q ≡ some AlreadyPending
   unfolding decided stateChecks firstToApply
   twin-pending e = rw (eq-eqb _ 1 first, e)
 
-  -- 15
+  -- refusal 15: no number is left
   pub no-number-left : anyPasses (alike (q .account) (q .other) (q .code)) (b .part .rows) ≡ false → mostRows ≤ length (b .part .rows)
       → decided register b q ≡ some RowsFull
   unfolding decided stateChecks firstToApply
@@ -65,7 +65,7 @@ module _ (b : Book) (q : Request) (p : Proposing b q) where
   unfolding apply
   broken-next = broken-added (b .setup) (b .part .rows) (proposed q ∷ []) (q .account)
 
-  -- 18
+  -- refusal 18: the row breaks a margin
   pub margin-breaks : (h : ℕ) → brokenBy (b .setup) (b .part .rows) (proposed q ∷ []) (q .account) ≡ some h → decided register b q ≡ some (MarginBroken h)
   unfolding decided stateChecks firstToApply
   margin-breaks h e =
@@ -80,7 +80,7 @@ module _ (b : Book) (q : Request) (p : Proposing b q) where
         let o : ℕ = operatorOf (b .setup) (q .account) in
         covered-at b (b .part .rows ++ proposed q ∷ []) o _ (sym (exposure-added (b .setup) (b .part .rows) (proposed q ∷ []) o)) ∙ sym test
 
-    -- 19
+    -- refusal 19: the exposure is not covered
     pub row-uncovered : t ≡ false → decided register b q ≡ some Uncovered
     unfolding decided stateChecks firstToApply
     row-uncovered f =

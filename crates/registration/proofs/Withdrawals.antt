@@ -1,4 +1,4 @@
--- The row that a withdrawal names: past the last number there is none, and before it its status and proposer stand at its place.
+-- The row that a withdraw names: past the last number there is none, and up to it the row's bytes say its status and its proposer.
 use Prim.Native.Nat.{ℕ, _+_, _-_, _≤_, _<_}
 use mathlib.Core.Path.{_≡_, refl, _∙_}
 use mathlib.Core.List.{List}
@@ -28,7 +28,7 @@ no-such-number rows q h = go (withdraws rows q) refl
         let high = pending-inside rows (q .number) (and-both _ _ .0 e .0) .1 in
         absurd (omega arith)
 
--- the row of that number, by what stands at its place
+-- the row of that number, by the bytes at its place
 pub own-pending : (s : List ℕ) (q : Request) (at status proposer : ℕ) → isBook s ≡ true → IsRow (bookIn s) (q .number) → at ≡ presentOffset + rowOffset (q .number - 1)
     → status ≡ numberAt s (at + statusOffset) 1 → proposer ≡ numberAt s at 1
     → eqb status 1 && eqb proposer (q .account) ≡ withdraws (bookIn s .part .rows) q
