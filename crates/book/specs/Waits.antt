@@ -8,6 +8,7 @@ use Rattle.rules.specs.declared.Row.{Row}
 use Rattle.rules.specs.declared.AccountHour.{AccountHour}
 use Rattle.rules.specs.Limits.{mostHours, mostEnergy}
 use Rattle.rules.specs.Registration.{waiting, netOf, pendingSales, pendingPurchases}
+use Rattle.image.specs.Tables.{Room}
 use Rattle.book.specs.Netted.{netted}
 
 -- how many cells a table has: one for the sales of each hour, and one for its purchases
@@ -32,6 +33,10 @@ pub record WaitsOf (rows : List Row) (a : ℕ) (table : List ℕ) : Type 0 where
   pub bounded : (k : ℕ) → getD table k 0 ≤ mostEnergy * length rows
 
 -- ---- how the table is filled
+
+-- the table has its cells, and in each there is room for that much more
+abbrev pub RoomInWaits : List ℕ → ℕ → Type 0
+RoomInWaits table more = (length table ≡ waitsSize) × Room table 0 more
 
 -- the table of no rows
 unfoldable pub noWaits : List ℕ

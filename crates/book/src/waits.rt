@@ -7,9 +7,9 @@ ghost use Rattle.rules.specs.Basics.{anyPasses};
 ghost use Rattle.rules.specs.Limits.{mostEnergy, mostHours};
 ghost use Rattle.rules.specs.Registration.{alike};
 ghost use Rattle.image.specs.Valid.{isBook, bookIn};
-ghost use Rattle.image.specs.Tables.{Tabled, Room, Raised};
+ghost use Rattle.image.specs.Tables.{Tabled, Raised};
 ghost use Rattle.book.specs.Members.{IsAccount, IsHour, IsRow, numberedRow};
-ghost use Rattle.book.specs.Waits.{waitCell, Waits, WaitsOf, noWaits, WaitAdded, nettedHour, waitsSize};
+ghost use Rattle.book.specs.Waits.{waitCell, Waits, WaitsOf, RoomInWaits, noWaits, WaitAdded, nettedHour, waitsSize};
 use crate::positions::net_at;
 use crate::state::PENDING;
 use crate::state::row_count;
@@ -36,7 +36,7 @@ fn wait_cell(side: u8, hour: u8) -> usize
 
 // Adds the row's quantity to the cells of its hours, on its side.
 fn add_waiting(table: &mut [u32], r: Row)
-    requires { ⌜ (length (now table) ≡ waitsSize) × Tabled mostHours r × (1 ≤ r .side) × (r .side ≤ 2) × Room (now table) 0 (r .quantity .0) ⌝ }
+    requires { ⌜ RoomInWaits (now table) (r .quantity .0) × Tabled mostHours r × (1 ≤ r .side) × (r .side ≤ 2) ⌝ }
     ensures { λ _. ⌜ Raised (now (table .entry)) (now (table .exit)) (waitCell (r .side) (r .first)) (r .last - r .first + 1) (r .quantity .0) ⌝ }
 {
     let at = wait_cell(r.side, r.first);
@@ -55,7 +55,7 @@ fn add_own(
     counterparty: u8,
     code: u64,
 ) -> bool
-    requires { ⌜ (length (now table) ≡ waitsSize) × Room (now table) 0 mostEnergy × (isBook (now book) ≡ true) × IsRow (bookIn (now book)) number ⌝ }
+    requires { ⌜ RoomInWaits (now table) mostEnergy × (isBook (now book) ≡ true) × IsRow (bookIn (now book)) number ⌝ }
     ensures waits { λ _. ⌜ WaitAdded (now (table .entry)) (now (table .exit)) (numberedRow (bookIn (now (book .entry))) number) account ⌝ }
     ensures tells { λ r. ⌜ r ≡ alike account counterparty code (numberedRow (bookIn (now (book .entry))) number) ⌝ }
 {
@@ -106,7 +106,8 @@ fn wait_at(waits: &[u32], side: u8, hour: u8) -> u32
 
 // The net position of an account in an hour, from the book, with its pending sales and purchases, from the table.
 pub fn account_hour(book: &[u8], waits: &[u32], account: u8, hour: u8) -> AccountHour
-    requires { ⌜ (let b = bookIn (now book) in (isBook (now book) ≡ true) × WaitsOf (b .part .rows) account (now waits) × IsAccount b account × IsHour b hour) ⌝ }
+    requires { ⌜ (isBook (now book) ≡ true) × WaitsOf (bookIn (now book) .part .rows) account (now waits) ⌝ }
+    requires { ⌜ IsAccount (bookIn (now book)) account × IsHour (bookIn (now book)) hour ⌝ }
     ensures { λ r. ⌜ r ≡ nettedHour (bookIn (now (book .entry)) .part .rows) account hour ⌝ }
 {
     let net = net_at(book, account, hour);

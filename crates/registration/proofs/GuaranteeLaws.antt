@@ -35,7 +35,7 @@ use Rattle.book.specs.Kinds.{decided, Ready}
 use Rattle.book.proofs.StateLaws.{book-image, book-fits, book-is-sound}
 use Rattle.book.proofs.Answers.{decided-clear, Answered, accepted-answered}
 use Rattle.book.proofs.Readiness.{bare, ready-input}
-use Rattle.registration.specs.Cover.{coveredBy}
+use Rattle.registration.specs.Cover.{coveredUnder}
 use Rattle.registration.proofs.CoverLaws.{covered-at-guarantee, exposure-available}
 
 -- ---- a request that is ready
@@ -57,7 +57,7 @@ put-same gs (suc i) g l h = getD-set-same gs i g (cents 0) (omega arith)
 
 module _ (b : Book) (q : Request) (first : b .phase ≡ 1) (low : 1 ≤ q .operator) (high : q .operator ≤ length (b .part .guarantees)) where
   new-guarantee-covered : covered (b .setup) (next guarantee b q .part) (q .operator)
-      ≡ coveredBy (b .setup) (exposure (b .setup) (b .part .rows) (q .operator)) (q .guarantee .0) (q .operator)
+      ≡ coveredUnder b (q .guarantee .0) (q .operator)
   unfolding apply
   new-guarantee-covered =
       covered-at-guarantee (b .setup) (next guarantee b q .part) (q .operator) (q .guarantee .0)
@@ -65,13 +65,13 @@ module _ (b : Book) (q : Request) (first : b .phase ≡ 1) (low : 1 ≤ q .opera
 
   -- refusal 19: the exposure is not covered
   pub too-little-guarantee-in-force : (t : Bool)
-      → t ≡ coveredBy (b .setup) (exposure (b .setup) (b .part .rows) (q .operator)) (q .guarantee .0) (q .operator)
+      → t ≡ coveredUnder b (q .guarantee .0) (q .operator)
       → t ≡ false → decided guarantee b q ≡ some Uncovered
   unfolding decided stateChecks firstToApply
   too-little-guarantee-in-force t e f = rw (eq-eqb _ 1 first, new-guarantee-covered ∙ sym e ∙ f)
 
   pub enough-guarantee-in-force : (t : Bool)
-      → t ≡ coveredBy (b .setup) (exposure (b .setup) (b .part .rows) (q .operator)) (q .guarantee .0) (q .operator)
+      → t ≡ coveredUnder b (q .guarantee .0) (q .operator)
       → t ≡ true → decided guarantee b q ≡ none
   unfolding decided stateChecks firstToApply
   enough-guarantee-in-force t e f = rw (eq-eqb _ 1 first, new-guarantee-covered ∙ sym e ∙ f)
@@ -79,7 +79,7 @@ module _ (b : Book) (q : Request) (first : b .phase ≡ 1) (low : 1 ≤ q .opera
 -- a guarantee that is no lower than the one in force covers the exposure of a book
 pub no-lower-covers : (s : List ℕ) → isBook s ≡ true → (o g : ℕ) (held : Cents) → IsOperator (bookIn s) o
     → held ≡ guaranteeAt (bookIn s .part .guarantees) o → held .0 ≤ g
-    → true ≡ coveredBy (bookIn s .setup) (exposure (bookIn s .setup) (bookIn s .part .rows) o) g o
+    → true ≡ coveredUnder (bookIn s) g o
 no-lower-covers s h o g held own e more =
     let u : Setup = bookIn s .setup in
     let fits = exposure-available s o h own in

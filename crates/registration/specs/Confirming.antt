@@ -4,20 +4,20 @@ use mathlib.Core.Path.{_≡_}
 use mathlib.Core.Bool.{true}
 use Rattle.rules.specs.declared.Row.{Row}
 use Rattle.rules.specs.declared.Request.{Request}
-use Rattle.rules.specs.Basics.{nth}
-use Rattle.rules.specs.Books.{Book, noRow}
+use Rattle.rules.specs.Books.{Book}
 use Rattle.rules.specs.Registration.{pending, mirrors}
 use Rattle.rules.specs.Calls.{confirmedNumber}
+use Rattle.book.specs.Members.{numberedRow}
 
 -- in the phase of registration, the request confirms this row: it names it and mirrors its terms
 pub record Confirming (b : Book) (q : Request) (r : Row) : Type 0 where
   pub in-registration : b .phase ≡ 1
   pub named : 1 ≤ confirmedNumber b q
-  pub row : r ≡ nth (b .part .rows) (confirmedNumber b q) noRow
+  pub row : r ≡ numberedRow b (confirmedNumber b q)
   pub terms : mirrors q r ≡ true
 
 -- one of the book's rows, pending
 pub record WaitsIn (b : Book) (r : Row) : Type 0 where
   pub number : ℕ
-  pub row : r ≡ nth (b .part .rows) number noRow
+  pub row : r ≡ numberedRow b number
   pub is-pending : pending r ≡ true

@@ -7,7 +7,7 @@ use lib.Dec.{leb}
 use Rattle.rules.specs.declared.Row.{Row}
 use Rattle.rules.specs.Limits.{thousand}
 use Rattle.rules.specs.Books.{Setup, Book, maintenanceAt, guaranteeAt}
-use Rattle.rules.specs.Registration.{withStatus, exposureWith}
+use Rattle.rules.specs.Registration.{withStatus, exposure, exposureWith}
 use Rattle.book.specs.Worth.{saleWorth}
 
 -- an exposure of the operator is at most what is available of a guarantee
@@ -17,6 +17,10 @@ coveredBy u exposure guarantee o = leb exposure (guarantee * (thousand - mainten
 -- it is at most what is available of the operator's guarantee in force
 abbrev pub coveredInForce : Book → ℕ → ℕ → Bool
 coveredInForce b exposure o = coveredBy (b .setup) exposure (guaranteeAt (b .part .guarantees) o .0) o
+
+-- the operator's exposure is covered by that guarantee
+abbrev pub coveredUnder : Book → ℕ → ℕ → Bool
+coveredUnder b guarantee o = coveredBy (b .setup) (exposure (b .setup) (b .part .rows) o) guarantee o
 
 -- the exposure once the row is added is covered
 abbrev pub coveredWith : Book → Row → ℕ → Bool

@@ -84,7 +84,8 @@ fn confirmed_row(r: Row) -> Row
 
 // Whether the exposure of the account's operator is covered once the pending row is confirmed; `trade` is the confirmed row.
 fn covered_with_trade(book: &[u8], row: Row, trade: Row, number: u8) -> bool
-    requires { ⌜ (let b = bookIn (now book) in (isBook (now book) ≡ true) × WaitsIn b row × (trade ≡ withStatus 2 row) × IsAccount b number) ⌝ }
+    requires { ⌜ (isBook (now book) ≡ true) × IsAccount (bookIn (now book)) number ⌝ }
+    requires { ⌜ WaitsIn (bookIn (now book)) row × (trade ≡ withStatus 2 row) ⌝ }
     ensures { λ r. ⌜ (let b = bookIn (now (book .entry)) in r ≡ coveredConfirming b row (operatorOf (b .setup) number)) ⌝ }
 {
     // A pending sale counts in full, so that confirming it raises no exposure; and in a book every exposure is at most what is available.

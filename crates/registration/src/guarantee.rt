@@ -3,13 +3,12 @@ ghost use mathlib.Core.Path.{_≡_};
 ghost use mathlib.Core.Bool.{true};
 ghost use Prim.Native.Nat.{_≤_};
 ghost use Rattle.rules.specs.Limits.{mostGuarantee};
-ghost use Rattle.rules.specs.Registration.{exposure};
 ghost use Rattle.rules.specs.Verdicts.{checked};
 ghost use Rattle.rules.specs.Requests.{guarantee};
 ghost use Rattle.image.specs.Valid.{isBook, bookIn, bookBytes};
 ghost use Rattle.book.specs.Members.{IsOperator};
 ghost use Rattle.book.specs.Kinds.{decided, outcomeOn, bookAfter, Ready};
-ghost use Rattle.registration.specs.Cover.{coveredBy};
+ghost use Rattle.registration.specs.Cover.{coveredUnder};
 use crate::cover::covered_by;
 use crate::cover::guarantee_in_force;
 use book::state::REGISTRATION;
@@ -30,7 +29,7 @@ use wire::numbers::put_u64;
 // exposure is at most what is available.
 fn covered_under(book: &[u8], guarantee: Cents, number: u8) -> bool
     requires { ⌜ (isBook (now book) ≡ true) × (guarantee .0 ≤ mostGuarantee) × IsOperator (bookIn (now book)) number ⌝ }
-    ensures { λ r. ⌜ (let b = bookIn (now (book .entry)) in r ≡ coveredBy (b .setup) (exposure (b .setup) (b .part .rows) number) (guarantee .0) number) ⌝ }
+    ensures { λ r. ⌜ r ≡ coveredUnder (bookIn (now (book .entry))) (guarantee .0) number ⌝ }
 {
     let held = guarantee_in_force(book, number);
     if held.0 <= guarantee.0 {

@@ -22,7 +22,8 @@ pub enum Broken {
 // The lowest hour in which the account breaks a margin once it took the trade; `waits` holds the account's pending sums. Only the trade's
 // hours are tested: the other hours stay as they are, and in a book no margin is broken.
 pub fn first_broken(book: &[u8], waits: &[u32], trade: Row, number: u8) -> Broken
-    requires { ⌜ (let b = bookIn (now book) in (isBook (now book) ≡ true) × WaitsOf (b .part .rows) number (now waits) × TradeInRange b number trade) ⌝ }
+    requires { ⌜ (isBook (now book) ≡ true) × WaitsOf (bookIn (now book) .part .rows) number (now waits) ⌝ }
+    requires { ⌜ TradeInRange (bookIn (now book)) number trade ⌝ }
     ensures { λ r. ⌜ (let b = bookIn (now (book .entry)) in r ≡ broken (brokenBy (b .setup) (b .part .rows) (trade ∷ []) number)) ⌝ }
 {
     let own = margins(book, number);

@@ -64,7 +64,8 @@ fn proposed_row(request: Request) -> Row
 
 // Whether the exposure of the account's operator is covered once the row is added.
 fn covered_with_row(book: &[u8], row: Row, number: u8) -> bool
-    requires { ⌜ (let b = bookIn (now book) in (isBook (now book) ≡ true) × TradeInRange (b .setup) row × (pending row ≡ true) × IsAccount b number) ⌝ }
+    requires { ⌜ (isBook (now book) ≡ true) × IsAccount (bookIn (now book)) number ⌝ }
+    requires { ⌜ TradeInRange (bookIn (now book) .setup) row × (pending row ≡ true) ⌝ }
     ensures { λ r. ⌜ (let b = bookIn (now (book .entry)) in r ≡ coveredWith b row (operatorOf (b .setup) number)) ⌝ }
 {
     // A pending purchase adds nothing to the exposure, and in a book the exposure is at most what is available.
@@ -79,7 +80,8 @@ fn covered_with_row(book: &[u8], row: Row, number: u8) -> bool
 // What register is refused for once its row has no twin and there is a number for it: a margin that it breaks, or an exposure that is not
 // covered. `waits` holds the account's pending sums.
 fn margin_or_exposure_fault(book: &[u8], waits: &[u32], request: Request) -> Checked
-    requires { ⌜ (let b = bookIn (now book) in (isBook (now book) ≡ true) × WaitsOf (b .part .rows) (request .account) (now waits) × Proposing b request) ⌝ }
+    requires { ⌜ (isBook (now book) ≡ true) × WaitsOf (bookIn (now book) .part .rows) (request .account) (now waits) ⌝ }
+    requires { ⌜ Proposing (bookIn (now book)) request ⌝ }
     ensures { λ r. ⌜ r ≡ checked (decided register (bookIn (now (book .entry))) request) ⌝ }
 {
     let row = proposed_row(request);

@@ -12,18 +12,18 @@ net-at-requires c κs = search needs
 wait-at-requires : tie.Need-wait-at-requires
 wait-at-requires c κs =
     let pre = c .before .before .before .pre in
-    (pre .1 .whole, side-hour _ (pre .0) 1 _ (omega arith) (omega arith) (pre .3))
+    (pre .0 .1 .whole, side-hour _ (pre .0 .0) 1 _ (omega arith) (omega arith) (pre .1 .1))
 
 wait-at-requires-2 : tie.Need-wait-at-requires-2
 wait-at-requires-2 c κs =
     let pre = c .before .before .before .before .pre in
-    (pre .1 .whole, side-hour _ (pre .0) 2 _ (omega arith) (omega arith) (pre .3))
+    (pre .0 .1 .whole, side-hour _ (pre .0 .0) 2 _ (omega arith) (omega arith) (pre .1 .1))
 
 returns : tie.Need-returns
 returns c =
     let pre = c .before .before .before .before .before .pre in
-    let sales = c .before .wait-at .ensures ∙ pre .1 .waits-at 1 _ (side-hour _ (pre .0) 1 _ (omega arith) (omega arith) (pre .3)) in
-    let purchases = c .wait-at2 .ensures ∙ pre .1 .waits-at 2 _ (side-hour _ (pre .0) 2 _ (omega arith) (omega arith) (pre .3)) in
+    let sales = c .before .wait-at .ensures ∙ pre .0 .1 .waits-at 1 _ (side-hour _ (pre .0 .0) 1 _ (omega arith) (omega arith) (pre .1 .1)) in
+    let purchases = c .wait-at2 .ensures ∙ pre .0 .1 .waits-at 2 _ (side-hour _ (pre .0 .0) 2 _ (omega arith) (omega arith) (pre .1 .1)) in
     rw (c .before .before .net-at .ensures, sales, purchases)
 
 pub account-hour-spec : {M : Type 1} → statement M

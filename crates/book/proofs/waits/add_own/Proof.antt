@@ -9,18 +9,18 @@ use Rattle.book.proofs.waits.add_own.Statement.{statement}
 use Rattle.book.proofs.waits.add_own.Tie as tie
 
 row-offset-requires : tie.Need-row-offset-requires
-row-offset-requires c κs = omega (arith, c .before .before .pre .3, row-count-high _ (c .before .before .pre .2))
+row-offset-requires c κs = omega (arith, c .before .before .pre .2, row-count-high _ (c .before .before .pre .1))
 
 get-u8-requires : tie.Need-get-u8-requires
 get-u8-requires c κs =
-    let pre = c .before .before .before .pre in omega (arith, pre .3, c .row-offset .ensures, row-count-high _ (pre .2), book-length _ (pre .2))
+    let pre = c .before .before .before .pre in omega (arith, pre .2, c .row-offset .ensures, row-count-high _ (pre .1), book-length _ (pre .1))
 
 returns : tie.Need-returns
 returns c =
     let place = c .before .before in
     let start = place .before .before .before in
     let pre = start .pre in
-    let stands = own-stands _ (pre .2) (start .args .number) _ (pre .3) (place .row-offset .ensures) in
+    let stands = own-stands _ (pre .1) (start .args .number) _ (pre .2) (place .row-offset .ensures) in
     let proposer = c .before .get-u8 .ensures ∙ stands .0 in
     (added-of-others _ _ _ _ proposer (c .if1 .taken), others-unlike _ _ (start .args .counterparty) (start .args .code) _ proposer (c .if1 .taken))
 
@@ -30,21 +30,21 @@ add-get-u8 c = search needs
 get-u8-requires-2 : tie.Need-get-u8-requires-2
 get-u8-requires-2 c κs =
     let place = c .before .before in
-    let pre = place .before .before .before .pre in omega (arith, pre .3, place .row-offset .ensures, row-count-high _ (pre .2), book-length _ (pre .2))
+    let pre = place .before .before .before .pre in omega (arith, pre .2, place .row-offset .ensures, row-count-high _ (pre .1), book-length _ (pre .1))
 
 returns-2 : tie.Need-returns-2
 returns-2 c =
     let place = c .before .before .before .before in
     let start = place .before .before .before in
     let pre = start .pre in
-    let stands = own-stands _ (pre .2) (start .args .number) _ (pre .3) (place .row-offset .ensures) in
+    let stands = own-stands _ (pre .1) (start .args .number) _ (pre .2) (place .row-offset .ensures) in
     let status = c .before .get-u82 .ensures ∙ stands .1 in
     (added-of-ended _ _ _ _ status (c .if2 .taken), ended-unlike _ (start .args .account) (start .args .counterparty) (start .args .code) _ status (c .if2 .taken))
 
 row-at-requires : tie.Need-row-at-requires
 row-at-requires c κs =
     let place = c .before .before .before .before in
-    let pre = place .before .before .before .pre in omega (arith, pre .3, place .row-offset .ensures, row-count-high _ (pre .2), book-length _ (pre .2))
+    let pre = place .before .before .before .pre in omega (arith, pre .2, place .row-offset .ensures, row-count-high _ (pre .1), book-length _ (pre .1))
 
 add-waiting-requires : tie.Need-add-waiting-requires
 add-waiting-requires c κs =
@@ -53,10 +53,10 @@ add-waiting-requires c κs =
     let start = place .before .before .before in
     let pre = start .pre in
     let n = start .args .number in
-    let same = row .row-at .ensures ∙ numbered-row-stands _ (pre .2) n _ (pre .3) (place .row-offset .ensures) in
-    let sound = numbered-sound _ (pre .2) n (pre .3) in
-    let tabled = numbered-tabled _ (pre .2) n (pre .3) in
-    (pre .0, rw same tabled, rw same (sound .side-low), rw same (sound .side-high), λ k l. rw same (omega (arith, pre .1 k l, tabled .quantity-high)))
+    let same = row .row-at .ensures ∙ numbered-row-stands _ (pre .1) n _ (pre .2) (place .row-offset .ensures) in
+    let sound = numbered-sound _ (pre .1) n (pre .2) in
+    let tabled = numbered-tabled _ (pre .1) n (pre .2) in
+    ((pre .0 .0, λ k l. rw same (omega (arith, pre .0 .1 k l, tabled .quantity-high))), rw same tabled, rw same (sound .side-low), rw same (sound .side-high))
 
 same-length : tie.Need-same-length
 same-length c = search needs
@@ -71,12 +71,12 @@ returns-3 c =
     let start = place .before .before .before in
     let pre = start .pre in
     let n = start .args .number in
-    let same = row .row-at .ensures ∙ numbered-row-stands _ (pre .2) n _ (pre .3) (place .row-offset .ensures) in
-    let stands = own-stands _ (pre .2) n _ (pre .3) (place .row-offset .ensures) in
-    let sound = numbered-sound _ (pre .2) n (pre .3) in
+    let same = row .row-at .ensures ∙ numbered-row-stands _ (pre .1) n _ (pre .2) (place .row-offset .ensures) in
+    let stands = own-stands _ (pre .1) n _ (pre .2) (place .row-offset .ensures) in
+    let sound = numbered-sound _ (pre .1) n (pre .2) in
     let waits = sym (status .before .get-u82 .ensures ∙ stands .1) ∙ status .if2 .left in
     let own = sym (proposer .before .get-u8 .ensures ∙ stands .0) ∙ proposer .if1 .left in (
-      added-own _ _ _ _ (numbered-tabled _ (pre .2) n (pre .3)) (sound .side-low) (sound .side-high) waits own (rw same at (taken .add-waiting .ensures)),
+      added-own _ _ _ _ (numbered-tabled _ (pre .1) n (pre .2)) (sound .side-low) (sound .side-high) waits own (rw same at (taken .add-waiting .ensures)),
       rw same (own-alike _ _ (start .args .counterparty) (start .args .code) waits own),
     )
 

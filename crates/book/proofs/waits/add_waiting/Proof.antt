@@ -18,7 +18,7 @@ add-n c = search needs
 
 add-range-requires : tie.Need-add-range-requires
 add-range-requires c κs =
-    (search needs, λ k l. c .before .before .before .before .before .pre .4 k (omega arith))
+    (search needs, λ k l. c .before .before .before .before .before .pre .0 .1 k (omega arith))
 
 same-length : tie.Need-same-length
 same-length c = search needs

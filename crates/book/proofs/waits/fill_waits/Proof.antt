@@ -41,7 +41,7 @@ add-own-requires : tie.Need-add-own-requires Inv-loop μ-loop
 add-own-requires c κs =
     let l = c .before .before .loop in
     let start = c .before .before .before .before .before .before in
-    (l .inv .4, λ k low. omega (arith, l .inv .5 .bounded k), start .pre .1, (l .inv .2, omega (arith, l .inv .0)))
+    ((l .inv .4, λ k low. omega (arith, l .inv .5 .bounded k)), start .pre .1, (l .inv .2, omega (arith, l .inv .0)))
 
 add-number : tie.Need-add-number Inv-loop μ-loop
 add-number c = search needs

@@ -10,7 +10,7 @@ use Rattle.registration.proofs.confirm.covered_with_trade.Tie as tie
 returns : tie.Need-returns
 returns c =
     let pre = c .before .before .before .pre in
-    sale-covered _ _ (pre .0) (pre .1) _ (pre .3) (c .if1 .taken)
+    sale-covered _ _ (pre .0 .0) (pre .1 .0) _ (pre .0 .1) (c .if1 .taken)
 
 operator-of-requires : tie.Need-operator-of-requires
 operator-of-requires c κs = search needs
@@ -18,7 +18,7 @@ operator-of-requires c κs = search needs
 exposure-with-requires : tie.Need-exposure-with-requires
 exposure-with-requires c κs =
     let pre = c .before .before .before .before .pre in
-    (pre .0, cons (trade-trade-in-range _ _ (pre .0) (pre .1) _ (pre .2)) nil)
+    (pre .0 .0, cons (trade-trade-in-range _ _ (pre .0 .0) (pre .1 .0) _ (pre .1 .1)) nil)
 
 covered-in-force-requires : tie.Need-covered-in-force-requires
 covered-in-force-requires c κs = search needs
@@ -27,7 +27,7 @@ returns-2 : tie.Need-returns-2
 returns-2 c =
     let operator = c .before .before in
     c .covered-in-force .ensures
-    ∙ rw (c .before .exposure-with .ensures .0, operator .operator-of .ensures .0, operator .before .before .before .before .pre .2)
+    ∙ rw (c .before .exposure-with .ensures .0, operator .operator-of .ensures .0, operator .before .before .before .before .pre .1 .1)
     (purchase-frees-none _ _ _ _ _ (operator .before .if1 .left))
 
 pub covered-with-trade-spec : {M : Type 1} → statement M

@@ -31,7 +31,7 @@ covered-with-trade-requires : tie.Need-covered-with-trade-requires
 covered-with-trade-requires c κs =
     let trade = c .before .before .before in
     let pre = trade .before .before .pre in
-    (pre .0, named-waits _ _ _ (pre .0) (pre .1), trade .confirmed-row .ensures, caller-in-book _ _ _ (pre .0) (pre .1))
+    ((pre .0, caller-in-book _ _ _ (pre .0) (pre .1)), (named-waits _ _ _ (pre .0) (pre .1), trade .confirmed-row .ensures))
 
 returns-2 : tie.Need-returns-2
 returns-2 c =

@@ -33,30 +33,30 @@ abbrev μ-loop : tie.MeasureT-loop
 margins-requires : tie.Need-margins-requires Inv-loop μ-loop
 margins-requires c κs =
     let pre = c .before .before .pre in
-    (setup-tabled _ (pre .0) .whole, pre .2 .account-known .0, accounts-read _ (pre .0) _ (pre .2 .account-known .1) .0)
+    (setup-tabled _ (pre .0 .0) .whole, pre .1 .account-known .0, accounts-read _ (pre .0 .0) _ (pre .1 .account-known .1) .0)
 
 loop-holds : tie.Need-loop-holds Inv-loop μ-loop
 loop-holds c =
     let start = c .before .before .before in
     let pre = start .pre in (
-      margins-read _ (pre .0) _ (start .args .number) (c .margins .ensures),
+      margins-read _ (pre .0 .0) _ (start .args .number) (c .margins .ensures),
       search needs,
       search needs,
-      omega (arith, pre .2 .last-high, hours-few _ (pre .0)),
-      broken-by-span _ (pre .0) _ _ (pre .2),
+      omega (arith, pre .1 .last-high, hours-few _ (pre .0 .0)),
+      broken-by-span _ (pre .0 .0) _ _ (pre .1),
     )
 
 account-hour-requires : tie.Need-account-hour-requires Inv-loop μ-loop
 account-hour-requires c κs =
     let l = c .before .before .loop in
     let pre = c .before .before .before .before .before .before .pre in
-    (pre .0, pre .1, pre .2 .account-known, (omega (arith, pre .2 .first-low, l .inv .1), omega (arith, pre .2 .last-high)))
+    (pre .0, (pre .1 .account-known, (omega (arith, pre .1 .first-low, l .inv .1), omega (arith, pre .1 .last-high))))
 
 after-trade-requires : tie.Need-after-trade-requires Inv-loop μ-loop
 after-trade-requires c κs =
     let l = c .before .before .before .loop in
     let pre = c .before .before .before .before .before .before .before .pre in
-    hour-room _ (pre .0) _ _ _ _ _ (pre .2 .account-known) (omega (arith, pre .2 .first-low, l .inv .1), omega (arith, pre .2 .last-high)) (pre .1) (pre .2 .quantity-high) (c .account-hour .ensures)
+    hour-room _ (pre .0 .0) _ _ _ _ _ (pre .1 .account-known) (omega (arith, pre .1 .first-low, l .inv .1), omega (arith, pre .1 .last-high)) (pre .0 .1) (pre .1 .quantity-high) (c .account-hour .ensures)
 
 keeps-margins-requires : tie.Need-keeps-margins-requires Inv-loop μ-loop
 keeps-margins-requires c κs = search needs

@@ -10,13 +10,13 @@ use Rattle.registration.proofs.register.covered_with_row.Tie as tie
 returns : tie.Need-returns
 returns c =
     let pre = c .before .before .before .pre in
-    still-covered _ _ _ (pre .0) (pre .3) (purchase-exposes-none _ _ _ _ (pre .2) (c .if1 .taken))
+    still-covered _ _ _ (pre .0 .0) (pre .0 .1) (purchase-exposes-none _ _ _ _ (pre .1 .1) (c .if1 .taken))
 
 operator-of-requires : tie.Need-operator-of-requires
 operator-of-requires c κs = search needs
 
 exposure-with-requires : tie.Need-exposure-with-requires
-exposure-with-requires c κs = let pre = c .before .before .before .before .pre in (pre .0, cons (pre .1) nil)
+exposure-with-requires c κs = let pre = c .before .before .before .before .pre in (pre .0 .0, cons (pre .1 .0) nil)
 
 covered-in-force-requires : tie.Need-covered-in-force-requires
 covered-in-force-requires c κs = search needs

@@ -14,7 +14,7 @@ proposed-row-requires c κs = search needs
 first-broken-requires : tie.Need-first-broken-requires
 first-broken-requires c κs =
     let pre = c .before .before .before .pre in
-    (pre .0, pre .1, rw (c .proposed-row .ensures) (sound-in-range _ _ (ready-row _ _ (pre .2 .ready))))
+    (pre .0, rw (c .proposed-row .ensures) (sound-in-range _ _ (ready-row _ _ (pre .1 .ready))))
 
 enum-known-hour : tie.Need-enum-known-hour
 enum-known-hour c = search needs
@@ -24,7 +24,7 @@ returns c =
     let hour = c .before .before .before in
     let trade = hour .before in
     let pre = trade .before .before .before .pre in
-    ap checked (sym (margin-breaks _ _ (pre .2) _
+    ap checked (sym (margin-breaks _ _ (pre .1) _
     (found-hour _ _ _ _ _ _ (trade .proposed-row .ensures) (sym (c .before .hour .given .1) ∙ hour .first-broken .ensures))))
 
 enum-told : tie.Need-enum-told
@@ -34,8 +34,8 @@ covered-with-row-requires : tie.Need-covered-with-row-requires
 covered-with-row-requires c κs =
     let trade = c .before .before .before in
     let pre = trade .before .before .before .pre in
-    let row = ready-row _ _ (pre .2 .ready) in
-    (pre .0, rw (trade .proposed-row .ensures) (row-trade-in-range _ _ row), rw (trade .proposed-row .ensures), (row .proposer-low, row .proposer-high))
+    let row = ready-row _ _ (pre .1 .ready) in
+    ((pre .0 .0, (row .proposer-low, row .proposer-high)), (rw (trade .proposed-row .ensures) (row-trade-in-range _ _ row), rw (trade .proposed-row .ensures)))
 
 returns-2 : tie.Need-returns-2
 returns-2 c =
@@ -45,7 +45,7 @@ returns-2 c =
     let pre = trade .before .before .before .pre in
     let same = trade .proposed-row .ensures in
     let kept = found-nowhere _ _ _ _ _ same (sym (told .enum-told .given .1) ∙ hour .first-broken .ensures) in
-    ap checked (sym (covered-with-row _ _ (pre .2) kept _ (rw same at (c .before .covered-with-row .ensures)) (c .if1 .taken)))
+    ap checked (sym (covered-with-row _ _ (pre .1) kept _ (rw same at (c .before .covered-with-row .ensures)) (c .if1 .taken)))
 
 returns-3 : tie.Need-returns-3
 returns-3 c =
@@ -55,7 +55,7 @@ returns-3 c =
     let pre = trade .before .before .before .pre in
     let same = trade .proposed-row .ensures in
     let kept = found-nowhere _ _ _ _ _ same (sym (told .enum-told .given .1) ∙ hour .first-broken .ensures) in
-    ap checked (sym (row-uncovered _ _ (pre .2) kept _ (rw same at (c .before .covered-with-row .ensures)) (c .if1 .left)))
+    ap checked (sym (row-uncovered _ _ (pre .1) kept _ (rw same at (c .before .covered-with-row .ensures)) (c .if1 .left)))
 
 pub margin-or-exposure-fault-spec : {M : Type 1} → statement M
 margin-or-exposure-fault-spec =
