@@ -36,8 +36,8 @@ use Rattle.book.proofs.BookRows.{sound-tabled, numbered-sound}
 use Rattle.book.proofs.WorthLaws.{with-confirmed}
 use Rattle.book.proofs.Answers.{decided-clear, Answered}
 use Rattle.registration.specs.Confirming.{Confirming, WaitsIn}
-use Rattle.registration.specs.Margins.{TradeInRange, broken}
-use Rattle.registration.specs.Cover.{exposureConfirming, coveredConfirming}
+use Rattle.registration.specs.Margins.{AccountTrade, broken}
+use Rattle.registration.specs.Cover.{exposureWithTrade, coveredWithTrade}
 use Rattle.registration.specs.Positions.{netsMoved, markedConfirmed}
 use Rattle.registration.specs.declared.margins.Broken.the-variants.{Hour, Nowhere}
 use Rattle.registration.proofs.Decisions.{no-row-to-confirm, terms-differ, confirm-breaks, confirm-uncovered, confirm-passes}
@@ -113,8 +113,8 @@ module _ (s : List ℕ) (r : Row) (h : isBook s ≡ true) (w : WaitsIn (bookIn s
 
   module _ (trade : Row) (e : trade ≡ withStatus 2 r) where
     -- as a trade it is in range, and can be added
-    pub trade-in-range : (a : ℕ) → IsAccount (bookIn s) a → TradeInRange (bookIn s) a trade
-    trade-in-range a own =
+    pub account-trade : (a : ℕ) → IsAccount (bookIn s) a → AccountTrade (bookIn s) a trade
+    account-trade a own =
         let sound = waiting-sound in
         rw e (record {
           account-known = own;
@@ -128,8 +128,8 @@ module _ (s : List ℕ) (r : Row) (h : isBook s ≡ true) (w : WaitsIn (bookIn s
     trade-trade-in-range = settled-trade-in-range (bookIn s .setup) trade (rw e (waiting-sound .quantity-high)) (rw e)
 
   -- once the row is confirmed the exposure is that of the rows where it is marked so
-  confirming-exposure : (o : ℕ) → exposureConfirming (bookIn s) r o ≡ exposure (bookIn s .setup) (mark (w .number) 2 (bookIn s .part .rows)) o
-  confirming-exposure o =
+  exposure-with-trade : (o : ℕ) → exposureWithTrade (bookIn s) r o ≡ exposure (bookIn s .setup) (mark (w .number) 2 (bookIn s .part .rows)) o
+  exposure-with-trade o =
       omega (
         arith,
         with-confirmed (bookIn s .setup) o (bookIn s .part .rows) r (w .number) (waiting-inside .0) (waiting-inside .1) (w .row) (w .is-pending)
@@ -137,11 +137,11 @@ module _ (s : List ℕ) (r : Row) (h : isBook s ≡ true) (w : WaitsIn (bookIn s
       )
 
   -- a sale that is confirmed leaves every operator covered
-  pub sale-covered : (a : ℕ) → IsAccount (bookIn s) a → r .side ≡ 1 → true ≡ coveredConfirming (bookIn s) r (operatorOf (bookIn s .setup) a)
+  pub sale-covered : (a : ℕ) → IsAccount (bookIn s) a → r .side ≡ 1 → true ≡ coveredWithTrade (bookIn s) r (operatorOf (bookIn s .setup) a)
   sale-covered a own sells =
       let o : ℕ = operatorOf (bookIn s .setup) a in
       still-covered s a _ h own
-      (omega (arith, confirming-exposure o, sale-eases-operators (bookIn s .setup) (bookIn s .part .rows) (w .number) o (rw (← w .row) (w .is-pending)) (rw (← w .row) sells)))
+      (omega (arith, exposure-with-trade o, sale-eases-operators (bookIn s .setup) (bookIn s .part .rows) (w .number) o (rw (← w .row) (w .is-pending)) (rw (← w .row) sells)))
 
 -- ---- the row that is named and mirrored
 
@@ -191,12 +191,12 @@ module _ (s : List ℕ) (q : Request) (r : Row) (h : isBook s ≡ true) (w : Con
         confirm-breaks (bookIn s) q (w .in-registration) i named same-terms k (broken-next ∙ found-hour _ _ _ _ _ k e f)
 
     module _ (kept : Nowhere ≡ broken (brokenBy (bookIn s .setup) (bookIn s .part .rows) (trade ∷ []) (q .account))) (t : Bool)
-        (test : t ≡ coveredConfirming (bookIn s) r (operatorOf (bookIn s .setup) (q .account))) where
+        (test : t ≡ coveredWithTrade (bookIn s) r (operatorOf (bookIn s .setup) (q .account))) where
       covered-next : covered (bookIn s .setup) (next confirm (bookIn s) q .part) (operatorOf (bookIn s .setup) (q .account)) ≡ t
       unfolding apply
       covered-next =
           let o : ℕ = operatorOf (bookIn s .setup) (q .account) in
-          covered-at (bookIn s) (mark (confirmedNumber (bookIn s) q) 2 (bookIn s .part .rows)) o _ (confirming-exposure s r h named-waits o) ∙ sym test
+          covered-at (bookIn s) (mark (confirmedNumber (bookIn s) q) 2 (bookIn s .part .rows)) o _ (exposure-with-trade s r h named-waits o) ∙ sym test
 
       -- refusal 19: the exposure is not covered
       pub trade-uncovered : t ≡ false → decided confirm (bookIn s) q ≡ some Uncovered

@@ -26,7 +26,7 @@ use Rattle.book.proofs.StateLaws.{book-is-sound, row-count-high}
 use Rattle.book.proofs.ReadingLaws.{net-near}
 use Rattle.book.proofs.NettedLaws.{netted-difference}
 use Rattle.book.proofs.WaitLaws.{side-hour}
-use Rattle.registration.specs.Margins.{TradeInRange, broken}
+use Rattle.registration.specs.Margins.{AccountTrade, broken}
 use Rattle.registration.specs.declared.margins.Broken.the-variants.{Hour, Nowhere}
 use Rattle.registration.proofs.SearchLaws.{find-span}
 
@@ -51,8 +51,8 @@ module _ (s : List ℕ) (h : isBook s ≡ true) where
       )
 
 -- a sound row is in range, and its proposer an account of the book
-pub sound-in-range : (b : Book) (r : Row) → SoundRow (b .setup) r → TradeInRange b (r .proposer) r
-sound-in-range b r s =
+pub sound-account-trade : (b : Book) (r : Row) → SoundRow (b .setup) r → AccountTrade b (r .proposer) r
+sound-account-trade b r s =
     record {
       account-known = (s .proposer-low, s .proposer-high);
       quantity-high = s .quantity-high;
@@ -106,7 +106,7 @@ takes-elsewhere rows trade a h e =
       add-zero (pendingPurchases rows a h),
     )
 
-module _ (s : List ℕ) (h : isBook s ≡ true) (trade : Row) (a : ℕ) (t : TradeInRange (bookIn s) a trade) where
+module _ (s : List ℕ) (h : isBook s ≡ true) (trade : Row) (a : ℕ) (t : AccountTrade (bookIn s) a trade) where
   -- so it breaks no margin there: in a book none is broken
   kept-elsewhere : (k : ℕ) → 1 ≤ k → k ≤ periods (bookIn s .setup) → includesHour k trade ≡ false → breaks (bookIn s .setup) (bookIn s .part .rows) trade a k ≡ false
   unfolding breaks

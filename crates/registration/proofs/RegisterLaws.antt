@@ -34,7 +34,7 @@ use Rattle.book.proofs.StateLaws.{book-image, book-fits, book-is-sound}
 use Rattle.book.proofs.Answers.{decided-clear, Answered, accepted-answered}
 use Rattle.book.proofs.Readiness.{bare, ready-input}
 use Rattle.registration.specs.Proposing.{Proposing, rowAppended}
-use Rattle.registration.specs.Cover.{coveredWith}
+use Rattle.registration.specs.Cover.{coveredWithRow}
 use Rattle.registration.proofs.CoverLaws.{covered-at}
 
 -- ---- a request that is ready
@@ -72,7 +72,7 @@ module _ (b : Book) (q : Request) (p : Proposing b q) where
       rw (eq-eqb _ 1 (p .in-registration), p .no-twin, lt-leb mostRows (length (b .part .rows)) (p .has-room), broken-next ∙ e)
 
   module _ (kept : brokenBy (b .setup) (b .part .rows) (proposed q ∷ []) (q .account) ≡ none) (t : Bool)
-      (test : t ≡ coveredWith b (proposed q) (operatorOf (b .setup) (q .account))) where
+      (test : t ≡ coveredWithRow b (proposed q) (operatorOf (b .setup) (q .account))) where
     -- the exposure is that of the rows with the proposed one
     covered-next : covered (b .setup) (next register b q .part) (operatorOf (b .setup) (q .account)) ≡ t
     unfolding apply

@@ -23,13 +23,13 @@ abbrev pub coveredUnder : Book → ℕ → ℕ → Bool
 coveredUnder b guarantee o = coveredBy (b .setup) (exposure (b .setup) (b .part .rows) o) guarantee o
 
 -- the exposure once the row is added is covered
-abbrev pub coveredWith : Book → Row → ℕ → Bool
-coveredWith b row o = coveredInForce b (exposureWith (b .setup) (b .part .rows) (row ∷ []) o) o
+abbrev pub coveredWithRow : Book → Row → ℕ → Bool
+coveredWithRow b row o = coveredInForce b (exposureWith (b .setup) (b .part .rows) (row ∷ []) o) o
 
 -- the exposure once the pending row is confirmed: the trade is added, and a sale is pending no longer
-abbrev pub exposureConfirming : Book → Row → ℕ → ℕ
-exposureConfirming b row o = exposureWith (b .setup) (b .part .rows) (withStatus 2 row ∷ []) o - saleWorth (b .setup) o row
+abbrev pub exposureWithTrade : Book → Row → ℕ → ℕ
+exposureWithTrade b row o = exposureWith (b .setup) (b .part .rows) (withStatus 2 row ∷ []) o - saleWorth (b .setup) o row
 
 -- that exposure is covered
-abbrev pub coveredConfirming : Book → Row → ℕ → Bool
-coveredConfirming b row o = coveredInForce b (exposureConfirming b row o) o
+abbrev pub coveredWithTrade : Book → Row → ℕ → Bool
+coveredWithTrade b row o = coveredInForce b (exposureWithTrade b row o) o

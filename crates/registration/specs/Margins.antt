@@ -9,7 +9,7 @@ use Rattle.registration.specs.declared.margins.Broken.{Broken}
 use Rattle.registration.specs.declared.margins.Broken.the-variants.{Hour, Nowhere}
 
 -- an account of the book, and a trade whose hours are the book's and whose quantity is in range
-pub record TradeInRange (b : Book) (account : ℕ) (trade : Row) : Type 0 where
+pub record AccountTrade (b : Book) (account : ℕ) (trade : Row) : Type 0 where
   pub account-known : IsAccount b account
   pub quantity-high : trade .quantity .0 ≤ mostEnergy
   pub first-low : 1 ≤ trade .first

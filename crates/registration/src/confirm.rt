@@ -14,7 +14,7 @@ ghost use Rattle.image.specs.Tables.{Tabled};
 ghost use Rattle.book.specs.Members.{IsAccount, IsRow, numberedRow};
 ghost use Rattle.book.specs.Kinds.{decided, outcomeOn, bookAfter, Ready};
 ghost use Rattle.registration.specs.Confirming.{Confirming, WaitsIn};
-ghost use Rattle.registration.specs.Cover.{coveredConfirming};
+ghost use Rattle.registration.specs.Cover.{coveredWithTrade};
 ghost use Rattle.registration.specs.Positions.{netsMoved, markedConfirmed};
 use crate::cover::covered_in_force;
 use crate::margins::Broken;
@@ -86,7 +86,7 @@ fn confirmed_row(r: Row) -> Row
 fn covered_with_trade(book: &[u8], row: Row, trade: Row, number: u8) -> bool
     requires { ⌜ (isBook (now book) ≡ true) × IsAccount (bookIn (now book)) number ⌝ }
     requires { ⌜ WaitsIn (bookIn (now book)) row × (trade ≡ withStatus 2 row) ⌝ }
-    ensures { λ r. ⌜ (let b = bookIn (now (book .entry)) in r ≡ coveredConfirming b row (operatorOf (b .setup) number)) ⌝ }
+    ensures { λ r. ⌜ (let b = bookIn (now (book .entry)) in r ≡ coveredWithTrade b row (operatorOf (b .setup) number)) ⌝ }
 {
     // A pending sale counts in full, so that confirming it raises no exposure; and in a book every exposure is at most what is available.
     if row.side == 1 {

@@ -5,7 +5,7 @@ ghost use mathlib.Core.List.{[], _∷_};
 ghost use Rattle.rules.specs.Registration.{brokenBy};
 ghost use Rattle.image.specs.Valid.{isBook, bookIn};
 ghost use Rattle.book.specs.Waits.{WaitsOf};
-ghost use Rattle.registration.specs.Margins.{TradeInRange, broken};
+ghost use Rattle.registration.specs.Margins.{AccountTrade, broken};
 use book::waits::account_hour;
 use book::waits::fill_waits;
 use book::waits::no_waits;
@@ -23,7 +23,7 @@ pub enum Broken {
 // hours are tested: the other hours stay as they are, and in a book no margin is broken.
 pub fn first_broken(book: &[u8], waits: &[u32], trade: Row, number: u8) -> Broken
     requires { ⌜ (isBook (now book) ≡ true) × WaitsOf (bookIn (now book) .part .rows) number (now waits) ⌝ }
-    requires { ⌜ TradeInRange (bookIn (now book)) number trade ⌝ }
+    requires { ⌜ AccountTrade (bookIn (now book)) number trade ⌝ }
     ensures { λ r. ⌜ (let b = bookIn (now (book .entry)) in r ≡ broken (brokenBy (b .setup) (b .part .rows) (trade ∷ []) number)) ⌝ }
 {
     let own = margins(book, number);
@@ -45,7 +45,7 @@ pub fn first_broken(book: &[u8], waits: &[u32], trade: Row, number: u8) -> Broke
 
 // The same, with the account's pending sums worked out here.
 pub fn broken_hour(book: &[u8], trade: Row, number: u8) -> Broken
-    requires { ⌜ (isBook (now book) ≡ true) × TradeInRange (bookIn (now book)) number trade ⌝ }
+    requires { ⌜ (isBook (now book) ≡ true) × AccountTrade (bookIn (now book)) number trade ⌝ }
     ensures { λ r. ⌜ (let b = bookIn (now (book .entry)) in r ≡ broken (brokenBy (b .setup) (b .part .rows) (trade ∷ []) number)) ⌝ }
 {
     let mut waits = no_waits();

@@ -17,7 +17,7 @@ ghost use Rattle.book.specs.Waits.{WaitsOf};
 ghost use Rattle.book.specs.Worth.{TradeInRange};
 ghost use Rattle.book.specs.Kinds.{decided, outcomeOn, bookAfter, Ready};
 ghost use Rattle.registration.specs.Proposing.{Proposing, rowAppended};
-ghost use Rattle.registration.specs.Cover.{coveredWith};
+ghost use Rattle.registration.specs.Cover.{coveredWithRow};
 use crate::cover::covered_in_force;
 use crate::margins::Broken;
 use crate::margins::first_broken;
@@ -66,7 +66,7 @@ fn proposed_row(request: Request) -> Row
 fn covered_with_row(book: &[u8], row: Row, number: u8) -> bool
     requires { ⌜ (isBook (now book) ≡ true) × IsAccount (bookIn (now book)) number ⌝ }
     requires { ⌜ TradeInRange (bookIn (now book) .setup) row × (pending row ≡ true) ⌝ }
-    ensures { λ r. ⌜ (let b = bookIn (now (book .entry)) in r ≡ coveredWith b row (operatorOf (b .setup) number)) ⌝ }
+    ensures { λ r. ⌜ (let b = bookIn (now (book .entry)) in r ≡ coveredWithRow b row (operatorOf (b .setup) number)) ⌝ }
 {
     // A pending purchase adds nothing to the exposure, and in a book the exposure is at most what is available.
     if row.side != 1 {

@@ -1,7 +1,7 @@
 -- The margins are tested first and then the exposure, both as they are once the row is confirmed, as the refusals are ranked.
 use mathlib.Core.Path.{sym, ap, _∙_}
 use Rattle.rules.specs.Verdicts.{checked}
-use Rattle.registration.proofs.ConfirmLaws.{named-waits, caller-in-book, trade-in-range, trade-breaks, trade-uncovered, covered-with-trade}
+use Rattle.registration.proofs.ConfirmLaws.{named-waits, caller-in-book, account-trade, trade-breaks, trade-uncovered, covered-with-trade}
 use borrow.Author.Needs.{needs}
 use Rattle.registration.proofs.confirm.margin_or_exposure_fault.Statement.{statement}
 use Rattle.registration.proofs.confirm.margin_or_exposure_fault.Tie as tie
@@ -12,7 +12,7 @@ confirmed-row-requires c κs = search needs
 broken-hour-requires : tie.Need-broken-hour-requires
 broken-hour-requires c κs =
     let pre = c .before .before .pre in
-    (pre .0, trade-in-range _ _ (pre .0) (named-waits _ _ _ (pre .0) (pre .1)) _ (c .confirmed-row .ensures) _ (caller-in-book _ _ _ (pre .0) (pre .1)))
+    (pre .0, account-trade _ _ (pre .0) (named-waits _ _ _ (pre .0) (pre .1)) _ (c .confirmed-row .ensures) _ (caller-in-book _ _ _ (pre .0) (pre .1)))
 
 enum-known-hour : tie.Need-enum-known-hour
 enum-known-hour c = search needs

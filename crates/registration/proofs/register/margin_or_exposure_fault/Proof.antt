@@ -1,7 +1,7 @@
 -- The margins are tested first and then the exposure, both with the row added, as the refusals are ranked.
 use mathlib.Core.Path.{sym, ap, _∙_}
 use Rattle.rules.specs.Verdicts.{checked}
-use Rattle.registration.proofs.MarginLaws.{sound-in-range, found-hour, found-nowhere}
+use Rattle.registration.proofs.MarginLaws.{sound-account-trade, found-hour, found-nowhere}
 use Rattle.book.proofs.WorthParts.{row-trade-in-range}
 use Rattle.registration.proofs.RegisterLaws.{ready-row, margin-breaks, row-uncovered, covered-with-row}
 use borrow.Author.Needs.{needs}
@@ -14,7 +14,7 @@ proposed-row-requires c κs = search needs
 first-broken-requires : tie.Need-first-broken-requires
 first-broken-requires c κs =
     let pre = c .before .before .before .pre in
-    (pre .0, rw (c .proposed-row .ensures) (sound-in-range _ _ (ready-row _ _ (pre .1 .ready))))
+    (pre .0, rw (c .proposed-row .ensures) (sound-account-trade _ _ (ready-row _ _ (pre .1 .ready))))
 
 enum-known-hour : tie.Need-enum-known-hour
 enum-known-hour c = search needs
