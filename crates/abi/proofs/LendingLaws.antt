@@ -1,15 +1,14 @@
--- The ways out of a lent buffer, and the signed word of a position.
+-- The ways out of a lent buffer, and the figure of a position read back.
 use Prim.Native.Nat.{ℕ, zero, suc, _-_, _^_, _≤_, _<_}
-use mathlib.Core.Path.{_≡_, refl, sym, ap, _∙_}
+use mathlib.Core.Path.{_≡_, refl, _∙_}
 use mathlib.Core.List.{List}
 use native.Mathlib.Nat.{zero-add}
-use native.Mathlib.Omega.{arith}
 use lib.ListN.{length}
 use lib.IntN.{pos, natAbs, negℤ}
 use borrow.Author.Tests.{lt-ltb, le-ltb}
-use Rattle.wire.specs.Numbers.{le, signed, figureIn}
+use Rattle.wire.specs.Numbers.{signed, figureIn}
 use Rattle.wire.specs.Regions.{splice}
-use Rattle.wire.proofs.NumberLaws.{signed-minus, figure-back}
+use Rattle.wire.proofs.NumberLaws.{figure-back}
 use Rattle.wire.proofs.RegionLaws.{splice-take-drop}
 use Rattle.rules.specs.declared.Position.{Position}
 use Rattle.rules.specs.declared.Position.the-variants.{Long, Short}
@@ -30,14 +29,6 @@ module _ (said buffer : List ℕ) where
   room h =
       let t = le-ltb (length buffer) (length said) h in
       (rw t, splice-take-drop buffer 0 said ∙ rw (t, zero-add (length said)))
-
--- ---- minus a number, in two's complement
-
-pub minus-word : (v : ℕ) → 0 < v → v < 2 ^ 32 → le 8 (18_446_744_073_709_551_615 - (v - 1)) ≡ signed 8 (negℤ (pos v))
-minus-word zero h f = absurd (omega arith)
-minus-word (suc n) h f =
-    let e : 18_446_744_073_709_551_615 - (suc n - 1) ≡ 256 ^ 8 - suc n = omega arith in
-    ap (le 8) e ∙ sym (signed-minus 8 n (omega arith))
 
 -- ---- the figure of a position reads back
 

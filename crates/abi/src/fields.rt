@@ -10,6 +10,10 @@ use wire::numbers::get_u8;
 use wire::numbers::get_u16;
 use wire::numbers::get_u32;
 use wire::numbers::get_u64;
+use wire::numbers::put_u8;
+use wire::numbers::put_u16;
+use wire::numbers::put_u32;
+use wire::numbers::put_u64;
 
 // The bytes of the fields.
 pub const FIELDS_SIZE: usize = 34;
@@ -18,47 +22,21 @@ pub const FIELDS_SIZE: usize = 34;
 pub fn request_bytes(q: Request) -> [u8; FIELDS_SIZE]
     ensures { λ b. ⌜ b ≡ requestBytes q ⌝ }
 {
-    let code = q.code;
-    let quantity = q.quantity.0;
-    let number = q.number;
-    let guarantee = q.guarantee.0;
-    let price = q.price.0;
-    [
-        q.kind,
-        q.account,
-        q.other,
-        (code % 256) as u8,
-        (code / 256 % 256) as u8,
-        (code / 256 / 256 % 256) as u8,
-        (code / 256 / 256 / 256 % 256) as u8,
-        (code / 256 / 256 / 256 / 256 % 256) as u8,
-        (code / 256 / 256 / 256 / 256 / 256 % 256) as u8,
-        (code / 256 / 256 / 256 / 256 / 256 / 256 % 256) as u8,
-        (code / 256 / 256 / 256 / 256 / 256 / 256 / 256 % 256) as u8,
-        q.side,
-        q.first,
-        q.last,
-        (quantity % 256) as u8,
-        (quantity / 256 % 256) as u8,
-        (quantity / 256 / 256 % 256) as u8,
-        (quantity / 256 / 256 / 256 % 256) as u8,
-        (number % 256) as u8,
-        (number / 256 % 256) as u8,
-        q.operator,
-        (guarantee % 256) as u8,
-        (guarantee / 256 % 256) as u8,
-        (guarantee / 256 / 256 % 256) as u8,
-        (guarantee / 256 / 256 / 256 % 256) as u8,
-        (guarantee / 256 / 256 / 256 / 256 % 256) as u8,
-        (guarantee / 256 / 256 / 256 / 256 / 256 % 256) as u8,
-        (guarantee / 256 / 256 / 256 / 256 / 256 / 256 % 256) as u8,
-        (guarantee / 256 / 256 / 256 / 256 / 256 / 256 / 256 % 256) as u8,
-        q.point,
-        (price % 256) as u8,
-        (price / 256 % 256) as u8,
-        (price / 256 / 256 % 256) as u8,
-        (price / 256 / 256 / 256 % 256) as u8,
-    ]
+    let mut b = [0; FIELDS_SIZE];
+    put_u8(&mut b, 0, q.kind);
+    put_u8(&mut b, 1, q.account);
+    put_u8(&mut b, 2, q.other);
+    put_u64(&mut b, 3, q.code);
+    put_u8(&mut b, 11, q.side);
+    put_u8(&mut b, 12, q.first);
+    put_u8(&mut b, 13, q.last);
+    put_u32(&mut b, 14, q.quantity.0);
+    put_u16(&mut b, 18, q.number);
+    put_u8(&mut b, 20, q.operator);
+    put_u64(&mut b, 21, q.guarantee.0);
+    put_u8(&mut b, 29, q.point);
+    put_u32(&mut b, 30, q.price.0);
+    b
 }
 
 // The request that these bytes say.

@@ -1,7 +1,6 @@
 // Readings told to a buffer that the caller lends: its first bytes are filled, or the reading is refused and it stays as it was.
 ghost use mathlib.Core.Path.{_≡_};
 ghost use Rattle.wire.specs.Numbers.{le, signed};
-ghost use lib.IntN.{pos, negℤ};
 ghost use Rattle.rules.specs.Verdicts.{numbers};
 ghost use Rattle.rules.specs.Requests.{requestReadOut};
 ghost use Rattle.rules.specs.Readings.{positionFigure, netReadOut, exposureReadOut};
@@ -15,8 +14,9 @@ use rules::Position;
 use rules::Reading;
 use rules::Refusal;
 use rules::Verdict;
-use wire::numbers::ALL_ONES;
+use wire::numbers::u64_bytes;
 use wire::regions::copy_in;
+use wire::signed::minus_u64;
 
 // Fills the first bytes of the buffer, or refuses by 10.
 fn lend(said: &[u8], buffer: &mut [u8]) -> Outcome
@@ -34,39 +34,13 @@ fn lend(said: &[u8], buffer: &mut [u8]) -> Outcome
     }
 }
 
-// The 8 bytes of a number.
-fn word_bytes(v: u64) -> [u8; 8]
-    ensures { λ r. ⌜ r ≡ le 8 v ⌝ }
-{
-    [
-        (v % 256) as u8,
-        (v / 256 % 256) as u8,
-        (v / 256 / 256 % 256) as u8,
-        (v / 256 / 256 / 256 % 256) as u8,
-        (v / 256 / 256 / 256 / 256 % 256) as u8,
-        (v / 256 / 256 / 256 / 256 / 256 % 256) as u8,
-        (v / 256 / 256 / 256 / 256 / 256 / 256 % 256) as u8,
-        (v / 256 / 256 / 256 / 256 / 256 / 256 / 256 % 256) as u8,
-    ]
-}
-
-// Minus `v` in two's complement.
-fn minus(v: u32) -> u64
-    ensures { λ r. ⌜ le 8 r ≡ signed 8 (negℤ (pos v)) ⌝ }
-{
-    if v == 0 {
-        return 0;
-    }
-    ALL_ONES - ((v - 1) as u64)
-}
-
 // A position as a signed word.
 fn position_word(p: Position) -> u64
     ensures { λ r. ⌜ le 8 r ≡ signed 8 (positionFigure p) ⌝ }
 {
     match p {
         Position::Long(x) => x.0 as u64,
-        Position::Short(x) => minus(x.0),
+        Position::Short(x) => minus_u64(x.0 as u64),
     }
 }
 
@@ -80,7 +54,7 @@ pub fn lend_net(reading: NetReading, figure: &mut [u8]) -> Outcome
             verdict: Verdict::Refused(r),
         },
         NetReading::Read(p) => {
-            let said = word_bytes(position_word(p));
+            let said = u64_bytes(position_word(p));
             lend(&said, figure)
         }
     }
@@ -96,7 +70,7 @@ pub fn lend_exposure(reading: ExposureReading, figure: &mut [u8]) -> Outcome
             verdict: Verdict::Refused(r),
         },
         ExposureReading::Read(x) => {
-            let said = word_bytes(x.0);
+            let said = u64_bytes(x.0);
             lend(&said, figure)
         }
     }

@@ -10,9 +10,9 @@ ghost use Rattle.rules.specs.Limits.{mostRows};
 ghost use Rattle.audit.specs.Twins.{pairOf, markOf, keyRepeats, keysApart, KeyPlaces, Keyed, marks};
 use image::layout::MOST_ROWS;
 use image::layout::ROW_WIDTH;
-use image::layout::TURN;
 use image::rows::row_at;
 use rules::Row;
+use wire::signed::MODULUS_U32;
 
 // Marks that keys may have.
 const MARKS: usize = 8_192;
@@ -22,7 +22,7 @@ const MARKS: usize = 8_192;
 const SPREAD: u64 = 2_654_435_761;
 
 // The bits below the mark.
-const BELOW_MARK: u64 = TURN / (MARKS as u64);
+const BELOW_MARK: u64 = MODULUS_U32 / (MARKS as u64);
 
 // The second number of a row's key. A row that is not pending gets one that no other row has.
 fn pair_of(r: Row, i: usize) -> u64
@@ -54,7 +54,7 @@ fn put_keys(codes: &mut [u64], pairs: &mut [u64], s: &[u8], at: usize, n: usize)
 fn mark_of(code: u64, pair: u64) -> usize
     ensures { λ r. ⌜ (r ≡ markOf code pair) × (r < marks) ⌝ }
 {
-    let word = (code % TURN + code / TURN + 257 * (pair % TURN)) % TURN;
+    let word = (code % MODULUS_U32 + code / MODULUS_U32 + 257 * (pair % MODULUS_U32)) % MODULUS_U32;
     (word * SPREAD / BELOW_MARK) as usize % MARKS
 }
 

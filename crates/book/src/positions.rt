@@ -11,14 +11,11 @@ ghost use Rattle.image.specs.Tables.{InTable};
 ghost use Rattle.book.specs.Members.{IsAccount, IsHour};
 ghost use Rattle.book.specs.Netted.{netted};
 use crate::state::net_offset;
-use image::layout::MOST_IN_4;
-use image::layout::TURN;
 use rules::Net;
 use units::Kwh;
 use wire::numbers::get_u32;
-
-// Half of what 4 bytes count to, from which on they are below zero.
-pub const HALF_TURN: u32 = (TURN / 2) as u32;
+use wire::signed::HALF_U32;
+use wire::signed::minus_u32;
 
 // The 4 bytes that hold the net of an account in an hour.
 pub fn stored_net(book: &[u8], account: u8, hour: u8) -> u32
@@ -34,7 +31,7 @@ pub fn net_at(book: &[u8], account: u8, hour: u8) -> Net
     ensures { λ r. ⌜ r ≡ netted (netOf (bookIn (now (book .entry)) .part .rows) account hour) ⌝ }
 {
     let stored = stored_net(book, account, hour);
-    if stored < HALF_TURN {
+    if stored < HALF_U32 {
         return Net {
             bought: Kwh(stored),
             sold: Kwh(0),
@@ -42,6 +39,6 @@ pub fn net_at(book: &[u8], account: u8, hour: u8) -> Net
     }
     Net {
         bought: Kwh(0),
-        sold: Kwh(MOST_IN_4 - stored + 1),
+        sold: Kwh(minus_u32(stored)),
     }
 }

@@ -8,17 +8,17 @@ ghost use Rattle.rules.specs.declared.Position.the-variants.{Long, Short};
 ghost use Rattle.rules.specs.Basics.{if_then_else_, within};
 ghost use Rattle.rules.specs.Readings.{netReading, exposureReading};
 ghost use Rattle.image.specs.Valid.{isBook, bookIn};
-use crate::positions::HALF_TURN;
 use crate::positions::stored_net;
 use crate::worth::Added;
 use crate::worth::exposure_with;
-use image::layout::MOST_IN_4;
 use rules::ExposureReading;
 use rules::NetReading;
 use rules::Position;
 use rules::Refusal;
 use setup::counts::counts;
 use units::Kwh;
+use wire::signed::HALF_U32;
+use wire::signed::minus_u32;
 
 // The number is not among those from 1 to `most`.
 fn outside(number: u8, most: u8) -> bool
@@ -31,10 +31,10 @@ fn outside(number: u8, most: u8) -> bool
 fn position_of(stored: u32) -> Position
     ensures { λ r. ⌜ r ≡ (if ltb stored (2 ^ 31) then Long (kwh stored) else Short (kwh (2 ^ 32 - stored))) ⌝ }
 {
-    if stored < HALF_TURN {
+    if stored < HALF_U32 {
         return Position::Long(Kwh(stored));
     }
-    Position::Short(Kwh(MOST_IN_4 - stored + 1))
+    Position::Short(Kwh(minus_u32(stored)))
 }
 
 // The net position of an account in an hour.

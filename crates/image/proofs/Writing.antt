@@ -1,8 +1,6 @@
 -- What is written in a book.
 -- Sizes: what fits its room, and how long each section of an image then is.
 pub mod Sizes
--- Literals: the bytes of a row and of a schedule, one by one.
-pub mod Literals
 -- Nets: net positions in bytes, and the loop over those of one account.
 pub mod Nets
 -- Writes: what is written in a part.

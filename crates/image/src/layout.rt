@@ -54,11 +54,6 @@ pub const NET_WIDTH: usize = 4;
 
 pub const ACCOUNT_NETS: usize = NET_WIDTH * PERIODS;
 
-// What the 4 bytes of a net position count to, and the greatest number in them.
-pub const TURN: u64 = 4_294_967_296;
-
-pub const MOST_IN_4: u32 = (TURN - 1) as u32;
-
 // The table of sums: the accounts of a lane, each with a cell for each period, and the cells of its four lanes.
 pub const LANE_SLOTS: usize = MOST_ACCOUNTS as usize;
 

@@ -2,9 +2,8 @@
 ghost use mathlib.Core.Path.{_≡_};
 ghost use Prim.Native.Nat.{_+_, _≤_};
 ghost use lib.ListN.{length, take, drop};
-ghost use Rattle.wire.specs.Parts.{Small};
-ghost use Rattle.image.specs.Layout.{rowWidths, rowWidth};
-ghost use Rattle.image.specs.Image.{rowIn, rowValues, rowBytes};
+ghost use Rattle.image.specs.Layout.{rowWidth};
+ghost use Rattle.image.specs.Image.{rowIn, rowBytes};
 use crate::layout::CODE_WIDTH;
 use crate::layout::QUANTITY_WIDTH;
 use crate::layout::ROW_WIDTH;
@@ -13,6 +12,9 @@ use units::Kwh;
 use wire::numbers::get_u8;
 use wire::numbers::get_u32;
 use wire::numbers::get_u64;
+use wire::numbers::put_u8;
+use wire::numbers::put_u32;
+use wire::numbers::put_u64;
 
 // Where a field stands in a row, which begins with its proposer.
 pub const COUNTERPARTY_OFFSET: usize = 1;
@@ -48,29 +50,16 @@ pub fn row_at(s: &[u8], at: usize) -> Row
 
 // The bytes of a row.
 pub fn row_bytes(r: Row) -> [u8; ROW_WIDTH]
-    requires { ⌜ Small rowWidths (rowValues r) ⌝ }
     ensures { λ b. ⌜ b ≡ rowBytes r ⌝ }
 {
-    let code = r.code;
-    let quantity = r.quantity.0;
-    [
-        r.proposer,
-        r.counterparty,
-        (code % 256) as u8,
-        (code / 256 % 256) as u8,
-        (code / 256 / 256 % 256) as u8,
-        (code / 256 / 256 / 256 % 256) as u8,
-        (code / 256 / 256 / 256 / 256 % 256) as u8,
-        (code / 256 / 256 / 256 / 256 / 256 % 256) as u8,
-        (code / 256 / 256 / 256 / 256 / 256 / 256 % 256) as u8,
-        (code / 256 / 256 / 256 / 256 / 256 / 256 / 256 % 256) as u8,
-        r.side,
-        r.first,
-        r.last,
-        (quantity % 256) as u8,
-        (quantity / 256 % 256) as u8,
-        (quantity / 256 / 256 % 256) as u8,
-        (quantity / 256 / 256 / 256 % 256) as u8,
-        r.status,
-    ]
+    let mut b = [0; ROW_WIDTH];
+    put_u8(&mut b, 0, r.proposer);
+    put_u8(&mut b, COUNTERPARTY_OFFSET, r.counterparty);
+    put_u64(&mut b, CODE_OFFSET, r.code);
+    put_u8(&mut b, SIDE_OFFSET, r.side);
+    put_u8(&mut b, FIRST_OFFSET, r.first);
+    put_u8(&mut b, LAST_OFFSET, r.last);
+    put_u32(&mut b, QUANTITY_OFFSET, r.quantity.0);
+    put_u8(&mut b, STATUS_OFFSET, r.status);
+    b
 }

@@ -2,9 +2,8 @@
 ghost use mathlib.Core.Path.{_≡_};
 ghost use Prim.Native.Nat.{_+_, _≤_};
 ghost use lib.ListN.{length, take, drop};
-ghost use Rattle.wire.specs.Parts.{Small};
-ghost use Rattle.image.specs.Layout.{scheduleWidths, scheduleWidth};
-ghost use Rattle.image.specs.Image.{scheduleIn, scheduleValues, scheduleBytes};
+ghost use Rattle.image.specs.Layout.{scheduleWidth};
+ghost use Rattle.image.specs.Image.{scheduleIn, scheduleBytes};
 use crate::layout::QUANTITY_WIDTH;
 use crate::layout::SCHEDULE_WIDTH;
 use rules::Schedule;
@@ -12,6 +11,8 @@ use units::CentsPerMwh;
 use units::Kwh;
 use wire::numbers::get_u8;
 use wire::numbers::get_u32;
+use wire::numbers::put_u8;
+use wire::numbers::put_u32;
 
 // Where a field stands in a schedule, which begins with its point.
 pub const SIDE_OFFSET: usize = 1;
@@ -38,22 +39,13 @@ pub fn schedule_at(s: &[u8], at: usize) -> Schedule
 
 // The bytes of a schedule.
 pub fn schedule_bytes(x: Schedule) -> [u8; SCHEDULE_WIDTH]
-    requires { ⌜ Small scheduleWidths (scheduleValues x) ⌝ }
     ensures { λ b. ⌜ b ≡ scheduleBytes x ⌝ }
 {
-    let quantity = x.quantity.0;
-    let price = x.price.0;
-    [
-        x.point,
-        x.side,
-        x.hour,
-        (quantity % 256) as u8,
-        (quantity / 256 % 256) as u8,
-        (quantity / 256 / 256 % 256) as u8,
-        (quantity / 256 / 256 / 256 % 256) as u8,
-        (price % 256) as u8,
-        (price / 256 % 256) as u8,
-        (price / 256 / 256 % 256) as u8,
-        (price / 256 / 256 / 256 % 256) as u8,
-    ]
+    let mut b = [0; SCHEDULE_WIDTH];
+    put_u8(&mut b, 0, x.point);
+    put_u8(&mut b, SIDE_OFFSET, x.side);
+    put_u8(&mut b, HOUR_OFFSET, x.hour);
+    put_u32(&mut b, QUANTITY_OFFSET, x.quantity.0);
+    put_u32(&mut b, PRICE_OFFSET, x.price.0);
+    b
 }

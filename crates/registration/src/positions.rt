@@ -10,20 +10,19 @@ ghost use Rattle.image.specs.Changes.{raised};
 ghost use Rattle.image.specs.Tables.{Tabled};
 ghost use Rattle.registration.specs.Positions.{netsMoved};
 use book::state::net_offset;
-use image::layout::MOST_IN_4;
 use image::layout::NET_WIDTH;
-use image::layout::TURN;
 use rules::Row;
+use std::num::wrapping_add_u32;
 use wire::numbers::get_u32;
 use wire::numbers::put_u32;
+use wire::signed::minus_u32;
 
 // Raises the number in the 4 bytes at `at`; of a sum that does not fit the highest bit is dropped.
 fn raise_net(s: &mut [u8], at: usize, more: u32)
     requires { ⌜ at + netWidth ≤ length (now s) ⌝ }
     ensures { λ _. ⌜ now (s .exit) ≡ splice (now (s .entry)) at (raised netWidth more (take netWidth (drop at (now (s .entry))))) ⌝ }
 {
-    let sum = get_u32(s, at) as u64 + more as u64;
-    put_u32(s, at, (sum % TURN) as u32);
+    put_u32(s, at, wrapping_add_u32(get_u32(s, at), more));
 }
 
 // Raises each of the `n` numbers that stand from `from` on.
@@ -49,11 +48,6 @@ pub fn move_nets(book: &mut [u8], r: Row)
     let n = (r.last - r.first) as usize + 1;
     let seller = r.seller();
     let buyer = r.buyer();
-    raise_nets(
-        book,
-        net_offset(seller, r.first),
-        n,
-        MOST_IN_4 - quantity.0 + 1,
-    );
+    raise_nets(book, net_offset(seller, r.first), n, minus_u32(quantity.0));
     raise_nets(book, net_offset(buyer, r.first), n, quantity.0);
 }

@@ -14,7 +14,6 @@ use image::layout::LANE_SLOTS;
 use image::layout::NET_WIDTH;
 use image::layout::ROW_WIDTH;
 use image::layout::TABLE_SIZE;
-use image::layout::TURN;
 use image::rows::row_at;
 use rules::AccountHour;
 use rules::Net;
@@ -22,6 +21,7 @@ use rules::Row;
 use rules::limits::MOST_ACCOUNTS;
 use units::Kwh;
 use wire::numbers::get_u32;
+use wire::signed::MODULUS_U32;
 
 // The lanes of the table.
 const BOUGHT: usize = 0;
@@ -151,7 +151,7 @@ fn net_matches(s: &[u8], nets: usize, table: &[u32], top: usize, account: u8, ho
     let stored = get_u32(s, at) as u64;
     let bought = sum_at(table, top, BOUGHT, account, hour) as u64;
     let sold = sum_at(table, top, SOLD, account, hour) as u64;
-    (stored + sold) % TURN == bought % TURN
+    (stored + sold) % MODULUS_U32 == bought % MODULUS_U32
 }
 
 // The same for all hours of an account.

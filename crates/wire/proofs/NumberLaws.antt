@@ -3,16 +3,16 @@ use Prim.Native.Nat.{ℕ, zero, suc, _+_, _-_, _*_, _/_, _%_, _^_, _≤_, _<_}
 use mathlib.Core.Path.{_≡_, refl, sym, ap, _∙_}
 use mathlib.Core.List.{List, [], _∷_, _++_}
 use mathlib.Core.Bool.{Bool, true, false, cond}
-use native.Mathlib.Nat.{mod-one, mod-lt, mod-eq-of-lt, mod-add-div, add-mul-mod-self-left, pow-succ', one-le-pow, pow-le-pow-right, mul-assoc, lt-of-lt-of-le, add-zero, zero-add, mul-add, suc-mul}
+use native.Mathlib.Nat.{mod-one, mod-self, mod-lt, mod-eq-of-lt, mod-add-div, add-mul-mod-self-left, pow-succ', one-le-pow, pow-le-pow-right, mul-assoc, lt-of-lt-of-le, add-zero, zero-add, mul-add, suc-mul}
 use native.Mathlib.Omega.{arith}
 use lib.ListN.{length, getD, take, drop, length-take, length-drop}
 use lib.Seq.{take-nil, length-take-le}
 use lib.Dec.{ltb}
-use lib.IntN.{ℤ, pos, negsuc, natAbs, subℕ}
+use lib.IntN.{ℤ, pos, negsuc, natAbs, subℕ, negℤ}
 use mir.Syntax.{w8}
 use mir.Val.{Fits}
 use borrow.Author.Tests.{ltb-true, ltb-false, lt-ltb, le-ltb}
-use Rattle.wire.specs.Numbers.{number, numberAt, le, signed, figureIn, Bytes, none, more}
+use Rattle.wire.specs.Numbers.{number, numberAt, le, signed, minusWord, figureIn, Bytes, none, more}
 
 -- ---- bytes
 
@@ -182,11 +182,27 @@ signed-sub w b s = go (ltb b s) refl
         let h = ltb-false b s e in
         turn w (b - s) (b + (256 ^ w - 1) * s) s (omega (arith, ones (256 ^ w) s (one-le-pow w 256 (omega arith))))
 
+-- the same, of a word to which the second number adds up to the first, but for whole turns
+pub signed-difference : (w b s r : ℕ) → (r + s) % 256 ^ w ≡ b → le w r ≡ signed w (subℕ b s)
+signed-difference w b s r e =
+    let m : ℕ = 256 ^ w in
+    let q : ℕ = (r + s) / m in
+    let split : b + m * q ≡ r + s = ap (λ (x : ℕ). x + m * q) (sym e) ∙ mod-add-div (r + s) m in
+    turn w r (r + m * s) s refl
+    ∙ sym (turn w (b + (m - 1) * s) (r + m * s) q (omega (arith, ones m s (one-le-pow w 256 (omega arith)))))
+    ∙ sym (signed-sub w b s)
+
 -- two's complement
 pub signed-minus : (w n : ℕ) → n < 256 ^ w → signed w (negsuc n) ≡ le w (256 ^ w - suc n)
 unfolding signed
 signed-minus w n h =
     sym (turn w (256 ^ w - suc n) ((256 ^ w - 1) * suc n) n (omega (arith, ones (256 ^ w) (suc n) (omega arith))))
+
+-- minus a number, as a word, is its signed number
+pub minus-signed : (w v : ℕ) → v ≤ 256 ^ w → le w (minusWord w v) ≡ signed w (negℤ (pos v))
+unfolding signed
+minus-signed w zero h = let e : 256 ^ w - 0 ≡ 256 ^ w = omega arith in rw e (ap (le w) (mod-self (256 ^ w)))
+minus-signed w (suc n) h = ap (le w) (mod-eq-of-lt (omega arith)) ∙ sym (signed-minus w n (omega arith))
 
 plus-back : (n : ℕ) → n < 2 ^ 63 → figureIn (signed 8 (pos n)) ≡ pos n
 unfolding figureIn signed

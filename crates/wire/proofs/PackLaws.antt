@@ -9,6 +9,7 @@ use Rattle.wire.specs.Numbers.{number, numberAt, le, Bytes, none}
 use Rattle.wire.specs.Regions.{splice}
 use Rattle.wire.specs.Parts.{flat, cut, startOf, Wide, pieces, pack, unpack, Small}
 use Rattle.wire.proofs.NumberLaws.{length-le, number-le, le-number-wide, bytes-le, bytes-take, bytes-drop, bytes-append, number-at-small}
+use Rattle.wire.proofs.RegionLaws.{splice-none, splice-append, splice-all, length-splice}
 use Rattle.wire.proofs.PartLaws.{write-whole, length-flat, cut-flat, flat-cut, length-cut, cut-at, number-inner}
 
 pub wide-pieces : (ws vs : List ℕ) → length ws ≡ length vs → Wide ws (pieces ws vs)
@@ -85,6 +86,29 @@ unpack-from (w ∷ ws) s at = rw (drop-drop w at s, unpack-from ws s (at + w))
 -- numbers that were read at their places pack to the same bytes
 pub pack-numbers : (ws : List ℕ) {s : List ℕ} → Bytes s → length s ≡ startOf ws (length ws) → pack ws (numbersAt s 0 ws) ≡ s
 pack-numbers ws {s} h l = ap (pack ws) (sym (unpack-from ws s 0)) ∙ pack-unpack ws h l
+
+-- numbers put side by side from a place on, each in its width
+abbrev pub putAll : List ℕ → ℕ → List ℕ → List ℕ → List ℕ
+putAll s at [] vs = s
+putAll s at (w ∷ ws) [] = s
+putAll s at (w ∷ ws) (v ∷ vs) = putAll (splice s at (le w v)) (at + w) ws vs
+
+put-region : (ws vs s : List ℕ) (at : ℕ) → length ws ≡ length vs → at + startOf ws (length ws) ≤ length s
+    → putAll s at ws vs ≡ splice s at (pack ws vs)
+unfolding pack flat pieces
+put-region [] [] s at n h = sym (splice-none s at)
+put-region [] (v ∷ vs) s at n h = absurd (omega arith)
+put-region (w ∷ ws) [] s at n h = absurd (omega arith)
+put-region (w ∷ ws) (v ∷ vs) s at n h =
+    let l : length (le w v) ≡ w = length-le w v in
+    put-region ws vs (splice s at (le w v)) (at + w) (omega arith) (omega (arith, length-splice s at (le w v) (omega arith)))
+    ∙ ap (λ (k : ℕ). splice (splice s at (le w v)) (at + k) (pack ws vs)) (sym l)
+    ∙ splice-append s at (le w v) (pack ws vs) (omega arith)
+
+-- numbers put one after the other over as many bytes are the packed ones
+pub put-pack : (ws vs s : List ℕ) {t : List ℕ} → length ws ≡ length vs → length s ≡ startOf ws (length ws) → t ≡ putAll s 0 ws vs → t ≡ pack ws vs
+put-pack ws vs s n h e =
+    e ∙ put-region ws vs s 0 n (omega arith) ∙ splice-all s (pack ws vs) (length-pack ws vs n ∙ sym h)
 
 -- number k of bytes that stand in others
 pub unpack-inner : (ws s : List ℕ) (k m at : ℕ) → startOf ws k + getD ws k 0 ≤ m

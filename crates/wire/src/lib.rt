@@ -1,3 +1,4 @@
-// Numbers and regions of byte slices.
+// Numbers and regions of byte slices, and signed numbers as words.
 pub mod numbers;
 pub mod regions;
+pub mod signed;

@@ -1,4 +1,4 @@
-// Numbers in bytes, low byte first: read from a place of a slice, and written there.
+// Numbers in bytes, low byte first: as arrays of bytes, read from a place of a slice, and written there.
 ghost use mathlib.Core.Path.{_≡_};
 ghost use Prim.Native.Nat.{_+_, _≤_};
 ghost use lib.ListN.{length};
@@ -6,8 +6,40 @@ ghost use Rattle.wire.specs.Numbers.{numberAt, le};
 ghost use Rattle.wire.specs.Regions.{splice};
 use crate::regions::copy_in;
 
-// The greatest number of 8 bytes.
-pub const ALL_ONES: u64 = 18_446_744_073_709_551_615;
+// The 2 bytes of `v`.
+pub fn u16_bytes(v: u16) -> [u8; 2]
+    ensures { λ r. ⌜ r ≡ le 2 v ⌝ }
+{
+    [(v % 256) as u8, (v / 256 % 256) as u8]
+}
+
+// The 4 bytes of `v`.
+pub fn u32_bytes(v: u32) -> [u8; 4]
+    ensures { λ r. ⌜ r ≡ le 4 v ⌝ }
+{
+    [
+        (v % 256) as u8,
+        (v / 256 % 256) as u8,
+        (v / 256 / 256 % 256) as u8,
+        (v / 256 / 256 / 256 % 256) as u8,
+    ]
+}
+
+// The 8 bytes of `v`.
+pub fn u64_bytes(v: u64) -> [u8; 8]
+    ensures { λ r. ⌜ r ≡ le 8 v ⌝ }
+{
+    [
+        (v % 256) as u8,
+        (v / 256 % 256) as u8,
+        (v / 256 / 256 % 256) as u8,
+        (v / 256 / 256 / 256 % 256) as u8,
+        (v / 256 / 256 / 256 / 256 % 256) as u8,
+        (v / 256 / 256 / 256 / 256 / 256 % 256) as u8,
+        (v / 256 / 256 / 256 / 256 / 256 / 256 % 256) as u8,
+        (v / 256 / 256 / 256 / 256 / 256 / 256 / 256 % 256) as u8,
+    ]
+}
 
 // The byte at `at`.
 pub fn get_u8(s: &[u8], at: usize) -> u8
@@ -61,8 +93,7 @@ pub fn put_u16(s: &mut [u8], at: usize, v: u16)
     requires { ⌜ at + 2 ≤ length (now s) ⌝ }
     ensures { λ _. ⌜ now (s .exit) ≡ splice (now (s .entry)) at (le 2 v) ⌝ }
 {
-    let b = [(v % 256) as u8, (v / 256 % 256) as u8];
-    copy_in(s, at, &b);
+    copy_in(s, at, &u16_bytes(v));
 }
 
 // Puts `v` into the 4 bytes from `at` on.
@@ -70,13 +101,7 @@ pub fn put_u32(s: &mut [u8], at: usize, v: u32)
     requires { ⌜ at + 4 ≤ length (now s) ⌝ }
     ensures { λ _. ⌜ now (s .exit) ≡ splice (now (s .entry)) at (le 4 v) ⌝ }
 {
-    let b = [
-        (v % 256) as u8,
-        (v / 256 % 256) as u8,
-        (v / 256 / 256 % 256) as u8,
-        (v / 256 / 256 / 256 % 256) as u8,
-    ];
-    copy_in(s, at, &b);
+    copy_in(s, at, &u32_bytes(v));
 }
 
 // Puts `v` into the 8 bytes from `at` on.
@@ -84,15 +109,5 @@ pub fn put_u64(s: &mut [u8], at: usize, v: u64)
     requires { ⌜ at + 8 ≤ length (now s) ⌝ }
     ensures { λ _. ⌜ now (s .exit) ≡ splice (now (s .entry)) at (le 8 v) ⌝ }
 {
-    let b = [
-        (v % 256) as u8,
-        (v / 256 % 256) as u8,
-        (v / 256 / 256 % 256) as u8,
-        (v / 256 / 256 / 256 % 256) as u8,
-        (v / 256 / 256 / 256 / 256 % 256) as u8,
-        (v / 256 / 256 / 256 / 256 / 256 % 256) as u8,
-        (v / 256 / 256 / 256 / 256 / 256 / 256 % 256) as u8,
-        (v / 256 / 256 / 256 / 256 / 256 / 256 / 256 % 256) as u8,
-    ];
-    copy_in(s, at, &b);
+    copy_in(s, at, &u64_bytes(v));
 }

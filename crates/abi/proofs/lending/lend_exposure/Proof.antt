@@ -11,8 +11,8 @@ enum-known-reading c = search needs
 enum-known-reading-2 : tie.Need-enum-known-reading-2
 enum-known-reading-2 c = search needs
 
-word-bytes-requires : tie.Need-word-bytes-requires
-word-bytes-requires c κs = search needs
+u64-bytes-requires : tie.Need-u64-bytes-requires
+u64-bytes-requires c κs = search needs
 
 slice-aggregate-lend : tie.Need-slice-aggregate-lend
 slice-aggregate-lend c = search needs
@@ -27,7 +27,7 @@ same-length : tie.Need-same-length
 same-length c = search needs
 
 returns-2 : tie.Need-returns-2
-returns-2 c = rw (c .before .before .before .before .before .before .before .reading2 .given .1, ← c .before .before .before .before .before .word-bytes .ensures) (ap numbers (c .before .before .lend .ensures .0), c .before .before .lend .ensures .1)
+returns-2 c = rw (c .before .before .before .before .before .before .before .reading2 .given .1, ← c .before .before .before .before .before .u64-bytes .ensures) (ap numbers (c .before .before .lend .ensures .0), c .before .before .lend .ensures .1)
 
 pub lend-exposure-spec : {M : Type 1} → statement M
 lend-exposure-spec =
@@ -35,7 +35,7 @@ lend-exposure-spec =
     (tie.spec
     enum-known-reading
     enum-known-reading-2
-    word-bytes-requires
+    u64-bytes-requires
     slice-aggregate-lend
     lend-requires
     returns

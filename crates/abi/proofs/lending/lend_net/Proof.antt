@@ -14,8 +14,8 @@ enum-known-reading-2 c = search needs
 position-word-requires : tie.Need-position-word-requires
 position-word-requires c κs = search needs
 
-word-bytes-requires : tie.Need-word-bytes-requires
-word-bytes-requires c κs = search needs
+u64-bytes-requires : tie.Need-u64-bytes-requires
+u64-bytes-requires c κs = search needs
 
 slice-aggregate-lend : tie.Need-slice-aggregate-lend
 slice-aggregate-lend c = search needs
@@ -30,7 +30,7 @@ same-length : tie.Need-same-length
 same-length c = search needs
 
 returns-2 : tie.Need-returns-2
-returns-2 c = rw (c .before .before .before .before .before .before .before .before .reading2 .given .1, ← (c .before .before .before .before .before .word-bytes .ensures ∙ c .before .before .before .before .before .before .position-word .ensures)) (ap numbers (c .before .before .lend .ensures .0), c .before .before .lend .ensures .1)
+returns-2 c = rw (c .before .before .before .before .before .before .before .before .reading2 .given .1, ← (c .before .before .before .before .before .u64-bytes .ensures ∙ c .before .before .before .before .before .before .position-word .ensures)) (ap numbers (c .before .before .lend .ensures .0), c .before .before .lend .ensures .1)
 
 pub lend-net-spec : {M : Type 1} → statement M
 lend-net-spec =
@@ -39,7 +39,7 @@ lend-net-spec =
     enum-known-reading
     enum-known-reading-2
     position-word-requires
-    word-bytes-requires
+    u64-bytes-requires
     slice-aggregate-lend
     lend-requires
     returns

@@ -21,19 +21,17 @@ returns c =
     net-bought (start .args .book .now) (given .0) (start .args .account) (start .args .hour) (given .1) (given .2) (read .stored-net .result) (read .stored-net .ensures)
     (c .if1 .taken)
 
-sub-t9 : tie.Need-sub-t9
-sub-t9 c = search needs
-
-add-t10 : tie.Need-add-t10
-add-t10 c = search needs
+minus-u32-requires : tie.Need-minus-u32-requires
+minus-u32-requires c κs = search needs
 
 returns-2 : tie.Need-returns-2
 returns-2 c =
-    let read = c .before in
+    let sold = c .before in
+    let read = sold .before in
     let start = read .before .before in
     let given = start .pre in
     net-sold (start .args .book .now) (given .0) (start .args .account) (start .args .hour) (given .1) (given .2) (read .stored-net .result) (read .stored-net .ensures)
-    (c .if1 .left) _ (omega arith)
+    (sold .if1 .left) _ (omega arith)
 
 pub net-at-spec : {M : Type 1} → statement M
-net-at-spec = tie.close (tie.spec stored-net-requires returns sub-t9 add-t10 returns-2)
+net-at-spec = tie.close (tie.spec stored-net-requires returns minus-u32-requires returns-2)

@@ -1,62 +1,83 @@
--- The bytes are those of each value, by nested division.
-use Rattle.image.proofs.Writing.Literals.{row-literal}
+-- Each field is put at its place, one after the other, over as many bytes.
+use mathlib.Core.Path.{refl}
+use lib.ListN.{replicate}
 use borrow.Author.Needs.{needs}
+use Rattle.wire.proofs.PackLaws.{put-pack}
+use Rattle.image.specs.Layout.{rowWidths, rowWidth}
+use Rattle.image.specs.Image.{rowBytes}
 use Rattle.image.proofs.rows.row_bytes.Statement.{statement}
 use Rattle.image.proofs.rows.row_bytes.Tie as tie
 
-cast-t5 : tie.Need-cast-t5
-cast-t5 c = search needs
+slice-aggregate-put-u8 : tie.Need-slice-aggregate-put-u8
+slice-aggregate-put-u8 c = search needs
 
-cast-t8 : tie.Need-cast-t8
-cast-t8 c = search needs
+put-u8-requires : tie.Need-put-u8-requires
+put-u8-requires c κs = search needs
 
-cast-t12 : tie.Need-cast-t12
-cast-t12 c = search needs
+slice-aggregate-put-u8-2 : tie.Need-slice-aggregate-put-u8-2
+slice-aggregate-put-u8-2 c = search needs
 
-cast-t17 : tie.Need-cast-t17
-cast-t17 c = search needs
+put-u8-requires-2 : tie.Need-put-u8-requires-2
+put-u8-requires-2 c κs = search needs
 
-cast-t23 : tie.Need-cast-t23
-cast-t23 c = search needs
+slice-aggregate-put-u64 : tie.Need-slice-aggregate-put-u64
+slice-aggregate-put-u64 c = search needs
 
-cast-t30 : tie.Need-cast-t30
-cast-t30 c = search needs
+put-u64-requires : tie.Need-put-u64-requires
+put-u64-requires c κs = search needs
 
-cast-t38 : tie.Need-cast-t38
-cast-t38 c = search needs
+slice-aggregate-put-u8-3 : tie.Need-slice-aggregate-put-u8-3
+slice-aggregate-put-u8-3 c = search needs
 
-cast-t47 : tie.Need-cast-t47
-cast-t47 c = search needs
+put-u8-requires-3 : tie.Need-put-u8-requires-3
+put-u8-requires-3 c κs = search needs
 
-cast-t49 : tie.Need-cast-t49
-cast-t49 c = search needs
+slice-aggregate-put-u8-4 : tie.Need-slice-aggregate-put-u8-4
+slice-aggregate-put-u8-4 c = search needs
 
-cast-t52 : tie.Need-cast-t52
-cast-t52 c = search needs
+put-u8-requires-4 : tie.Need-put-u8-requires-4
+put-u8-requires-4 c κs = search needs
 
-cast-t56 : tie.Need-cast-t56
-cast-t56 c = search needs
+slice-aggregate-put-u8-5 : tie.Need-slice-aggregate-put-u8-5
+slice-aggregate-put-u8-5 c = search needs
 
-cast-t61 : tie.Need-cast-t61
-cast-t61 c = search needs
+put-u8-requires-5 : tie.Need-put-u8-requires-5
+put-u8-requires-5 c κs = search needs
+
+slice-aggregate-put-u32 : tie.Need-slice-aggregate-put-u32
+slice-aggregate-put-u32 c = search needs
+
+put-u32-requires : tie.Need-put-u32-requires
+put-u32-requires c κs = search needs
+
+slice-aggregate-put-u8-6 : tie.Need-slice-aggregate-put-u8-6
+slice-aggregate-put-u8-6 c = search needs
+
+put-u8-requires-6 : tie.Need-put-u8-requires-6
+put-u8-requires-6 c κs = search needs
 
 returns : tie.Need-returns
-returns c = row-literal _ (c .pre)
+unfolding rowBytes
+returns c = put-pack rowWidths _ (replicate rowWidth 0) refl refl (cc)
 
 pub row-bytes-spec : {M : Type 1} → statement M
 row-bytes-spec =
     tie.close
     (tie.spec
-    cast-t5
-    cast-t8
-    cast-t12
-    cast-t17
-    cast-t23
-    cast-t30
-    cast-t38
-    cast-t47
-    cast-t49
-    cast-t52
-    cast-t56
-    cast-t61
+    slice-aggregate-put-u8
+    put-u8-requires
+    slice-aggregate-put-u8-2
+    put-u8-requires-2
+    slice-aggregate-put-u64
+    put-u64-requires
+    slice-aggregate-put-u8-3
+    put-u8-requires-3
+    slice-aggregate-put-u8-4
+    put-u8-requires-4
+    slice-aggregate-put-u8-5
+    put-u8-requires-5
+    slice-aggregate-put-u32
+    put-u32-requires
+    slice-aggregate-put-u8-6
+    put-u8-requires-6
     returns)

@@ -1,37 +1,59 @@
--- The bytes are those of each value, by nested division.
-use Rattle.image.proofs.Writing.Literals.{schedule-literal}
+-- Each field is put at its place, one after the other, over as many bytes.
+use mathlib.Core.Path.{refl}
+use lib.ListN.{replicate}
 use borrow.Author.Needs.{needs}
+use Rattle.wire.proofs.PackLaws.{put-pack}
+use Rattle.image.specs.Layout.{scheduleWidths, scheduleWidth}
+use Rattle.image.specs.Image.{scheduleBytes}
 use Rattle.image.proofs.schedules.schedule_bytes.Statement.{statement}
 use Rattle.image.proofs.schedules.schedule_bytes.Tie as tie
 
-cast-t5 : tie.Need-cast-t5
-cast-t5 c = search needs
+slice-aggregate-put-u8 : tie.Need-slice-aggregate-put-u8
+slice-aggregate-put-u8 c = search needs
 
-cast-t8 : tie.Need-cast-t8
-cast-t8 c = search needs
+put-u8-requires : tie.Need-put-u8-requires
+put-u8-requires c κs = search needs
 
-cast-t12 : tie.Need-cast-t12
-cast-t12 c = search needs
+slice-aggregate-put-u8-2 : tie.Need-slice-aggregate-put-u8-2
+slice-aggregate-put-u8-2 c = search needs
 
-cast-t17 : tie.Need-cast-t17
-cast-t17 c = search needs
+put-u8-requires-2 : tie.Need-put-u8-requires-2
+put-u8-requires-2 c κs = search needs
 
-cast-t19 : tie.Need-cast-t19
-cast-t19 c = search needs
+slice-aggregate-put-u8-3 : tie.Need-slice-aggregate-put-u8-3
+slice-aggregate-put-u8-3 c = search needs
 
-cast-t22 : tie.Need-cast-t22
-cast-t22 c = search needs
+put-u8-requires-3 : tie.Need-put-u8-requires-3
+put-u8-requires-3 c κs = search needs
 
-cast-t26 : tie.Need-cast-t26
-cast-t26 c = search needs
+slice-aggregate-put-u32 : tie.Need-slice-aggregate-put-u32
+slice-aggregate-put-u32 c = search needs
 
-cast-t31 : tie.Need-cast-t31
-cast-t31 c = search needs
+put-u32-requires : tie.Need-put-u32-requires
+put-u32-requires c κs = search needs
+
+slice-aggregate-put-u32-2 : tie.Need-slice-aggregate-put-u32-2
+slice-aggregate-put-u32-2 c = search needs
+
+put-u32-requires-2 : tie.Need-put-u32-requires-2
+put-u32-requires-2 c κs = search needs
 
 returns : tie.Need-returns
-returns c = schedule-literal _ (c .pre)
+unfolding scheduleBytes
+returns c = put-pack scheduleWidths _ (replicate scheduleWidth 0) refl refl (cc)
 
 pub schedule-bytes-spec : {M : Type 1} → statement M
 schedule-bytes-spec =
     tie.close
-    (tie.spec cast-t5 cast-t8 cast-t12 cast-t17 cast-t19 cast-t22 cast-t26 cast-t31 returns)
+    (tie.spec
+    slice-aggregate-put-u8
+    put-u8-requires
+    slice-aggregate-put-u8-2
+    put-u8-requires-2
+    slice-aggregate-put-u8-3
+    put-u8-requires-3
+    slice-aggregate-put-u32
+    put-u32-requires
+    slice-aggregate-put-u32-2
+    put-u32-requires-2
+    returns)

@@ -27,11 +27,8 @@ net-offset-requires c κs =
     let start = sold .before .before .before .before in
     rw (sold .seller .ensures) (first-hour (start .args .r) _ (start .pre .1) (seller-in (start .args .r) (start .pre .1)))
 
-sub-raise-nets : tie.Need-sub-raise-nets
-sub-raise-nets c = search needs
-
-add-raise-nets : tie.Need-add-raise-nets
-add-raise-nets c = search needs
+minus-u32-requires : tie.Need-minus-u32-requires
+minus-u32-requires c κs = search needs
 
 raise-nets-requires : tie.Need-raise-nets-requires
 raise-nets-requires c κs = search needs
@@ -69,8 +66,7 @@ move-nets-spec =
     seller-requires
     buyer-requires
     net-offset-requires
-    sub-raise-nets
-    add-raise-nets
+    minus-u32-requires
     raise-nets-requires
     net-offset-requires-2
     raise-nets-requires-2

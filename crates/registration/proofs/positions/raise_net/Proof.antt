@@ -9,14 +9,8 @@ use Rattle.registration.proofs.positions.raise_net.Tie as tie
 get-u32-requires : tie.Need-get-u32-requires
 get-u32-requires c κs = search needs
 
-cast-sum : tie.Need-cast-sum
-cast-sum c = search needs
-
-add-sum : tie.Need-add-sum
-add-sum c = search needs
-
-cast-put-u32 : tie.Need-cast-put-u32
-cast-put-u32 c = search needs
+wrapping-add-u32-requires : tie.Need-wrapping-add-u32-requires
+wrapping-add-u32-requires c κs = search needs
 
 put-u32-requires : tie.Need-put-u32-requires
 put-u32-requires c κs = search needs
@@ -25,9 +19,13 @@ same-length : tie.Need-same-length
 same-length c = search needs
 
 returns : tie.Need-returns
-returns c = c .before .before .put-u32 .ensures ∙ sym (raised-step 4 _ _ _ _ (omega (arith, c .before .before .before .before .get-u32 .ensures)))
+returns c =
+    let put = c .before .before in
+    let added = put .before in
+    put .put-u32 .ensures
+    ∙ sym (raised-step 4 _ _ _ _ (omega (arith, added .wrapping-add-u32 .ensures, added .before .get-u32 .ensures)))
 
 pub raise-net-spec : {M : Type 1} → statement M
 raise-net-spec =
     tie.close
-    (tie.spec get-u32-requires cast-sum add-sum cast-put-u32 put-u32-requires same-length returns)
+    (tie.spec get-u32-requires wrapping-add-u32-requires put-u32-requires same-length returns)

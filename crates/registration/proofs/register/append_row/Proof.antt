@@ -5,7 +5,7 @@ use Rattle.registration.proofs.register.append_row.Statement.{statement
 use Rattle.registration.proofs.register.append_row.Tie as tie
 
 row-bytes-requires : tie.Need-row-bytes-requires
-row-bytes-requires c κs = c .before .pre .2
+row-bytes-requires c κs = search needs
 
 add-copy-in : tie.Need-add-copy-in
 add-copy-in c = search needs

@@ -1,14 +1,10 @@
--- The bytes are those of the number, by nested division.
-use Rattle.wire.specs.Numbers.{le}
+-- The bytes of the number are copied in.
 use borrow.Author.Needs.{needs}
 use Rattle.wire.proofs.numbers.put_u16.Statement.{statement}
 use Rattle.wire.proofs.numbers.put_u16.Tie as tie
 
-cast-t6 : tie.Need-cast-t6
-cast-t6 c = search needs
-
-cast-t9 : tie.Need-cast-t9
-cast-t9 c = search needs
+u16-bytes-requires : tie.Need-u16-bytes-requires
+u16-bytes-requires c κs = search needs
 
 slice-aggregate-copy-in : tie.Need-slice-aggregate-copy-in
 slice-aggregate-copy-in c = search needs
@@ -20,10 +16,9 @@ same-length : tie.Need-same-length
 same-length c = search needs
 
 returns : tie.Need-returns
-unfolding le
-returns c = search needs
+returns c = cc
 
 pub put-u16-spec : {M : Type 1} → statement M
 put-u16-spec =
     tie.close
-    (tie.spec cast-t6 cast-t9 slice-aggregate-copy-in copy-in-requires same-length returns)
+    (tie.spec u16-bytes-requires slice-aggregate-copy-in copy-in-requires same-length returns)

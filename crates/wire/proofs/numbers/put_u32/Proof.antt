@@ -1,20 +1,10 @@
--- The bytes are those of the number, by nested division.
-use Rattle.wire.specs.Numbers.{le}
+-- The bytes of the number are copied in.
 use borrow.Author.Needs.{needs}
 use Rattle.wire.proofs.numbers.put_u32.Statement.{statement}
 use Rattle.wire.proofs.numbers.put_u32.Tie as tie
 
-cast-t6 : tie.Need-cast-t6
-cast-t6 c = search needs
-
-cast-t9 : tie.Need-cast-t9
-cast-t9 c = search needs
-
-cast-t13 : tie.Need-cast-t13
-cast-t13 c = search needs
-
-cast-t18 : tie.Need-cast-t18
-cast-t18 c = search needs
+u32-bytes-requires : tie.Need-u32-bytes-requires
+u32-bytes-requires c κs = search needs
 
 slice-aggregate-copy-in : tie.Need-slice-aggregate-copy-in
 slice-aggregate-copy-in c = search needs
@@ -26,18 +16,9 @@ same-length : tie.Need-same-length
 same-length c = search needs
 
 returns : tie.Need-returns
-unfolding le
-returns c = search needs
+returns c = cc
 
 pub put-u32-spec : {M : Type 1} → statement M
 put-u32-spec =
     tie.close
-    (tie.spec
-    cast-t6
-    cast-t9
-    cast-t13
-    cast-t18
-    slice-aggregate-copy-in
-    copy-in-requires
-    same-length
-    returns)
+    (tie.spec u32-bytes-requires slice-aggregate-copy-in copy-in-requires same-length returns)

@@ -1,32 +1,10 @@
--- The bytes are those of the number, by nested division.
-use Rattle.wire.specs.Numbers.{le}
+-- The bytes of the number are copied in.
 use borrow.Author.Needs.{needs}
 use Rattle.wire.proofs.numbers.put_u64.Statement.{statement}
 use Rattle.wire.proofs.numbers.put_u64.Tie as tie
 
-cast-t6 : tie.Need-cast-t6
-cast-t6 c = search needs
-
-cast-t9 : tie.Need-cast-t9
-cast-t9 c = search needs
-
-cast-t13 : tie.Need-cast-t13
-cast-t13 c = search needs
-
-cast-t18 : tie.Need-cast-t18
-cast-t18 c = search needs
-
-cast-t24 : tie.Need-cast-t24
-cast-t24 c = search needs
-
-cast-t31 : tie.Need-cast-t31
-cast-t31 c = search needs
-
-cast-t39 : tie.Need-cast-t39
-cast-t39 c = search needs
-
-cast-t48 : tie.Need-cast-t48
-cast-t48 c = search needs
+u64-bytes-requires : tie.Need-u64-bytes-requires
+u64-bytes-requires c κs = search needs
 
 slice-aggregate-copy-in : tie.Need-slice-aggregate-copy-in
 slice-aggregate-copy-in c = search needs
@@ -38,22 +16,9 @@ same-length : tie.Need-same-length
 same-length c = search needs
 
 returns : tie.Need-returns
-unfolding le
-returns c = search needs
+returns c = cc
 
 pub put-u64-spec : {M : Type 1} → statement M
 put-u64-spec =
     tie.close
-    (tie.spec
-    cast-t6
-    cast-t9
-    cast-t13
-    cast-t18
-    cast-t24
-    cast-t31
-    cast-t39
-    cast-t48
-    slice-aggregate-copy-in
-    copy-in-requires
-    same-length
-    returns)
+    (tie.spec u64-bytes-requires slice-aggregate-copy-in copy-in-requires same-length returns)

@@ -1,9 +1,9 @@
 -- The bytes are those of the number, by nested division.
 use mathlib.Core.Path.{refl}
-use Rattle.wire.specs.Numbers.{le}
 use borrow.Author.Needs.{needs}
-use Rattle.abi.proofs.lending.word_bytes.Statement.{statement}
-use Rattle.abi.proofs.lending.word_bytes.Tie as tie
+use Rattle.wire.specs.Numbers.{le}
+use Rattle.wire.proofs.numbers.u64_bytes.Statement.{statement}
+use Rattle.wire.proofs.numbers.u64_bytes.Tie as tie
 
 cast-t3 : tie.Need-cast-t3
 cast-t3 c = search needs
@@ -33,7 +33,7 @@ returns : tie.Need-returns
 unfolding le
 returns c = refl
 
-pub word-bytes-spec : {M : Type 1} → statement M
-word-bytes-spec =
+pub u64-bytes-spec : {M : Type 1} → statement M
+u64-bytes-spec =
     tie.close
     (tie.spec cast-t3 cast-t6 cast-t10 cast-t15 cast-t21 cast-t28 cast-t36 cast-t45 returns)
