@@ -12,7 +12,7 @@ use lib.ListN.{length, getD, take, drop, replicate, length-drop, take-append-dro
 use lib.Seq.{take-take, length-take-le, take-all, drop-drop, drop-at}
 use Rattle.wire.specs.Numbers.{number, numberAt, le, Bytes}
 use Rattle.wire.specs.Regions.{zerosFrom}
-use Rattle.wire.specs.Parts.{zeros, padded}
+use Rattle.wire.specs.Parts.{zeros, padded, chunks}
 use Rattle.wire.proofs.NumberLaws.{number-le, le-number-wide, bytes-take, bytes-drop}
 use Rattle.wire.proofs.ZeroLaws.{le-zero, zeros-read, zeros-tested}
 use Rattle.wire.proofs.PartLaws.{inner}
@@ -50,7 +50,7 @@ lodged-none s at b l =
 
 no-guarantees : (n : ℕ) (s : List ℕ) (at : ℕ) → Bytes s → at + operatorEntry * n ≤ length s
     → (noGuarantees s at n ≡ true) ↔ (map (λ x. x .guarantee) (entries operatorEntry operatorIn n (drop at s)) ≡ replicate n (cents 0))
-unfolding noGuarantees entries
+unfolding noGuarantees entries chunks
 no-guarantees zero s at b l = ((λ t. refl), (λ e. refl))
 no-guarantees (suc n) s at b l =
     let one = lodged-none s at b (omega arith) in

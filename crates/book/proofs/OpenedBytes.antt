@@ -6,17 +6,17 @@ use mathlib.Core.List.{List, [], _∷_, _++_, map, append-assoc}
 use mathlib.Core.Option.{none}
 use native.Mathlib.Nat.{mul-zero, add-zero}
 use native.Mathlib.Omega.{arith}
-use lib.ListN.{length, set, take, drop, replicate, length-map, length-append, length-drop, take-append-drop}
+use lib.ListN.{length, set, take, drop, replicate, length-append, length-drop, take-append-drop}
 use lib.Seq.{take-all, drop-drop, length-take-le}
 use Rattle.wire.specs.Numbers.{numberAt, le, signed, Bytes}
 use Rattle.wire.specs.Regions.{splice}
-use Rattle.wire.specs.Parts.{zeros, padded, flat, startOf, slots}
+use Rattle.wire.specs.Parts.{zeros, padded, flat, startOf, slots, chunks}
 use Rattle.wire.proofs.NumberLaws.{length-le, le-number-wide, bytes-take, bytes-drop}
 use Rattle.wire.proofs.RegionLaws.{splice-take-drop, length-splice, splice-left, splice-right}
 use Rattle.wire.proofs.ZeroLaws.{length-zeros, zeros-none, zeros-add, le-zero, splice-zeros, length-padded}
 use Rattle.wire.proofs.PartLaws.{write-part, write-whole, wide-zeros, wide-set, flat-zeros}
 use Rattle.wire.proofs.PackLaws.{write-number}
-use Rattle.wire.proofs.SlotLaws.{uniform-map, length-uniform, slots-split, slots-none}
+use Rattle.wire.proofs.SlotLaws.{slots-split, slots-none}
 use Rattle.units.specs.declared.Cents.{Cents}
 use Rattle.units.specs.Units.{cents}
 use Rattle.rules.specs.declared.Counts.{Counts}
@@ -61,14 +61,14 @@ guarantee-bytes s from b l =
 
 -- guarantees side by side
 abbrev pub guaranteesBytes : List Cents → List ℕ
-guaranteesBytes gs = flat (map (λ g. le guaranteeWidth (g .0)) gs)
+guaranteesBytes gs = joined (λ g. le guaranteeWidth (g .0)) gs
 
 pub length-guarantees-bytes : (gs : List Cents) → length (guaranteesBytes gs) ≡ guaranteeWidth * length gs
-length-guarantees-bytes gs = length-uniform 8 (map (λ g. le guaranteeWidth (g .0)) gs) (uniform-map 8 (λ g. le guaranteeWidth (g .0)) gs length-guarantee) ∙ rw length-map
+length-guarantees-bytes gs = length-joined guaranteeWidth (λ g. le guaranteeWidth (g .0)) gs length-guarantee
 
 copied : (n : ℕ) (d : List ℕ) (at : ℕ) (s : List ℕ) (from : ℕ) → Bytes s → from + operatorEntry * n ≤ length s → at + guaranteeWidth * n ≤ length d
     → guaranteesPut d at s from n ≡ splice d at (guaranteesBytes (map (λ x. x .guarantee) (entries operatorEntry operatorIn n (drop from s))))
-unfolding guaranteesPut entries flat
+unfolding guaranteesPut entries joined chunks flat
 copied zero d at s from b l h = sym (splice-take-drop d at [] ∙ rw (add-zero at) (take-append-drop at d))
 copied (suc n) d at s from b l h =
     let x : List ℕ = take guaranteeWidth (drop from s) in
@@ -100,7 +100,7 @@ operator-emptied x = rw (← (le-zero guaranteeWidth)) (write-number (8 ∷ 2 �
 
 emptied-entries : (os : List Operator) (a rest : List ℕ) (at : ℕ) → at ≡ length a
     → guaranteesCleared (a ++ (joined operatorBytes os ++ rest)) at (length os) ≡ a ++ (joined operatorBytes (map emptied os) ++ rest)
-unfolding guaranteesCleared joined
+unfolding guaranteesCleared joined flat
 emptied-entries [] a rest at e = refl
 emptied-entries (x ∷ os) a rest at e =
     let y : List ℕ = operatorBytes (emptied x) in
@@ -183,7 +183,7 @@ nets-empty top =
 -- guarantees at the front of a part of zeros
 part-fresh : (top : ℕ) (gs : List Cents) → length gs ≤ mostOperators
     → splice (zeros (partSize top)) 0 (guaranteesBytes gs) ≡ partBytes top (record { guarantees = gs; rows = [] })
-unfolding partBytes partSections padded
+unfolding partBytes partSections padded joined
 part-fresh top gs h =
     let ws : List ℕ = partWidths top in
     let x : List ℕ = guaranteesBytes gs in

@@ -1,6 +1,6 @@
 -- All definitions that compute a replay, opened at once: an example says `unfolding everything`.
 use Rattle.wire.specs.Numbers.{number, numberAt, le, signed}
-use Rattle.wire.specs.Parts.{flat, pieces, pack}
+use Rattle.wire.specs.Parts.{flat, pieces, pack, chunks}
 use Rattle.rules.specs.Basics.{total, anyPasses, every, find, indexOf, entries, joined, sumOf, allOf, counting, bit}
 use Rattle.rules.specs.Verdicts.{firstToApply}
 use Rattle.rules.specs.Opening.{accountEntry, priceIn, operatorIn, accountIn, pointIn, estimatesIn, operatorsIn, accountsIn, pointsIn, setupOf, guaranteesOf, badCounts, misshapen, operatorsOf, setupBytes, valuesOf, estimateValues, operatorValues, accountValues, pointValues, values, faultyOffset, setupRefusal, openRefusal, openOutcome, opened}
@@ -14,7 +14,7 @@ use Rattle.rules.specs.Replay.{itemsWithin, items, callOf, numbered, ans
 use Rattle.rules.specs.Ledger.{blank, newLedger, without, pageAfter, feed, fed, fedAll, traded, ledgerNet, ledgerWaiting, ledgerHour, ledgerExposure, ledgerAvailable, ledgerSettled}
 
 unfoldable pub everything : Unit {0}
-unfolding number numberAt le signed flat pieces pack
+unfolding number numberAt le signed flat pieces pack chunks
     total anyPasses every find indexOf entries joined sumOf allOf counting bit
     firstToApply
     accountEntry priceIn operatorIn accountIn pointIn estimatesIn operatorsIn accountsIn pointsIn setupOf guaranteesOf badCounts misshapen operatorsOf

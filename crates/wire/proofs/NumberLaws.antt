@@ -220,7 +220,3 @@ minus-back n h =
 pub figure-back : (z : ℤ) → natAbs z < 2 ^ 63 → figureIn (signed 8 z) ≡ z
 figure-back (pos n) h = plus-back n h
 figure-back (negsuc n) h = minus-back n (omega arith)
-
--- a number that fits a byte is its low byte
-pub byte : (v : ℕ) → v < 256 → v % 256 ≡ v
-byte v h = omega arith

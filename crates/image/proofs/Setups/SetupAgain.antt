@@ -21,7 +21,7 @@ use Rattle.rules.specs.Opening.{priceIn, operatorIn, accountIn, pointIn, counts
 use Rattle.rules.proofs.Basics.Tests.{_and_, no-more, holds-all, holds-at, or-neither}
 use Rattle.rules.proofs.Checks.Clearing.{clear, clear-applies, spared}
 use Rattle.rules.proofs.Setups.SetupShape.{accepted-values}
-use Rattle.rules.proofs.Setups.SetupEntries.{entries-cells, length-entries, joined-entries, counts-of-setup}
+use Rattle.rules.proofs.Setups.SetupEntries.{length-entries, joined-entries, counts-of-setup}
 use Rattle.image.specs.Layout.{setupRoom}
 use Rattle.image.specs.Image.{storedSetup}
 use Rattle.image.specs.Valid.{setupTests, setupOk}
@@ -136,7 +136,8 @@ sound-accepted s l z h =
 
 module _ {A : Type 0} (w : ℕ) (say : List ℕ → A) where
   pub entries-first : (n at m : ℕ) (s : List ℕ) → at + w * n ≤ m → entries w say n (drop at (take m s)) ≡ entries w say n (drop at s)
-  entries-first n at m s h = rw (entries-cells w say n (drop at (take m s)), entries-cells w say n (drop at s), chunks-within w n at m s h)
+  unfolding entries
+  entries-first n at m s h = ap (map say) (chunks-within w n at m s h)
 
 pub counts-first-bytes : (m : ℕ) (s : List ℕ) → countsWidth ≤ m → countsIn (take m s) ≡ countsIn s
 counts-first-bytes m s h =

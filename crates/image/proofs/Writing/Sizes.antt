@@ -143,9 +143,7 @@ length-image top size b f h = length-flat (bookWidths top size) (sections top si
 pub length-joined : {A : Type 0} (w : ℕ) (bytes : A → List ℕ) (xs : List A) → ((x : A) → length (bytes x) ≡ w)
     → length (joined bytes xs) ≡ w * length xs
 unfolding joined
-length-joined w bytes [] h = omega arith
-length-joined w bytes (x ∷ xs) h =
-    length-append (bytes x) (joined bytes xs) ∙ omega (arith, h x, length-joined w bytes xs h)
+length-joined w bytes xs h = length-uniform w (map bytes xs) (uniform-map w bytes xs h) ∙ rw (length-map xs bytes)
 
 pub length-operator-bytes : (x : Operator) → length (operatorBytes x) ≡ operatorEntry
 length-operator-bytes x = length-pack (8 ∷ 2 ∷ []) _ refl

@@ -1,7 +1,7 @@
 -- Entries side by side in bytes: each by its number, there and back; what set-up bytes say, read at their own places.
 use Prim.Native.Nat.{ℕ, zero, suc, _+_, _-_, _*_, _≤_, _<_}
 use mathlib.Core.Path.{_≡_, refl, ap, _∙_}
-use mathlib.Core.List.{List, [], _∷_, _++_, map, append-assoc}
+use mathlib.Core.List.{List, [], _∷_, _++_, append-assoc}
 use native.Mathlib.Nat.{add-zero}
 use native.Mathlib.Numerals.{add-one}
 use native.Mathlib.Omega.{arith}
@@ -22,17 +22,13 @@ use Rattle.rules.proofs.Basics.Products.{stride}
 -- ---- entries by number
 
 module _ {A : Type 0} (w : ℕ) (say : List ℕ → A) where
-  -- entries are cells, each read
-  pub entries-cells : (n : ℕ) (s : List ℕ) → entries w say n s ≡ map say (chunks w n s)
-  unfolding entries chunks
-  entries-cells zero s = refl
-  entries-cells (suc n) s = rw (entries-cells n (drop w s))
-
   pub length-entries : (n : ℕ) (s : List ℕ) → length (entries w say n s) ≡ n
-  length-entries n s = rw (entries-cells n s) (length-map (chunks w n s) say ∙ length-chunks w n s)
+  unfolding entries
+  length-entries n s = length-map (chunks w n s) say ∙ length-chunks w n s
 
   pub entry-at : (n i : ℕ) (s : List ℕ) (d : A) → i < n → getD (entries w say n s) i d ≡ say (take w (drop (w * i) s))
-  entry-at n i s d h = rw (entries-cells n s) (map-get say (chunks w n s) i [] d (rw length-chunks h) ∙ ap say (chunk-at w n s i h))
+  unfolding entries
+  entry-at n i s d h = map-get say (chunks w n s) i [] d (rw length-chunks h) ∙ ap say (chunk-at w n s i h)
 
   -- counted from 1, of entries that begin at a place
   pub nth-entry : (n k at : ℕ) (s : List ℕ) (d : A) → 1 ≤ k → k ≤ n
@@ -58,16 +54,10 @@ module _ {A : Type 0} (w : ℕ) (say : List ℕ → A) where
 
 -- ---- there and back
 
--- the bytes of each, side by side, are cells side by side
-pub joined-cells : {A : Type 0} (bytes : A → List ℕ) (xs : List A) → joined bytes xs ≡ flat (map bytes xs)
-unfolding joined flat
-joined-cells bytes [] = refl
-joined-cells bytes (x ∷ xs) = rw (joined-cells bytes xs)
-
 module _ {A : Type 0} (w : ℕ) (bytes : A → List ℕ) (say : List ℕ → A) where
   pub entries-joined : (xs : List A) (rest : List ℕ) → Each (λ x. say (bytes x) ≡ x) xs → ((x : A) → length (bytes x) ≡ w)
       → entries w say (length xs) (joined bytes xs ++ rest) ≡ xs
-  unfolding entries joined
+  unfolding entries joined chunks flat
   entries-joined [] rest h wide = refl
   entries-joined (x ∷ xs) rest (cons e es) wide =
       rw (append-assoc (bytes x) (joined bytes xs) rest, take-at (bytes x) (joined bytes xs ++ rest) w (wide x), drop-at (bytes x) (joined bytes xs ++ rest) w (wide x), e, entries-joined xs rest es wide)
@@ -75,8 +65,8 @@ module _ {A : Type 0} (w : ℕ) (bytes : A → List ℕ) (say : List ℕ → A) 
   pub joined-entries : (n : ℕ) (s : List ℕ) → Bytes s → w * n ≤ length s
       → ((x : List ℕ) → Bytes x → length x ≡ w → bytes (say x) ≡ x)
       → joined bytes (entries w say n s) ≡ take (w * n) s
-  joined-entries n s b h back =
-      rw (entries-cells w say n s, joined-cells bytes, chunks-again w bytes say back n b h) (flat-chunks w n s)
+  unfolding entries joined
+  joined-entries n s b h back = rw (chunks-again w bytes say back n b h) (flat-chunks w n s)
 
 -- ---- numbers inside an entry
 
@@ -165,7 +155,7 @@ module _ (s : List ℕ) (n : Counts) (counted : n ≡ countsIn s) (a : ℕ) wher
 module _ {A : Type 0} (w : ℕ) (read : List ℕ → A) (say : ℕ → A → List Value) where
   -- no entries, no values
   pub values-done : (at n : ℕ) (s : List ℕ) → n ≤ 0 → valuesOf w say at (entries w read n s) ≡ []
-  unfolding entries valuesOf
+  unfolding entries chunks valuesOf
   values-done at zero s h = refl
   values-done at (suc n) s h = absurd (omega arith)
 
@@ -173,5 +163,5 @@ module _ {A : Type 0} (w : ℕ) (read : List ℕ → A) (say : ℕ → A → Lis
   pub values-step : (at n m : ℕ) (s : List ℕ) → n ≡ m + 1
       → valuesOf w say at (entries w read n (drop at s))
       ≡ say at (read (take w (drop at s))) ++ valuesOf w say (at + w) (entries w read m (drop (at + w) s))
-  unfolding entries valuesOf
+  unfolding entries chunks valuesOf
   values-step at n m s h = rw (h, add-one, drop-drop w at s)

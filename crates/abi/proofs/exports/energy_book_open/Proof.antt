@@ -3,17 +3,8 @@ use borrow.Author.Needs.{needs}
 use Rattle.abi.proofs.exports.energy_book_open.Statement.{statement}
 use Rattle.abi.proofs.exports.energy_book_open.Tie as tie
 
-open-requires : tie.Need-open-requires
-open-requires c κs = search needs
-
-pack-requires : tie.Need-pack-requires
-pack-requires c κs = search needs
-
-same-length : tie.Need-same-length
-same-length c = search needs
-
 returns : tie.Need-returns
 returns c = rw (← c .before .before .before .«open» .ensures .0) (c .pack .ensures, c .before .before .before .«open» .ensures .1)
 
 pub energy-book-open-spec : {M : Type 1} → statement M
-energy-book-open-spec = tie.close (tie.spec open-requires pack-requires same-length returns)
+energy-book-open-spec = tie.close (tie.spec (λ c κs. search needs) (λ c κs. search needs) (λ c. search needs) returns)

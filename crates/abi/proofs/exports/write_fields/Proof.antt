@@ -10,19 +10,10 @@ returns : tie.Need-returns
 unfolding fieldsOutcome fieldsWritten
 returns c = rw (ne-eqb _ _ (c .if1 .taken)) (refl, refl)
 
-request-in-requires : tie.Need-request-in-requires
-request-in-requires c κs = search needs
-
-write-requires : tie.Need-write-requires
-write-requires c κs = search needs
-
-same-length : tie.Need-same-length
-same-length c = search needs
-
 returns-2 : tie.Need-returns-2
 unfolding fieldsOutcome fieldsWritten
 returns-2 c = rw (eq-eqb _ _ (c .before .before .before .before .before .if1 .left), ← c .before .before .before .before .request-in .ensures) (c .before .before .write .ensures)
 
 pub write-fields-spec : {M : Type 1} → statement M
 write-fields-spec =
-    tie.close (tie.spec returns request-in-requires write-requires same-length returns-2)
+    tie.close (tie.spec returns (λ c κs. search needs) (λ c κs. search needs) (λ c. search needs) returns-2)

@@ -8,14 +8,8 @@ use Rattle.abi.proofs.lending.lend.Tie as tie
 returns : tie.Need-returns
 returns c = no-room _ _ (c .if1 .taken)
 
-copy-in-requires : tie.Need-copy-in-requires
-copy-in-requires c κs = search needs
-
-same-length : tie.Need-same-length
-same-length c = search needs
-
 returns-2 : tie.Need-returns-2
 returns-2 c = let w = room (c .before .before .before .before .before .before .before .args .said .now) (c .before .before .before .before .before .before .before .args .buffer .now) (search needs) in (w .0, c .before .before .copy-in .ensures ∙ w .1)
 
 pub lend-spec : {M : Type 1} → statement M
-lend-spec = tie.close (tie.spec returns copy-in-requires same-length returns-2)
+lend-spec = tie.close (tie.spec returns (λ c κs. search needs) (λ c. search needs) returns-2)

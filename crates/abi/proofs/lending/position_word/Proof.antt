@@ -5,21 +5,6 @@ use Rattle.wire.proofs.NumberLaws.{minus-signed}
 use Rattle.abi.proofs.lending.position_word.Statement.{statement}
 use Rattle.abi.proofs.lending.position_word.Tie as tie
 
-enum-known-p : tie.Need-enum-known-p
-enum-known-p c = search needs
-
-cast-result : tie.Need-cast-result
-cast-result c = search needs
-
-enum-known-p-2 : tie.Need-enum-known-p-2
-enum-known-p-2 c = search needs
-
-cast-minus-u64 : tie.Need-cast-minus-u64
-cast-minus-u64 c = search needs
-
-minus-u64-requires : tie.Need-minus-u64-requires
-minus-u64-requires c κs = search needs
-
 returns : tie.Need-returns
 unfolding signed
 returns c = rw (c .before .before .p .given .1)
@@ -31,10 +16,10 @@ pub position-word-spec : {M : Type 1} → statement M
 position-word-spec =
     tie.close
     (tie.spec
-    enum-known-p
-    cast-result
-    enum-known-p-2
-    cast-minus-u64
-    minus-u64-requires
+    (λ c. search needs)
+    (λ c. search needs)
+    (λ c. search needs)
+    (λ c. search needs)
+    (λ c κs. search needs)
     returns
     returns-2)

@@ -16,40 +16,16 @@ Inv-loop table₀ at n q end k₀ table k =
 abbrev μ-loop : tie.MeasureT-loop
 μ-loop table₀ at n q end k₀ table k = at + n - k
 
-add-end : tie.Need-add-end Inv-loop μ-loop
-add-end c = search needs
-
 loop-holds : tie.Need-loop-holds Inv-loop μ-loop
 loop-holds c = (search needs, search needs, search needs, raised-none _ _ _ _ (omega arith))
-
-mul-table : tie.Need-mul-table Inv-loop μ-loop
-mul-table c = search needs
-
-slice-read-table : tie.Need-slice-read-table Inv-loop μ-loop
-slice-read-table c = search needs
 
 add-table : tie.Need-add-table Inv-loop μ-loop
 add-table c =
     let l = c .before .before .loop in
     omega (arith, l .inv .3 .above (l .k) (omega arith), c .before .before .before .pre .1 (l .k) (l .inv .0))
 
-mul-table-2 : tie.Need-mul-table-2 Inv-loop μ-loop
-mul-table-2 c = search needs
-
-slice-write-table : tie.Need-slice-write-table Inv-loop μ-loop
-slice-write-table c = search needs
-
-add-k : tie.Need-add-k Inv-loop μ-loop
-add-k c = search needs
-
-loop-less : tie.Need-loop-less Inv-loop μ-loop
-loop-less c = search needs
-
 loop-again : tie.Need-loop-again Inv-loop μ-loop
 loop-again c = (search needs, search needs, simp length-set (omega arith), raised-next _ _ _ _ _ _ _ (omega arith) (omega arith) (omega arith) (c .before .before .loop .inv .3))
-
-same-length : tie.Need-same-length Inv-loop μ-loop
-same-length c = search needs
 
 returns : tie.Need-returns Inv-loop μ-loop
 returns c =
@@ -62,15 +38,15 @@ add-range-spec =
     (tie.spec
     Inv-loop
     μ-loop
-    add-end
+    (λ c. search needs)
     loop-holds
-    mul-table
-    slice-read-table
+    (λ c. search needs)
+    (λ c. search needs)
     add-table
-    mul-table-2
-    slice-write-table
-    add-k
-    loop-less
+    (λ c. search needs)
+    (λ c. search needs)
+    (λ c. search needs)
+    (λ c. search needs)
     loop-again
-    same-length
+    (λ c. search needs)
     returns)

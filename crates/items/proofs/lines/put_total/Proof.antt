@@ -5,18 +5,6 @@ use Rattle.items.proofs.LineLaws.{sum-written}
 use Rattle.items.proofs.lines.put_total.Statement.{statement}
 use Rattle.items.proofs.lines.put_total.Tie as tie
 
-slice-aggregate-put-bytes : tie.Need-slice-aggregate-put-bytes
-slice-aggregate-put-bytes c = search needs
-
-put-bytes-requires : tie.Need-put-bytes-requires
-put-bytes-requires c κs = search needs
-
-put-figure-requires : tie.Need-put-figure-requires
-put-figure-requires c κs = search needs
-
-same-length : tie.Need-same-length
-same-length c = search needs
-
 returns : tie.Need-returns
 returns c =
     let d = c .before .before in
@@ -26,4 +14,4 @@ returns c =
 pub put-total-spec : {M : Type 1} → statement M
 put-total-spec =
     tie.close
-    (tie.spec slice-aggregate-put-bytes put-bytes-requires put-figure-requires same-length returns)
+    (tie.spec (λ c. search needs) (λ c κs. search needs) (λ c κs. search needs) (λ c. search needs) returns)

@@ -19,33 +19,12 @@ abbrev μ-loop : tie.MeasureT-loop
 loop-holds : tie.Need-loop-holds Inv-loop μ-loop
 loop-holds c = (search needs, underway-start _ _ (balances-whole _ _) (omega arith))
 
-balance-at-requires : tie.Need-balance-at-requires Inv-loop μ-loop
-balance-at-requires c κs = search needs
-
-add-put-balance : tie.Need-add-put-balance Inv-loop μ-loop
-add-put-balance c = search needs
-
-put-balance-requires : tie.Need-put-balance-requires Inv-loop μ-loop
-put-balance-requires c κs = search needs
-
-add-k : tie.Need-add-k Inv-loop μ-loop
-add-k c = search needs
-
-sub-left : tie.Need-sub-left Inv-loop μ-loop
-sub-left c = search needs
-
-loop-less : tie.Need-loop-less Inv-loop μ-loop
-loop-less c = search needs
-
 loop-again : tie.Need-loop-again Inv-loop μ-loop
 loop-again c =
     let l = c .before .before .before .before .before .before .loop in
     let says = c .before .before .before .before .balance-at .ensures in
     let w = c .before .before .put-balance .ensures in
     (omega arith, underway-line _ _ (l .left - 1) (l .inv .1) (balances-next _ (l .k) (l .left) (l .left - 1) (omega arith)) (omega arith) (omega arith) (omega arith) (rw (says .figure) at (w .0)) (w .1))
-
-same-length : tie.Need-same-length Inv-loop μ-loop
-same-length c = search needs
 
 returns : tie.Need-returns Inv-loop μ-loop
 returns c = let l = c .before .loop in (underway-done (l .inv .1) (balances-none _ (l .k) (l .left) (omega arith)), omega arith)
@@ -57,12 +36,12 @@ put-balance-lines-spec =
     Inv-loop
     μ-loop
     loop-holds
-    balance-at-requires
-    add-put-balance
-    put-balance-requires
-    add-k
-    sub-left
-    loop-less
+    (λ c κs. search needs)
+    (λ c. search needs)
+    (λ c κs. search needs)
+    (λ c. search needs)
+    (λ c. search needs)
+    (λ c. search needs)
     loop-again
-    same-length
+    (λ c. search needs)
     returns)

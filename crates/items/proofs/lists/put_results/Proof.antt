@@ -18,33 +18,12 @@ abbrev μ-loop : tie.MeasureT-loop
 loop-holds : tie.Need-loop-holds Inv-loop μ-loop
 loop-holds c = (search needs, underway-start _ _ (results-whole _ _) (omega arith))
 
-add-put-result : tie.Need-add-put-result Inv-loop μ-loop
-add-put-result c = search needs
-
-shared-slice-read-put-result : tie.Need-shared-slice-read-put-result Inv-loop μ-loop
-shared-slice-read-put-result c = search needs
-
-put-result-requires : tie.Need-put-result-requires Inv-loop μ-loop
-put-result-requires c κs = search needs
-
-add-k : tie.Need-add-k Inv-loop μ-loop
-add-k c = search needs
-
-sub-left : tie.Need-sub-left Inv-loop μ-loop
-sub-left c = search needs
-
-loop-less : tie.Need-loop-less Inv-loop μ-loop
-loop-less c = search needs
-
 loop-again : tie.Need-loop-again Inv-loop μ-loop
 loop-again c =
     let l = c .before .before .before .before .before .before .loop in
     let w = c .before .before .put-result .ensures in
     let next = results-next (c .before .before .before .before .before .before .before .before .before .args .results .now) (l .k) (l .left) (l .left - 1) (omega arith) (omega arith) in
     (omega arith, underway-line _ _ (l .left - 1) (l .inv .1) next (omega arith) (omega arith) (omega arith) (w .0) (w .1))
-
-same-length : tie.Need-same-length Inv-loop μ-loop
-same-length c = search needs
 
 returns : tie.Need-returns Inv-loop μ-loop
 returns c = let l = c .before .loop in (underway-done (l .inv .1) (results-none _ (l .k) (l .left) (omega arith)), omega arith)
@@ -56,12 +35,12 @@ put-results-spec =
     Inv-loop
     μ-loop
     loop-holds
-    add-put-result
-    shared-slice-read-put-result
-    put-result-requires
-    add-k
-    sub-left
-    loop-less
+    (λ c. search needs)
+    (λ c. search needs)
+    (λ c κs. search needs)
+    (λ c. search needs)
+    (λ c. search needs)
+    (λ c. search needs)
     loop-again
-    same-length
+    (λ c. search needs)
     returns)

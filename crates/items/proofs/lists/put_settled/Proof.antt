@@ -6,15 +6,6 @@ use Rattle.items.proofs.WrittenLaws.{written-then}
 use Rattle.items.proofs.lists.put_settled.Statement.{statement}
 use Rattle.items.proofs.lists.put_settled.Tie as tie
 
-put-results-requires : tie.Need-put-results-requires
-put-results-requires c κs = search needs
-
-put-balances-requires : tie.Need-put-balances-requires
-put-balances-requires c κs = search needs
-
-same-length : tie.Need-same-length
-same-length c = search needs
-
 returns : tie.Need-returns
 unfolding settledText
 returns c =
@@ -23,4 +14,4 @@ returns c =
 
 pub put-settled-spec : {M : Type 1} → statement M
 put-settled-spec =
-    tie.close (tie.spec put-results-requires put-balances-requires same-length returns)
+    tie.close (tie.spec (λ c κs. search needs) (λ c κs. search needs) (λ c. search needs) returns)

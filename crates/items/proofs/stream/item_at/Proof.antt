@@ -9,26 +9,8 @@ use Rattle.items.proofs.stream.item_at.Tie as tie
 returns : tie.Need-returns
 returns c = sym (found-end _ _ (search needs))
 
-sub-left : tie.Need-sub-left
-sub-left c = search needs
-
 returns-2 : tie.Need-returns-2
 returns-2 c = sym (found-cut _ _ (omega arith) (omega arith))
-
-get-u16-requires : tie.Need-get-u16-requires
-get-u16-requires c κs = search needs
-
-cast-n : tie.Need-cast-n
-cast-n c = search needs
-
-add-t9 : tie.Need-add-t9
-add-t9 c = search needs
-
-add-t10 : tie.Need-add-t10
-add-t10 c = search needs
-
-add-t11 : tie.Need-add-t11
-add-t11 c = search needs
 
 returns-3 : tie.Need-returns-3
 returns-3 c = rw (c .before .get-u16 .ensures) (sym (found-whole _ _ (omega arith)))
@@ -41,12 +23,12 @@ item-at-spec =
     tie.close
     (tie.spec
     returns
-    sub-left
+    (λ c. search needs)
     returns-2
-    get-u16-requires
-    cast-n
-    add-t9
-    add-t10
-    add-t11
+    (λ c κs. search needs)
+    (λ c. search needs)
+    (λ c. search needs)
+    (λ c. search needs)
+    (λ c. search needs)
     returns-3
     returns-4)

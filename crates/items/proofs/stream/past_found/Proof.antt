@@ -4,15 +4,6 @@ use Rattle.items.specs.Stream.{pastFound}
 use Rattle.items.proofs.stream.past_found.Statement.{statement}
 use Rattle.items.proofs.stream.past_found.Tie as tie
 
-enum-known-found : tie.Need-enum-known-found
-enum-known-found c = search needs
-
-enum-told : tie.Need-enum-told
-enum-told c = search needs
-
-enum-told-2 : tie.Need-enum-told-2
-enum-told-2 c = search needs
-
 returns : tie.Need-returns
 unfolding pastFound
 returns c = rw (c .before .found .given .1)
@@ -26,4 +17,4 @@ unfolding pastFound
 returns-3 c = rw (c .enum-told2 .given .1)
 
 pub past-found-spec : {M : Type 1} → statement M
-past-found-spec = tie.close (tie.spec enum-known-found enum-told enum-told-2 returns returns-2 returns-3)
+past-found-spec = tie.close (tie.spec (λ c. search needs) (λ c. search needs) (λ c. search needs) returns returns-2 returns-3)

@@ -8,9 +8,6 @@ use Rattle.items.proofs.stream.record_length.Tie as tie
 returns : tie.Need-returns
 returns c = sym (record-short _ (search needs))
 
-shared-slice-read-if2 : tie.Need-shared-slice-read-if2
-shared-slice-read-if2 c = search needs
-
 returns-2 : tie.Need-returns-2
 returns-2 c = sym (record-settle _ (c .if2 .taken))
 
@@ -18,4 +15,4 @@ returns-3 : tie.Need-returns-3
 returns-3 c = sym (record-whole _ (c .if2 .left))
 
 pub record-length-spec : {M : Type 1} → statement M
-record-length-spec = tie.close (tie.spec returns shared-slice-read-if2 returns-2 returns-3)
+record-length-spec = tie.close (tie.spec returns (λ c. search needs) returns-2 returns-3)

@@ -20,20 +20,8 @@ schedule-fields-requires c κs = ap wantedMap (c .match .keys3)
 trade-fields-requires : tie.Need-trade-fields-requires
 trade-fields-requires c κs = wanted-run 1 2 0x00FF (c .before .before .before .args .request .kind) refl (omega arith) (omega arith)
 
-returns : tie.Need-returns
-returns c = search needs
-
-returns-2 : tie.Need-returns-2
-returns-2 c = search needs
-
-returns-3 : tie.Need-returns-3
-returns-3 c = search needs
-
 returns-4 : tie.Need-returns-4
 returns-4 c = sym (ranges-kind-alone _ _ (ap wantedMap (c .match .keys4)))
-
-returns-5 : tie.Need-returns-5
-returns-5 c = search needs
 
 returns-6 : tie.Need-returns-6
 returns-6 c =
@@ -58,11 +46,11 @@ check-ranges-spec =
     guarantee-fields-requires
     schedule-fields-requires
     trade-fields-requires
-    returns
-    returns-2
-    returns-3
+    (λ c. search needs)
+    (λ c. search needs)
+    (λ c. search needs)
     returns-4
-    returns-5
+    (λ c. search needs)
     returns-6
     returns-7
     returns-8)

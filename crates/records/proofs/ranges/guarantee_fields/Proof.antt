@@ -7,12 +7,6 @@ use Rattle.records.proofs.RangeLaws.{ranges-of}
 use Rattle.records.proofs.ranges.guarantee_fields.Statement.{statement}
 use Rattle.records.proofs.ranges.guarantee_fields.Tie as tie
 
-field-requires : tie.Need-field-requires
-field-requires c κs = search needs
-
-field-requires-2 : tie.Need-field-requires-2
-field-requires-2 c κs = search needs
-
 returns : tie.Need-returns
 unfolding counting bit inRange
 returns c =
@@ -21,4 +15,4 @@ returns c =
     simp (ranges-of (s .args .n) (s .args .q) 0x0601 (s .pre) (omega arith), c .field2 .ensures, at-field .field .ensures)
 
 pub guarantee-fields-spec : {M : Type 1} → statement M
-guarantee-fields-spec = tie.close (tie.spec field-requires field-requires-2 returns)
+guarantee-fields-spec = tie.close (tie.spec (λ c κs. search needs) (λ c κs. search needs) returns)

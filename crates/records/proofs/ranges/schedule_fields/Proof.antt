@@ -7,21 +7,6 @@ use Rattle.records.proofs.RangeLaws.{ranges-of}
 use Rattle.records.proofs.ranges.schedule_fields.Statement.{statement}
 use Rattle.records.proofs.ranges.schedule_fields.Tie as tie
 
-field-requires : tie.Need-field-requires
-field-requires c κs = search needs
-
-field-requires-2 : tie.Need-field-requires-2
-field-requires-2 c κs = search needs
-
-field-requires-3 : tie.Need-field-requires-3
-field-requires-3 c κs = search needs
-
-field-requires-4 : tie.Need-field-requires-4
-field-requires-4 c κs = search needs
-
-field-requires-5 : tie.Need-field-requires-5
-field-requires-5 c κs = search needs
-
 returns : tie.Need-returns
 unfolding counting bit inRange
 returns c =
@@ -36,9 +21,9 @@ pub schedule-fields-spec : {M : Type 1} → statement M
 schedule-fields-spec =
     tie.close
     (tie.spec
-    field-requires
-    field-requires-2
-    field-requires-3
-    field-requires-4
-    field-requires-5
+    (λ c κs. search needs)
+    (λ c κs. search needs)
+    (λ c κs. search needs)
+    (λ c κs. search needs)
+    (λ c κs. search needs)
     returns)

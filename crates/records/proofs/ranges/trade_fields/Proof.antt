@@ -7,27 +7,6 @@ use Rattle.records.proofs.RangeLaws.{ranges-of}
 use Rattle.records.proofs.ranges.trade_fields.Statement.{statement}
 use Rattle.records.proofs.ranges.trade_fields.Tie as tie
 
-accounts-differ-requires : tie.Need-accounts-differ-requires
-accounts-differ-requires c κs = search needs
-
-field-requires : tie.Need-field-requires
-field-requires c κs = search needs
-
-field-requires-2 : tie.Need-field-requires-2
-field-requires-2 c κs = search needs
-
-field-requires-3 : tie.Need-field-requires-3
-field-requires-3 c κs = search needs
-
-field-requires-4 : tie.Need-field-requires-4
-field-requires-4 c κs = search needs
-
-field-requires-5 : tie.Need-field-requires-5
-field-requires-5 c κs = search needs
-
-field-requires-6 : tie.Need-field-requires-6
-field-requires-6 c κs = search needs
-
 returns : tie.Need-returns
 unfolding counting bit inRange
 returns c =
@@ -44,11 +23,11 @@ pub trade-fields-spec : {M : Type 1} → statement M
 trade-fields-spec =
     tie.close
     (tie.spec
-    accounts-differ-requires
-    field-requires
-    field-requires-2
-    field-requires-3
-    field-requires-4
-    field-requires-5
-    field-requires-6
+    (λ c κs. search needs)
+    (λ c κs. search needs)
+    (λ c κs. search needs)
+    (λ c κs. search needs)
+    (λ c κs. search needs)
+    (λ c κs. search needs)
+    (λ c κs. search needs)
     returns)

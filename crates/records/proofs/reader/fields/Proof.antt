@@ -26,9 +26,6 @@ loop-holds : tie.Need-loop-holds Inv-loop μ-loop
 unfolding fill bits counting offset total
 loop-holds c = (search needs, refl, refl)
 
-room-of-requires : tie.Need-room-of-requires Inv-loop μ-loop
-room-of-requires c κs = search needs
-
 -- the room is that of the record's own map
 asked : (c : tie.After-room-of Inv-loop μ-loop) → c .room-of .result ≡ room (mapOf (c .before .before .before .before .before .args .bytes .now)) (c .before .before .loop .k)
 unfolding mapOf
@@ -40,23 +37,11 @@ number-at-requires c κs =
     let k : ℕ = c .before .before .loop .k in
     (omega (arith, asked c, offset-step m k, offset-grows m (suc k) fieldCount (omega arith)), omega (arith, asked c, room-small m k))
 
-mul-found : tie.Need-mul-found Inv-loop μ-loop
-mul-found c = search needs
-
-array-write-found : tie.Need-array-write-found Inv-loop μ-loop
-array-write-found c = search needs
-
 add-at : tie.Need-add-at Inv-loop μ-loop
 add-at c =
     let m : ℕ = mapOf (c .before .before .before .before .before .before .args .bytes .now) in
     let k : ℕ = c .before .before .before .loop .k in
     omega (arith, asked (c .before), offset-step m k, offset-grows m (suc k) fieldCount (omega arith))
-
-add-k : tie.Need-add-k Inv-loop μ-loop
-add-k c = search needs
-
-loop-less : tie.Need-loop-less Inv-loop μ-loop
-loop-less c = search needs
 
 loop-again : tie.Need-loop-again Inv-loop μ-loop
 loop-again c =
@@ -77,12 +62,12 @@ fields-spec =
     μ-loop
     get-u16-requires
     loop-holds
-    room-of-requires
+    (λ c κs. search needs)
     number-at-requires
-    mul-found
-    array-write-found
+    (λ c. search needs)
+    (λ c. search needs)
     add-at
-    add-k
-    loop-less
+    (λ c. search needs)
+    (λ c. search needs)
     loop-again
     returns)

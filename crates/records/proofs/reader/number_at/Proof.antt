@@ -14,17 +14,8 @@ Inv-loop s at width v₀ p₀ v p = (at ≤ p) × (p ≤ at + width) × (v ≡ n
 abbrev μ-loop : tie.MeasureT-loop
 μ-loop s at width v₀ p₀ v p = p - at
 
-add-p : tie.Need-add-p Inv-loop μ-loop
-add-p c = search needs
-
 loop-holds : tie.Need-loop-holds Inv-loop μ-loop
 loop-holds c = let e : c .args .at + c .args .width - (c .args .at + c .args .width) ≡ 0 = omega arith in (search needs, search needs, rw e (sym (number-at-zero (c .args .s .now) (c .args .at + c .args .width))))
-
-sub-p : tie.Need-sub-p Inv-loop μ-loop
-sub-p c = search needs
-
-shared-slice-read-v : tie.Need-shared-slice-read-v Inv-loop μ-loop
-shared-slice-read-v c = search needs
 
 cast-v : tie.Need-cast-v Inv-loop μ-loop
 cast-v c = omega (arith, c .shared-slice-known .given (c .before .before .loop .p - 1))
@@ -41,9 +32,6 @@ mul-v c = omega (arith, high c)
 
 add-v : tie.Need-add-v Inv-loop μ-loop
 add-v c = omega (arith, high c, c .shared-slice-known .given (c .before .before .loop .p - 1))
-
-loop-less : tie.Need-loop-less Inv-loop μ-loop
-loop-less c = search needs
 
 loop-again : tie.Need-loop-again Inv-loop μ-loop
 loop-again c =
@@ -67,13 +55,13 @@ number-at-spec =
     (tie.spec
     Inv-loop
     μ-loop
-    add-p
+    (λ c. search needs)
     loop-holds
-    sub-p
-    shared-slice-read-v
+    (λ c. search needs)
+    (λ c. search needs)
     cast-v
     mul-v
     add-v
-    loop-less
+    (λ c. search needs)
     loop-again
     returns)

@@ -7,17 +7,11 @@ use borrow.Author.Needs.{needs}
 use Rattle.records.proofs.reader.read.Statement.{statement}
 use Rattle.records.proofs.reader.read.Tie as tie
 
-no-map-requires : tie.Need-no-map-requires
-no-map-requires c κs = search needs
-
 returns : tie.Need-returns
 returns c = reads-nothing (c .before .before .before .args .bytes .now) (sym (c .before .no-map .ensures) ∙ c .if1 .taken)
 
 get-u8-requires : tie.Need-get-u8-requires
 get-u8-requires c κs = readable (c .before .before .before .args .bytes .now) (sym (c .before .no-map .ensures) ∙ c .if1 .left) .0
-
-is-kind-requires : tie.Need-is-kind-requires
-is-kind-requires c κs = search needs
 
 returns-2 : tie.Need-returns-2
 returns-2 c =
@@ -31,17 +25,14 @@ read-as-requires c κs =
     let r = sym (c .before .before .before .before .no-map .ensures) ∙ c .before .before .before .if1 .left in
     (r, c .before .before .get-u8 .ensures ∙ sym (kind-third s r), sym (c .before .is-kind .ensures) ∙ not-false (c .before .is-kind .result) (c .if2 .left))
 
-returns-3 : tie.Need-returns-3
-returns-3 c = search needs
-
 pub read-spec : {M : Type 1} → statement M
 read-spec =
     tie.close
     (tie.spec
-    no-map-requires
+    (λ c κs. search needs)
     returns
     get-u8-requires
-    is-kind-requires
+    (λ c κs. search needs)
     returns-2
     read-as-requires
-    returns-3)
+    (λ c. search needs))

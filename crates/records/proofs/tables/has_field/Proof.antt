@@ -5,15 +5,9 @@ use Rattle.rules.specs.Basics.{bit}
 use Rattle.records.proofs.tables.has_field.Statement.{statement}
 use Rattle.records.proofs.tables.has_field.Tie as tie
 
-cast-result : tie.Need-cast-result
-cast-result c = search needs
-
-shr-result : tie.Need-shr-result
-shr-result c = search needs
-
 returns : tie.Need-returns
 unfolding bit
 returns c = refl
 
 pub has-field-spec : {M : Type 1} → statement M
-has-field-spec = tie.close (tie.spec cast-result shr-result returns)
+has-field-spec = tie.close (tie.spec (λ c. search needs) (λ c. search needs) returns)

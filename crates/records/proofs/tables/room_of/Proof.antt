@@ -4,12 +4,6 @@ use Rattle.rules.specs.Requests.{room}
 use Rattle.records.proofs.tables.room_of.Statement.{statement}
 use Rattle.records.proofs.tables.room_of.Tie as tie
 
-has-field-requires : tie.Need-has-field-requires
-has-field-requires c κs = search needs
-
-width-requires : tie.Need-width-requires
-width-requires c κs = search needs
-
 returns : tie.Need-returns
 unfolding room
 returns c = simp (← c .before .before .has-field .ensures, c .before .if1 .taken, c .width .ensures)
@@ -19,4 +13,4 @@ unfolding room
 returns-2 c = simp (← c .before .has-field .ensures, c .if1 .left)
 
 pub room-of-spec : {M : Type 1} → statement M
-room-of-spec = tie.close (tie.spec has-field-requires width-requires returns returns-2)
+room-of-spec = tie.close (tie.spec (λ c κs. search needs) (λ c κs. search needs) returns returns-2)

@@ -6,14 +6,8 @@ use Rattle.records.proofs.FieldLaws.{below-largest}
 use Rattle.records.proofs.tables.wanted_length.Statement.{statement}
 use Rattle.records.proofs.tables.wanted_length.Tie as tie
 
-array-read-result : tie.Need-array-read-result
-array-read-result c = search needs
-
 cast-result : tie.Need-cast-result
 cast-result c = record { fits = omega (arith, below-largest lengths (c .args .kind)) }
 
-returns : tie.Need-returns
-returns c = search needs
-
 pub wanted-length-spec : {M : Type 1} → statement M
-wanted-length-spec = tie.close (tie.spec array-read-result cast-result returns)
+wanted-length-spec = tie.close (tie.spec (λ c. search needs) cast-result (λ c. search needs))

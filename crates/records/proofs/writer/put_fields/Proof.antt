@@ -24,12 +24,6 @@ loop-holds : tie.Need-loop-holds Inv-loop μ-loop
 unfolding offset total counting
 loop-holds c = (search needs, refl, refl, refl)
 
-room-of-requires : tie.Need-room-of-requires Inv-loop μ-loop
-room-of-requires c κs = search needs
-
-field-of-requires : tie.Need-field-of-requires Inv-loop μ-loop
-field-of-requires c κs = search needs
-
 -- the field ends within the buffer
 within-buffer : (c : tie.After-room-of Inv-loop μ-loop) → c .before .before .loop .at + c .room-of .result ≤ length (c .before .before .loop .buffer)
 within-buffer c =
@@ -43,12 +37,6 @@ put-number-requires c κs = omega (arith, within-buffer (c .before .before))
 add-at : tie.Need-add-at Inv-loop μ-loop
 add-at c = omega (arith, within-buffer (c .before .before .before .before .before))
 
-add-k : tie.Need-add-k Inv-loop μ-loop
-add-k c = search needs
-
-loop-less : tie.Need-loop-less Inv-loop μ-loop
-loop-less c = search needs
-
 loop-again : tie.Need-loop-again Inv-loop μ-loop
 loop-again c =
     let room = c .before .before .before .before .before in
@@ -56,9 +44,6 @@ loop-again c =
     let s = room .before .before .before .before .args in
     let put = c .before .before .put-number in
     (search needs, rw add-one (omega (arith, room .room-of .ensures, offset-step (s .map) (l .k))), put .kept .0 ∙ l .inv .2, rw (put .ensures) (fields-next (s .map) (s .q) (l .buffer) (l .at) (l .k) (fieldCount - l .k) (fieldCount - (l .k + 1)) (room .room-of .result) (c .before .before .before .before .field-of .result) (omega arith) (room .room-of .ensures) (c .before .before .before .before .field-of .ensures) (omega (arith, within-buffer room))) ∙ l .inv .3)
-
-same-length : tie.Need-same-length Inv-loop μ-loop
-same-length c = search needs
 
 returns : tie.Need-returns Inv-loop μ-loop
 returns c =
@@ -73,12 +58,12 @@ put-fields-spec =
     Inv-loop
     μ-loop
     loop-holds
-    room-of-requires
-    field-of-requires
+    (λ c κs. search needs)
+    (λ c κs. search needs)
     put-number-requires
     add-at
-    add-k
-    loop-less
+    (λ c. search needs)
+    (λ c. search needs)
     loop-again
-    same-length
+    (λ c. search needs)
     returns)

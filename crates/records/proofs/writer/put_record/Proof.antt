@@ -23,9 +23,6 @@ put-fields-requires c κs =
     let s = put .before .before .before .before in
     rw (put .before .before .wanted-map .ensures) (omega (arith, s .pre .1, put .put-u16 .kept .0, tables-agree (s .args .q .kind) (s .pre .0) .ends))
 
-same-length : tie.Need-same-length
-same-length c = search needs
-
 returns : tie.Need-returns
 returns c =
     let put = c .before .before .before .before .before .before in
@@ -36,4 +33,4 @@ returns c =
 pub put-record-spec : {M : Type 1} → statement M
 put-record-spec =
     tie.close
-    (tie.spec wanted-map-requires put-u16-requires put-fields-requires same-length returns)
+    (tie.spec wanted-map-requires put-u16-requires put-fields-requires (λ c. search needs) returns)

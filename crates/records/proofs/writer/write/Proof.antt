@@ -8,9 +8,6 @@ use borrow.Author.Needs.{needs}
 use Rattle.records.proofs.writer.write.Statement.{statement}
 use Rattle.records.proofs.writer.write.Tie as tie
 
-is-kind-requires : tie.Need-is-kind-requires
-is-kind-requires c κs = search needs
-
 returns : tie.Need-returns
 returns c =
     let s = c .before .before .before .args in
@@ -30,9 +27,6 @@ put-record-requires c κs =
     let known = c .before .before .before in
     (sym (known .before .is-kind .ensures) ∙ not-false (known .before .is-kind .result) (known .if1 .left), omega (arith, c .before .before .wanted-length .ensures))
 
-same-length : tie.Need-same-length
-same-length c = search needs
-
 returns-3 : tie.Need-returns-3
 returns-3 c =
     let known = c .before .before .before .before .before .before in
@@ -44,10 +38,10 @@ pub write-spec : {M : Type 1} → statement M
 write-spec =
     tie.close
     (tie.spec
-    is-kind-requires
+    (λ c κs. search needs)
     returns
     wanted-length-requires
     returns-2
     put-record-requires
-    same-length
+    (λ c. search needs)
     returns-3)

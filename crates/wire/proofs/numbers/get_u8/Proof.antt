@@ -5,11 +5,8 @@ use borrow.Author.Needs.{needs}
 use Rattle.wire.proofs.numbers.get_u8.Statement.{statement}
 use Rattle.wire.proofs.numbers.get_u8.Tie as tie
 
-shared-slice-read-result : tie.Need-shared-slice-read-result
-shared-slice-read-result c = search needs
-
 returns : tie.Need-returns
 returns c = sym (number-at-one _ _)
 
 pub get-u8-spec : {M : Type 1} → statement M
-get-u8-spec = tie.close (tie.spec shared-slice-read-result returns)
+get-u8-spec = tie.close (tie.spec (λ c. search needs) returns)

@@ -4,11 +4,8 @@ use Rattle.wire.proofs.NumberLaws.{signed-difference}
 use Rattle.wire.proofs.signed.difference_u64.Statement.{statement}
 use Rattle.wire.proofs.signed.difference_u64.Tie as tie
 
-wrapping-sub-u64-requires : tie.Need-wrapping-sub-u64-requires
-wrapping-sub-u64-requires c κs = search needs
-
 returns : tie.Need-returns
 returns c = signed-difference 8 _ _ _ (c .wrapping-sub-u64 .ensures)
 
 pub difference-u64-spec : {M : Type 1} → statement M
-difference-u64-spec = tie.close (tie.spec wrapping-sub-u64-requires returns)
+difference-u64-spec = tie.close (tie.spec (λ c κs. search needs) returns)
