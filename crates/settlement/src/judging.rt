@@ -19,7 +19,6 @@ use valuation::Credit;
 use valuation::balances::OPERATORS;
 use valuation::balances::accounts_worth;
 use valuation::balances::credit_of;
-use valuation::balances::join;
 use valuation::congruity::nothing_used;
 use valuation::congruity::result_of;
 use valuation::congruity::use_up;
@@ -80,8 +79,8 @@ fn judge_all(
         let x = order[k];
         let credit = judge_next(book, prices, used, results, x);
         let at = credit.operator as usize - 1;
-        let held = all[at];
-        all[at] = join(held, credit.share);
+        let so_far = all[at];
+        all[at] = so_far.plus(credit.share);
         k = k + 1;
     }
     all

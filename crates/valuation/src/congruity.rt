@@ -52,16 +52,6 @@ fn cell_for(holder: u8, x: Schedule) -> usize
     HOLDER_CELLS * (holder as usize - 1) + (2 * (x.hour as usize - 1) + (x.side as usize - 1))
 }
 
-// What is more on one side than on the other, or nothing.
-fn surplus(a: Kwh, b: Kwh) -> Kwh
-    ensures { λ r. ⌜ r .0 ≡ a .0 - b .0 ⌝ }
-{
-    if b.0 < a.0 {
-        return Kwh(a.0 - b.0);
-    }
-    Kwh(0)
-}
-
 // The point's greatest amount on a side.
 fn point_limit(point: Point, side: u8) -> Kwh
     ensures { λ r. ⌜ r .0 ≡ greatest point side ⌝ }
@@ -77,9 +67,9 @@ fn account_limit(net: Net, side: u8) -> Kwh
     ensures { λ r. ⌜ r .0 ≡ leftBy net side ⌝ }
 {
     if side == INJECTION {
-        return surplus(net.sold, net.bought);
+        return net.sold.above(net.bought);
     }
-    surplus(net.bought, net.sold)
+    net.bought.above(net.sold)
 }
 
 // Whether the quantity, with what is used up before it, passes the limit.

@@ -52,11 +52,11 @@ sub-at c = search needs
 mul-held : tie.Need-mul-held Inv-loop μ-loop
 mul-held c = search needs
 
-array-copy-out-held : tie.Need-array-copy-out-held Inv-loop μ-loop
-array-copy-out-held c = search needs
+array-copy-out-so-far : tie.Need-array-copy-out-so-far Inv-loop μ-loop
+array-copy-out-so-far c = search needs
 
-join-requires : tie.Need-join-requires Inv-loop μ-loop
-join-requires c κs =
+plus-requires : tie.Need-plus-requires Inv-loop μ-loop
+plus-requires c κs =
     let l = c .before .before .before .before .before .before .before .before .before .before .before .loop in
     let start = c .before .before .before .before .before .before .before .before .before .before .before .before .before .before .before .before .before in
     let credit = c .before .before .before .before .before .before .judge-next in
@@ -86,7 +86,7 @@ loop-again c =
     let h : l .k < length (bookIn (start .args .book .now) .schedules) = omega (arith, here, start .pre .1 .0 .all-of) in
     let turn = in-turn _ _ _ _ here (start .pre .1 .0 .by-priority) in
     let known = next-known _ _ (start .pre .0) (l .k) h _ turn in
-    let credited = credited-made (l .all) (credit .result .operator) (credit .result .share) (c .join .result) (c .join .ensures) in
+    let credited = credited-made (l .all) (credit .result .operator) (credit .result .share) (c .plus .result) (c .plus .ensures) in
     (search needs, search needs, rw credited (tables-follow _ _ (start .pre .0) (l .k) h _ turn _ _ _ (credit .ensures .tables _ _ (l .inv .2) known)))
 
 same-length : tie.Need-same-length Inv-loop μ-loop
@@ -120,8 +120,8 @@ judge-all-spec =
     cast-at
     sub-at
     mul-held
-    array-copy-out-held
-    join-requires
+    array-copy-out-so-far
+    plus-requires
     mul-all
     array-set-from-all
     add-k
