@@ -11,7 +11,7 @@ use Rattle.wire.specs.Regions.{zerosFrom}
 use Rattle.rules.specs.declared.Row.{Row}
 use Rattle.rules.specs.Basics.{if_then_else_, anyPasses, every, allOf, within, Each}
 use Rattle.rules.specs.Limits.{mostGuarantee, thousand, mostOperators, mostRows, mostSchedules, bookSize}
-use Rattle.rules.specs.Books.{Part}
+use Rattle.rules.specs.Books.{Part, registrationPhase, settledPhase}
 use Rattle.rules.specs.Opening.{countsIn, operatorsOffset, setupLength, setupOf, guaranteeWidth}
 use Rattle.rules.specs.Registration.{pending}
 use Rattle.image.specs.Layout.{setupRoom, rowWidth, scheduleWidth, partSize, phaseOffset, flagOffset, scheduleCountOffset, schedulesOffset, presentOffset, savedOffset, rowCountOffset, rowsOffset}
@@ -128,11 +128,11 @@ abbrev pub phaseValidTests : List ℕ → List Bool
 phaseValidTests s =
     let phase = getD s phaseOffset 0 in
     let flag = getD s flagOffset 0 in
-    within 1 phase 3
+    within registrationPhase phase settledPhase
     ∷ leb flag 1
-    ∷ (eqb phase 1 || not (anyPasses pending (rowsOf s presentOffset)))
-    ∷ (not (eqb phase 1) || eqb (numberAt s scheduleCountOffset 2) 0)
-    ∷ (eqb phase 1 || eqb flag 0)
+    ∷ (eqb phase registrationPhase || not (anyPasses pending (rowsOf s presentOffset)))
+    ∷ (not (eqb phase registrationPhase) || eqb (numberAt s scheduleCountOffset 2) 0)
+    ∷ (eqb phase registrationPhase || eqb flag 0)
     ∷ []
 
 unfoldable pub phaseValid : List ℕ → Bool

@@ -21,6 +21,12 @@ use rules::Schedule;
 use rules::limits::MOST_ENERGY;
 use rules::limits::MOST_GUARANTEE;
 use rules::limits::MOST_PRICE;
+use rules::sides::BUYS;
+use rules::sides::INJECTS;
+use rules::sides::SELLS;
+use rules::sides::WITHDRAWS;
+use rules::statuses::PENDING;
+use rules::statuses::WITHDRAWN;
 use setup::counts::GUARANTEE_WIDTH;
 use wire::numbers::get_u64;
 
@@ -31,11 +37,11 @@ pub fn row_ok(r: Row, accounts: u8, hours: u8) -> bool
     ((1 <= r.proposer) & (r.proposer <= accounts))
         & ((1 <= r.counterparty) & (r.counterparty <= accounts))
         & (r.proposer != r.counterparty)
-        & ((1 <= r.side) & (r.side <= 2))
+        & ((SELLS <= r.side) & (r.side <= BUYS))
         & ((1 <= r.first) & (r.first <= hours))
         & ((r.first <= r.last) & (r.last <= hours))
         & ((1 <= r.quantity.0) & (r.quantity.0 <= MOST_ENERGY))
-        & ((1 <= r.status) & (r.status <= 3))
+        & ((PENDING <= r.status) & (r.status <= WITHDRAWN))
 }
 
 // Every field of the schedule is in range.
@@ -43,7 +49,7 @@ pub fn schedule_ok(x: Schedule, points: u8, hours: u8) -> bool
     ensures { λ b. ⌜ ((u : Setup) → pointCount u ≡ points → periods u ≡ hours → b ≡ scheduleOk u x) ⌝ }
 {
     ((1 <= x.point) & (x.point <= points))
-        & ((1 <= x.side) & (x.side <= 2))
+        & ((INJECTS <= x.side) & (x.side <= WITHDRAWS))
         & ((1 <= x.hour) & (x.hour <= hours))
         & ((1 <= x.quantity.0) & (x.quantity.0 <= MOST_ENERGY))
         & (x.price.0 <= MOST_PRICE)
@@ -91,7 +97,7 @@ pub fn none_pending(s: &[u8], at: usize, n: usize) -> bool
     let mut left = n;
     while 0 < left {
         let r = row_at(s, k);
-        ok = ok & (r.status != 1);
+        ok = ok & (r.status != PENDING);
         k = k + ROW_WIDTH;
         left = left - 1;
     }

@@ -11,6 +11,7 @@ ghost use Rattle.image.specs.Layout.{rowWidth};
 use image::layout::ROW_WIDTH;
 use image::rows::row_at;
 use rules::Row;
+use rules::statuses::PENDING;
 
 // The rows are the same but for their status.
 fn same_terms(x: Row, y: Row) -> bool
@@ -29,7 +30,7 @@ fn same_terms(x: Row, y: Row) -> bool
 fn row_follows(x: Row, y: Row) -> bool
     ensures { λ b. ⌜ b ≡ (sameTerms x y && (eqb (x .status) (y .status) || pending x)) ⌝ }
 {
-    same_terms(x, y) & ((x.status == y.status) | (x.status == 1))
+    same_terms(x, y) & ((x.status == y.status) | (x.status == PENDING))
 }
 
 // The `m` rows saved from `from` on are the first of the `n` present ones from `at` on, but for what became of pending ones.

@@ -12,6 +12,7 @@ use image::layout::MOST_ROWS;
 use image::layout::ROW_WIDTH;
 use image::rows::row_at;
 use rules::Row;
+use rules::statuses::PENDING;
 use wire::signed::MODULUS_U32;
 
 // Marks that keys may have.
@@ -29,7 +30,7 @@ fn pair_of(r: Row, i: usize) -> u64
     requires { ⌜ i < mostRows ⌝ }
     ensures { λ p. ⌜ p ≡ pairOf i r ⌝ }
 {
-    if r.status == 1 {
+    if r.status == PENDING {
         (r.proposer as u64) * 256 + (r.counterparty as u64)
     } else {
         65536 + (i as u64)

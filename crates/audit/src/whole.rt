@@ -30,6 +30,8 @@ use image::layout::SPARE_OFFSET;
 use rules::Checked;
 use rules::limits::MOST_SCHEDULES;
 use rules::limits::PERIODS;
+use rules::phases::REGISTRATION;
+use rules::phases::SETTLED;
 use setup::counts::OPERATOR_ENTRY;
 use setup::counts::counts;
 use setup::counts::length_of;
@@ -111,8 +113,8 @@ fn phase_valid(book: &[u8]) -> bool
     let schedules = get_u16(book, SCHEDULE_COUNT_OFFSET);
     let rows = get_u16(book, PRESENT_OFFSET + ROW_COUNT_OFFSET) as usize;
     let quiet = none_pending(book, PRESENT_OFFSET + ROWS_OFFSET, rows);
-    let first = phase == 1;
-    ((1 <= phase) & (phase <= 3) & (flag <= 1))
+    let first = phase == REGISTRATION;
+    ((REGISTRATION <= phase) & (phase <= SETTLED) & (flag <= 1))
         & (first | quiet)
         & (!first | (schedules == 0))
         & (first | (flag == 0))

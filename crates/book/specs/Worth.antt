@@ -10,7 +10,7 @@ use Rattle.rules.specs.declared.Row.{Row}
 use Rattle.rules.specs.declared.Net.{Net}
 use Rattle.rules.specs.Basics.{if_then_else_, total, upTo, Each}
 use Rattle.rules.specs.Limits.{mostEnergy, mostPrice, mostHours}
-use Rattle.rules.specs.Books.{Setup, Book, estimateAt, operatorOf, accountCount, periods}
+use Rattle.rules.specs.Books.{Setup, Book, estimateAt, operatorOf, accountCount, periods, sellingSide}
 use Rattle.rules.specs.Opening.{countsIn, accountsOffset, accountEntry}
 use Rattle.rules.specs.Registration.{pending, includesHour, accountHour, afterTrade, afterTrades, ofOperator}
 use Rattle.image.specs.Valid.{isBook, bookIn}
@@ -100,7 +100,7 @@ pub record PricedSpan (sums : List ℕ) (first last quantity : ℕ) : Type 0 whe
 
 -- what a row adds to the operator's exposure as a pending sale of one of its accounts; nothing where it is none
 unfoldable pub saleWorth : Setup → ℕ → Row → ℕ
-saleWorth u o r = if pending r && eqb (r .side) 1 && eqb (operatorOf u (r .proposer)) o then r .quantity .0 * spanPrice u r else 0
+saleWorth u o r = if pending r && eqb (r .side) sellingSide && eqb (operatorOf u (r .proposer)) o then r .quantity .0 * spanPrice u r else 0
 
 -- the most that one row adds as a pending sale
 abbrev pub mostSaleWorth : ℕ

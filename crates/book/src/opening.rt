@@ -10,7 +10,6 @@ ghost use Rattle.rules.specs.Opening.{setupRefusal, opened, openOutcome, guaran
 ghost use Rattle.image.specs.Valid.{bookBytes};
 ghost use Rattle.book.specs.Fresh.{guaranteesCleared, guaranteesPut};
 ghost use Rattle.book.specs.Answers.{openBytes};
-use crate::state::REGISTRATION;
 use image::layout::BOOK_SIZE;
 use image::layout::PHASE_OFFSET;
 use image::layout::PRESENT_OFFSET;
@@ -18,6 +17,7 @@ use rules::Checked;
 use rules::Outcome;
 use rules::Refusal;
 use rules::Verdict;
+use rules::phases::REGISTRATION;
 use setup::counts::GUARANTEE_WIDTH;
 use setup::counts::OPERATOR_ENTRY;
 use setup::counts::counts;

@@ -26,20 +26,6 @@ use setup::entries::account;
 use wire::numbers::get_u8;
 use wire::numbers::get_u16;
 
-// The phases of a day.
-pub const REGISTRATION: u8 = 1;
-
-pub const SCHEDULES: u8 = 2;
-
-pub const SETTLED: u8 = 3;
-
-// The statuses of a row.
-pub const PENDING: u8 = 1;
-
-pub const CONFIRMED: u8 = 2;
-
-pub const WITHDRAWN: u8 = 3;
-
 // The phase: 1 registration, 2 schedules, 3 settled.
 pub fn phase(book: &[u8]) -> u8
     requires { ⌜ isBook (now book) ≡ true ⌝ }

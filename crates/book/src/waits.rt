@@ -11,7 +11,6 @@ ghost use Rattle.image.specs.Tables.{Tabled, Raised};
 ghost use Rattle.book.specs.Members.{IsAccount, IsHour, IsRow, numberedRow};
 ghost use Rattle.book.specs.Waits.{waitCell, Waits, WaitsOf, RoomInWaits, noWaits, WaitAdded, nettedHour, waitsSize};
 use crate::positions::net_at;
-use crate::state::PENDING;
 use crate::state::row_count;
 use crate::state::row_offset;
 use image::cells::add_range;
@@ -20,6 +19,9 @@ use image::rows::row_at;
 use rules::AccountHour;
 use rules::Row;
 use rules::limits::PERIODS;
+use rules::sides::BUYS;
+use rules::sides::SELLS;
+use rules::statuses::PENDING;
 use units::Kwh;
 use wire::numbers::get_u8;
 
@@ -113,7 +115,7 @@ pub fn account_hour(book: &[u8], waits: &[u32], account: u8, hour: u8) -> Accoun
     let net = net_at(book, account, hour);
     AccountHour {
         net,
-        sales: Kwh(wait_at(waits, 1, hour)),
-        purchases: Kwh(wait_at(waits, 2, hour)),
+        sales: Kwh(wait_at(waits, SELLS, hour)),
+        purchases: Kwh(wait_at(waits, BUYS, hour)),
     }
 }

@@ -11,8 +11,6 @@ ghost use Rattle.image.specs.Valid.{isBook, bookIn};
 ghost use Rattle.book.specs.Members.{IsAccount, IsHour, IsRow, numberedRow};
 ghost use Rattle.book.specs.Worth.{entriesIn, addedRows, QuantityInRange, shortOf, shortAfter, shortWorth, saleWorth, PriceSums, PricedSpan, SaleInputs, TradeInRange, accountShort, shortShare, netsWith, sumsSize, mostShort, mostShortWorth, mostSaleWorth};
 use crate::positions::net_at;
-use crate::state::CONFIRMED;
-use crate::state::PENDING;
 use crate::state::row_count;
 use crate::state::row_offset;
 use image::rows::row_at;
@@ -21,6 +19,9 @@ use rules::Net;
 use rules::Row;
 use rules::hours::short;
 use rules::limits::PERIODS;
+use rules::sides::SELLS;
+use rules::statuses::CONFIRMED;
+use rules::statuses::PENDING;
 use setup::counts::account_entry;
 use setup::counts::accounts_offset;
 use setup::counts::counts;
@@ -121,7 +122,7 @@ fn sale_of(book: &[u8], sums: &[u64], entries: AccountEntries, operator: u8, r: 
     ensures meaning { λ m. ⌜ m .0 ≡ saleWorth (bookIn (now (book .entry)) .setup) operator r ⌝ }
     ensures bounded { λ m. ⌜ m .0 ≤ mostSaleWorth ⌝ }
 {
-    if (r.status != PENDING) | (r.side != 1) {
+    if (r.status != PENDING) | (r.side != SELLS) {
         return MilliCents(0);
     }
     if entry_operator(book, entries, r.proposer) == operator {

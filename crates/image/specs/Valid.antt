@@ -10,7 +10,7 @@ use Rattle.rules.specs.declared.Row.{Row}
 use Rattle.rules.specs.declared.Schedule.{Schedule}
 use Rattle.rules.specs.Basics.{anyPasses, every, allOf, isSome, upTo, within}
 use Rattle.rules.specs.Limits.{mostEnergy, mostPrice, mostGuarantee, mostRows, mostSchedules, mostHours, bookSize}
-use Rattle.rules.specs.Books.{Setup, Part, Book, countsOf, operatorCount, accountCount, pointCount, periods, marginsAt}
+use Rattle.rules.specs.Books.{Setup, Part, Book, countsOf, operatorCount, accountCount, pointCount, periods, marginsAt, sellingSide, buyingSide, pendingStatus, withdrawnStatus, injectingSide, withdrawingSide, registrationPhase, settledPhase}
 use Rattle.rules.specs.Opening.{badCounts, operatorsOf, faultyOffset}
 use Rattle.rules.specs.Registration.{pending, alike, accountHour, keepsMargins, covered}
 use Rattle.image.specs.Image.{image, decode}
@@ -35,11 +35,11 @@ rowTests u r =
     ∷ within 1 (r .counterparty) (accountCount u)
     ∷ not (eqb (r .proposer) (r .counterparty))
     ∷ ltb (r .code) (256 ^ 8)
-    ∷ within 1 (r .side) 2
+    ∷ within sellingSide (r .side) buyingSide
     ∷ within 1 (r .first) (periods u)
     ∷ within (r .first) (r .last) (periods u)
     ∷ within 1 (r .quantity .0) mostEnergy
-    ∷ within 1 (r .status) 3
+    ∷ within pendingStatus (r .status) withdrawnStatus
     ∷ []
 
 unfoldable pub rowOk : Setup → Row → Bool
@@ -48,7 +48,7 @@ rowOk u r = allOf (rowTests u r)
 abbrev pub scheduleTests : Setup → Schedule → List Bool
 scheduleTests u x =
     within 1 (x .point) (pointCount u)
-    ∷ within 1 (x .side) 2
+    ∷ within injectingSide (x .side) withdrawingSide
     ∷ within 1 (x .hour) (periods u)
     ∷ within 1 (x .quantity .0) mostEnergy
     ∷ leb (x .price .0) mostPrice
@@ -113,14 +113,14 @@ savedOk u rows (some p) = partOk u p && follows (p .rows) rows
 abbrev pub bookTests : Book → List Bool
 bookTests b =
     setupOk (b .setup)
-    ∷ within 1 (b .phase) 3
+    ∷ within registrationPhase (b .phase) settledPhase
     ∷ partOk (b .setup) (b .part)
     ∷ savedOk (b .setup) (b .part .rows) (b .saved)
     ∷ leb (length (b .schedules)) mostSchedules
     ∷ every (scheduleOk (b .setup)) (b .schedules)
-    ∷ (eqb (b .phase) 1 || not (anyPasses pending (b .part .rows)))
-    ∷ (not (eqb (b .phase) 1) || eqb (length (b .schedules)) 0)
-    ∷ (eqb (b .phase) 1 || not (isSome (b .saved)))
+    ∷ (eqb (b .phase) registrationPhase || not (anyPasses pending (b .part .rows)))
+    ∷ (not (eqb (b .phase) registrationPhase) || eqb (length (b .schedules)) 0)
+    ∷ (eqb (b .phase) registrationPhase || not (isSome (b .saved)))
     ∷ []
 
 unfoldable pub valid : Book → Bool

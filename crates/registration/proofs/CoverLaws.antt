@@ -16,7 +16,7 @@ use Rattle.rules.specs.Basics.{nth, Each, nil, cons}
 use Rattle.rules.specs.Limits.{mostHours, mostEnergy, mostGuarantee, thousand, bookSize}
 use Rattle.rules.specs.Books.{Setup, Part, Book, partRows, maintenanceAt, guaranteeAt, operatorOf, operatorCount}
 use Rattle.rules.specs.Opening.{countsIn, operatorsIn, setupOf, guaranteeWidth}
-use Rattle.rules.specs.Registration.{pending, exposure, available, covered}
+use Rattle.rules.specs.Registration.{pending, exposure, available, covered, coveredBy}
 use Rattle.rules.specs.declared.Counts.{Counts}
 use Rattle.rules.proofs.Basics.Searches.{each-at}
 use Rattle.setup.specs.Faults.{noOperator}
@@ -28,7 +28,7 @@ use Rattle.book.specs.Members.{IsAccount, IsOperator}
 use Rattle.book.specs.Worth.{TradeInRange}
 use Rattle.book.proofs.StateLaws.{book-fits, book-is-sound, number-in-book}
 use Rattle.book.proofs.BookRows.{counts-in, setup-in, values-in, caller-operator}
-use Rattle.registration.specs.Cover.{coveredBy, coveredInForce}
+use Rattle.registration.specs.Cover.{coveredInForce}
 
 maintenance-in-range : {os : List Operator} → Each SoundOperator os → Each (λ m. m ≤ thousand) (map (λ x. x .maintenance) os)
 maintenance-in-range nil = nil

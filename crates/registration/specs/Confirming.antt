@@ -4,14 +4,14 @@ use mathlib.Core.Path.{_≡_}
 use mathlib.Core.Bool.{true}
 use Rattle.rules.specs.declared.Row.{Row}
 use Rattle.rules.specs.declared.Request.{Request}
-use Rattle.rules.specs.Books.{Book}
+use Rattle.rules.specs.Books.{Book, registrationPhase}
 use Rattle.rules.specs.Registration.{pending, mirrors}
 use Rattle.rules.specs.Calls.{confirmedNumber}
 use Rattle.book.specs.Members.{numberedRow}
 
 -- in the phase of registration, the request confirms this row: it names it and mirrors its terms
 pub record Confirming (b : Book) (q : Request) (r : Row) : Type 0 where
-  pub in-registration : b .phase ≡ 1
+  pub in-registration : b .phase ≡ registrationPhase
   pub named : 1 ≤ confirmedNumber b q
   pub row : r ≡ numberedRow b (confirmedNumber b q)
   pub terms : mirrors q r ≡ true

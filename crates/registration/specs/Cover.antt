@@ -1,18 +1,11 @@
--- What covers an exposure (document 01, "Registration"): one test, at the exposure and the guarantee that a caller asks about.
--- `covered` of the rules is this test at a part's own exposure and guarantee.
-use Prim.Native.Nat.{ℕ, _-_, _*_}
+-- What covers an exposure (document 01, "Registration"): `coveredBy` of the rules, at the exposure and the guarantee that a call asks about.
+use Prim.Native.Nat.{ℕ, _-_}
 use mathlib.Core.List.{[], _∷_}
 use mathlib.Core.Bool.{Bool}
-use lib.Dec.{leb}
 use Rattle.rules.specs.declared.Row.{Row}
-use Rattle.rules.specs.Limits.{thousand}
-use Rattle.rules.specs.Books.{Setup, Book, maintenanceAt, guaranteeAt}
-use Rattle.rules.specs.Registration.{withStatus, exposure, exposureWith}
+use Rattle.rules.specs.Books.{Setup, Book, guaranteeAt, confirmedStatus}
+use Rattle.rules.specs.Registration.{withStatus, exposure, exposureWith, coveredBy}
 use Rattle.book.specs.Worth.{saleWorth}
-
--- an exposure of the operator is at most what is available of a guarantee
-abbrev pub coveredBy : Setup → ℕ → ℕ → ℕ → Bool
-coveredBy u exposure guarantee o = leb exposure (guarantee * (thousand - maintenanceAt u o))
 
 -- it is at most what is available of the operator's guarantee in force
 abbrev pub coveredInForce : Book → ℕ → ℕ → Bool
@@ -28,7 +21,7 @@ coveredWithRow b row o = coveredInForce b (exposureWith (b .setup) (b .part .row
 
 -- the exposure once the pending row is confirmed: the trade is added, and a sale is pending no longer
 abbrev pub exposureWithTrade : Book → Row → ℕ → ℕ
-exposureWithTrade b row o = exposureWith (b .setup) (b .part .rows) (withStatus 2 row ∷ []) o - saleWorth (b .setup) o row
+exposureWithTrade b row o = exposureWith (b .setup) (b .part .rows) (withStatus confirmedStatus row ∷ []) o - saleWorth (b .setup) o row
 
 -- that exposure is covered
 abbrev pub coveredWithTrade : Book → Row → ℕ → Bool

@@ -7,6 +7,7 @@ use Rattle.wire.specs.Parts.{sweep}
 use Rattle.rules.specs.declared.Row.{Row}
 use Rattle.rules.specs.Limits.{mostHours}
 use Rattle.rules.specs.Registration.{seller, buyer}
+use Rattle.rules.specs.Books.{confirmedStatus}
 use Rattle.image.specs.Layout.{presentOffset, rowOffset, statusOffset, netOffset, netWidth}
 use Rattle.image.specs.Changes.{raised}
 
@@ -21,4 +22,4 @@ netsMoved s r = netsRaised (netsRaised s (seller r) r (256 ^ netWidth - r .quant
 
 -- the row of that number gets the status of a confirmed one
 abbrev pub markedConfirmed : List ℕ → ℕ → List ℕ
-markedConfirmed s number = splice s (presentOffset + rowOffset (number - 1) + statusOffset) (le 1 2)
+markedConfirmed s number = splice s (presentOffset + rowOffset (number - 1) + statusOffset) (le 1 confirmedStatus)

@@ -10,7 +10,7 @@ use Rattle.rules.specs.declared.Row.{Row}
 use Rattle.rules.specs.declared.Request.{Request}
 use Rattle.rules.specs.Basics.{anyPasses}
 use Rattle.rules.specs.Limits.{mostRows}
-use Rattle.rules.specs.Books.{Book}
+use Rattle.rules.specs.Books.{Book, registrationPhase}
 use Rattle.rules.specs.Requests.{register}
 use Rattle.rules.specs.Registration.{alike}
 use Rattle.image.specs.Layout.{presentOffset, rowOffset, rowCountOffset}
@@ -20,7 +20,7 @@ use Rattle.book.specs.Kinds.{Ready}
 -- in the phase of registration, the request proposes a row that is no twin of a pending one, and there is a number for it
 pub record Proposing (b : Book) (q : Request) : Type 0 where
   pub ready : Ready register b q
-  pub in-registration : b .phase ≡ 1
+  pub in-registration : b .phase ≡ registrationPhase
   pub no-twin : anyPasses (alike (q .account) (q .other) (q .code)) (b .part .rows) ≡ false
   pub has-room : length (b .part .rows) < mostRows
 

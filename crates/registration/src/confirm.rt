@@ -4,7 +4,7 @@ ghost use mathlib.Core.Bool.{true};
 ghost use Prim.Native.Nat.{_≤_};
 ghost use lib.ListN.{length};
 ghost use Rattle.rules.specs.Limits.{mostRows, mostHours, bookSize};
-ghost use Rattle.rules.specs.Books.{operatorOf};
+ghost use Rattle.rules.specs.Books.{operatorOf, confirmedStatus};
 ghost use Rattle.rules.specs.Verdicts.{checked};
 ghost use Rattle.rules.specs.Requests.{confirm};
 ghost use Rattle.rules.specs.Registration.{withStatus, mirrors};
@@ -21,8 +21,6 @@ use crate::margins::Broken;
 use crate::margins::broken_hour;
 use crate::positions::move_nets;
 use crate::search::pending_number;
-use book::state::CONFIRMED;
-use book::state::REGISTRATION;
 use book::state::operator_of;
 use book::state::phase;
 use book::state::row_offset;
@@ -36,6 +34,9 @@ use rules::Refusal;
 use rules::Request;
 use rules::Row;
 use rules::Verdict;
+use rules::phases::REGISTRATION;
+use rules::sides::SELLS;
+use rules::statuses::CONFIRMED;
 use wire::numbers::put_u8;
 
 // The number of the row that the request confirms, or 0.
@@ -67,7 +68,7 @@ fn is_mirrored(r: Row, request: Request) -> bool
 
 // The row once it is confirmed.
 fn confirmed_row(r: Row) -> Row
-    ensures { λ x. ⌜ x ≡ withStatus 2 r ⌝ }
+    ensures { λ x. ⌜ x ≡ withStatus confirmedStatus r ⌝ }
 {
     let quantity = r.quantity;
     Row {
@@ -85,11 +86,11 @@ fn confirmed_row(r: Row) -> Row
 // Whether the exposure of the account's operator is covered once the pending row is confirmed; `trade` is the confirmed row.
 fn covered_with_trade(book: &[u8], row: Row, trade: Row, number: u8) -> bool
     requires { ⌜ (isBook (now book) ≡ true) × IsAccount (bookIn (now book)) number ⌝ }
-    requires { ⌜ WaitsIn (bookIn (now book)) row × (trade ≡ withStatus 2 row) ⌝ }
+    requires { ⌜ WaitsIn (bookIn (now book)) row × (trade ≡ withStatus confirmedStatus row) ⌝ }
     ensures { λ r. ⌜ (let b = bookIn (now (book .entry)) in r ≡ coveredWithTrade b row (operatorOf (b .setup) number)) ⌝ }
 {
     // A pending sale counts in full, so that confirming it raises no exposure; and in a book every exposure is at most what is available.
-    if row.side == 1 {
+    if row.side == SELLS {
         return true;
     }
     // A pending purchase adds nothing to the exposure, so that nothing is to be subtracted for it.

@@ -21,8 +21,6 @@ ghost use Rattle.registration.specs.Cover.{coveredWithRow};
 use crate::cover::covered_in_force;
 use crate::margins::Broken;
 use crate::margins::first_broken;
-use book::state::PENDING;
-use book::state::REGISTRATION;
 use book::state::operator_of;
 use book::state::phase;
 use book::state::row_count;
@@ -42,6 +40,9 @@ use rules::Refusal;
 use rules::Request;
 use rules::Row;
 use rules::Verdict;
+use rules::phases::REGISTRATION;
+use rules::sides::SELLS;
+use rules::statuses::PENDING;
 use wire::numbers::put_u16;
 use wire::regions::copy_in;
 
@@ -69,7 +70,7 @@ fn covered_with_row(book: &[u8], row: Row, number: u8) -> bool
     ensures { λ r. ⌜ (let b = bookIn (now (book .entry)) in r ≡ coveredWithRow b row (operatorOf (b .setup) number)) ⌝ }
 {
     // A pending purchase adds nothing to the exposure, and in a book the exposure is at most what is available.
-    if row.side != 1 {
+    if row.side != SELLS {
         return true;
     }
     let operator = operator_of(book, number);

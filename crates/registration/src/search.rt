@@ -10,7 +10,6 @@ ghost use Rattle.image.specs.Image.{rowIn};
 ghost use Rattle.image.specs.Valid.{isBook, bookIn};
 ghost use Rattle.image.specs.Cells.{rowsFrom};
 ghost use Rattle.image.specs.Layout.{rowWidth};
-use book::state::PENDING;
 use book::state::row_count;
 use image::layout::PRESENT_OFFSET;
 use image::layout::ROW_WIDTH;
@@ -18,6 +17,7 @@ use image::layout::ROWS_OFFSET;
 use image::rows::CODE_OFFSET;
 use image::rows::COUNTERPARTY_OFFSET;
 use image::rows::STATUS_OFFSET;
+use rules::statuses::PENDING;
 use wire::numbers::get_u8;
 use wire::numbers::get_u64;
 

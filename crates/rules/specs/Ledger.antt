@@ -1,5 +1,5 @@
 -- The ledger (document 01, "What demand 3 compares"): fed only the set-up's bytes, each record and whether it was accepted.
-use Prim.Native.Nat.{ℕ, suc, _*_, _-_}
+use Prim.Native.Nat.{ℕ, suc}
 use mathlib.Core.List.{List, [], _∷_, _++_}
 use mathlib.Core.Bool.{Bool, true, false, _&&_}
 use lib.Dec.{eqb}
@@ -13,11 +13,10 @@ use Rattle.rules.specs.declared.AccountHour.{AccountHour}
 use Rattle.rules.specs.declared.Schedule.{Schedule}
 use Rattle.rules.specs.declared.Request.{Request}
 use Rattle.rules.specs.Basics.{if_then_else_, total, put, within}
-use Rattle.rules.specs.Limits.{thousand}
-use Rattle.rules.specs.Books.{Setup, estimateAt, guaranteeAt, maintenanceAt, sellingSide, buyingSide}
+use Rattle.rules.specs.Books.{Setup, estimateAt, guaranteeAt, sellingSide, buyingSide}
 use Rattle.rules.specs.Opening.{setupOf, guaranteesOf}
 use Rattle.rules.specs.Requests.{Kind, register, confirm, withdraw, guarantee, openBatch, undo, keep, closeGate, schedule, settle, kindOf, requestOf}
-use Rattle.rules.specs.Registration.{proposed, alike, counted, includesHour, exposureOf}
+use Rattle.rules.specs.Registration.{proposed, alike, counted, includesHour, exposureOf, availableOf}
 use Rattle.rules.specs.Settlement.{Judged, settled}
 use Rattle.rules.specs.Lists.{heard}
 use Rattle.rules.specs.Calls.{Call, Answer, _oneOf_, scheduled}
@@ -166,7 +165,7 @@ unfoldable pub ledgerExposure : Ledger → ℕ → ℕ
 ledgerExposure l o = exposureOf (l .setup) (estimateAt (l .setup)) (ledgerHour l) o
 
 unfoldable pub ledgerAvailable : Ledger → ℕ → ℕ
-ledgerAvailable l o = guaranteeAt (l .page .guarantees) o .0 * (thousand - maintenanceAt (l .setup) o)
+ledgerAvailable l o = availableOf (l .setup) (guaranteeAt (l .page .guarantees) o .0) o
 
 -- what the rules give on the ledger's schedules and net at settle's prices
 unfoldable pub ledgerSettled : Ledger → List CentsPerMwh → List Judged

@@ -203,10 +203,18 @@ exposure u rows o = exposureOf u (estimateAt u) (accountHour rows) o
 abbrev pub exposureWith : Setup → List Row → List Row → ℕ → ℕ
 exposureWith u rows added o = exposureOf u (estimateAt u) (λ a h. afterTrades a h (accountHour rows a h) added) o
 
--- guarantee times (1000 - m)
-unfoldable pub available : Setup → Part → ℕ → ℕ
-available u p o = guaranteeAt (p .guarantees) o .0 * (thousand - maintenanceAt u o)
+-- what is available of a guarantee of the operator: guarantee times (1000 - m)
+abbrev pub availableOf : Setup → ℕ → ℕ → ℕ
+availableOf u guarantee o = guarantee * (thousand - maintenanceAt u o)
 
--- exposure may equal what is available
+-- what is available of its guarantee in force
+unfoldable pub available : Setup → Part → ℕ → ℕ
+available u p o = availableOf u (guaranteeAt (p .guarantees) o .0) o
+
+-- a guarantee covers an exposure: it may equal what is available
+abbrev pub coveredBy : Setup → ℕ → ℕ → ℕ → Bool
+coveredBy u exposure guarantee o = leb exposure (availableOf u guarantee o)
+
+-- the guarantee in force covers the exposure of the rows
 unfoldable pub covered : Setup → Part → ℕ → Bool
 covered u p o = leb (exposure u (p .rows) o) (available u p o)

@@ -14,7 +14,6 @@ ghost use Rattle.image.specs.Image.{scheduleValues};
 ghost use Rattle.image.specs.Valid.{isBook, bookIn, bookBytes};
 ghost use Rattle.book.specs.Kinds.{decided, outcomeOn, bookAfter, Ready};
 ghost use Rattle.settlement.specs.Scheduling.{scheduleAppended};
-use book::state::SCHEDULES;
 use book::state::phase;
 use book::state::schedule_count;
 use image::layout::SCHEDULE_COUNT_OFFSET;
@@ -28,6 +27,7 @@ use rules::Request;
 use rules::Schedule;
 use rules::Verdict;
 use rules::limits::MOST_SCHEDULES;
+use rules::phases::SCHEDULES;
 use wire::numbers::put_u16;
 use wire::regions::copy_in;
 

@@ -15,6 +15,7 @@ use Rattle.rules.specs.declared.Refusal.the-variants.{SetupValue}
 use Rattle.rules.specs.Basics.{if_then_else_}
 use Rattle.rules.specs.Limits.{mostEnergy}
 use Rattle.rules.specs.Opening.{Value, valuesOf, estimateValues, operatorValues, accountValues, pointValues, countsIn, setupLength, estimatesOffset, operatorsOffset, accountsOffset, pointsOffset, estimatesIn, operatorsIn, accountsIn, pointsIn, priceWidth, operatorEntry, accountEntry, pointEntry}
+use Rattle.rules.specs.Books.{injectionKind, withdrawalKind}
 
 -- ---- faults
 
@@ -58,8 +59,8 @@ mostAmount barred = if barred then 0 else mostEnergy
 -- the last two values of a point
 abbrev pub amountValues : ℕ → Point → List Value
 amountValues at x =
-    (at + 3, leb (x .injection .0) (mostAmount (eqb (x .kind) 2)))
-    ∷ (at + 7, leb (x .withdrawal .0) (mostAmount (eqb (x .kind) 1)))
+    (at + 3, leb (x .injection .0) (mostAmount (eqb (x .kind) withdrawalKind)))
+    ∷ (at + 7, leb (x .withdrawal .0) (mostAmount (eqb (x .kind) injectionKind)))
     ∷ []
 
 -- ---- bytes that are long enough

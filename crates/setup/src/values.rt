@@ -20,6 +20,9 @@ use rules::limits::MOST_ENERGY;
 use rules::limits::MOST_GUARANTEE;
 use rules::limits::MOST_PRICE;
 use rules::limits::THOUSAND;
+use rules::sites::INJECTION;
+use rules::sites::MIXED;
+use rules::sites::WITHDRAWAL;
 use units::CentsPerMwh;
 
 // The first of two that fails.
@@ -71,7 +74,11 @@ pub fn account_fault(x: Account, n: Counts, at: usize) -> Checked
         (1 <= x.operator) & (x.operator <= n.operators),
         at,
     );
-    let kind = or_fault(operator, (1 <= x.kind) & (x.kind <= 2), at + 1);
+    let kind = or_fault(
+        operator,
+        (INJECTION <= x.kind) & (x.kind <= WITHDRAWAL),
+        at + 1,
+    );
     let lower = or_fault(kind, x.lower.0 <= MOST_ENERGY, at + LOWER_OFFSET);
     or_fault(lower, x.upper.0 <= MOST_ENERGY, at + UPPER_OFFSET)
 }
@@ -103,10 +110,14 @@ fn amounts_fault(found: Checked, x: Point, at: usize) -> Checked
     requires { ⌜ at + pointEntry ≤ 2 ^ 16 ⌝ }
     ensures { λ r. ⌜ r ≡ firstFaultFrom found (amountValues at x) ⌝ }
 {
-    let injection = or_fault(found, x.injection.0 <= most_amount(x.kind == 2), at + 3);
+    let injection = or_fault(
+        found,
+        x.injection.0 <= most_amount(x.kind == WITHDRAWAL),
+        at + 3,
+    );
     or_fault(
         injection,
-        x.withdrawal.0 <= most_amount(x.kind == 1),
+        x.withdrawal.0 <= most_amount(x.kind == INJECTION),
         at + 7,
     )
 }
@@ -122,8 +133,9 @@ pub fn point_fault(setup: &[u8], n: Counts, x: Point, at: usize) -> Checked
         (1 <= x.account) & (x.account <= n.accounts),
         at,
     );
-    let suits = (x.kind == 3) | (x.kind == own);
-    let kind = or_fault(account, (1 <= x.kind) & (x.kind <= 3) & suits, at + 1);
+    let suits = (x.kind == MIXED) | (x.kind == own);
+    let known = (INJECTION <= x.kind) & (x.kind <= MIXED);
+    let kind = or_fault(account, known & suits, at + 1);
     let zone = or_fault(kind, (1 <= x.zone) & (x.zone <= n.zones), at + 2);
     amounts_fault(zone, x, at)
 }

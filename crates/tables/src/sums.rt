@@ -5,6 +5,7 @@ ghost use lib.ListN.{getD};
 ghost use Rattle.rules.specs.Basics.{every, upTo};
 ghost use Rattle.rules.specs.Limits.{mostAccounts, mostHours};
 ghost use Rattle.rules.specs.Registration.{accountHour};
+ghost use Rattle.rules.specs.Books.{pendingStatus, confirmedStatus};
 ghost use Rattle.image.specs.Layout.{mostPeriods};
 ghost use Rattle.image.specs.Cells.{rowsFrom};
 ghost use Rattle.image.specs.Tables.{slots, placeOf, cellOf, Inside, InTable, Tabled, Room};
@@ -19,6 +20,10 @@ use rules::AccountHour;
 use rules::Net;
 use rules::Row;
 use rules::limits::MOST_ACCOUNTS;
+use rules::sides::BUYS;
+use rules::sides::SELLS;
+use rules::statuses::CONFIRMED;
+use rules::statuses::PENDING;
 use units::Kwh;
 use wire::numbers::get_u32;
 use wire::signed::MODULUS_U32;
@@ -62,7 +67,7 @@ fn add_hours(table: &mut [u32], top: usize, lane: usize, account: u8, r: Row)
 
 // A confirmed row: its buyer bought, and its seller sold.
 fn add_confirmed(table: &mut [u32], top: usize, r: Row)
-    requires { ⌜ SumTable top (now table) × RoomForRow top (now table) r × (r .status ≡ 2) ⌝ }
+    requires { ⌜ SumTable top (now table) × RoomForRow top (now table) r × (r .status ≡ confirmedStatus) ⌝ }
     ensures { λ _. ⌜ RowAdded top (now (table .entry)) (now (table .exit)) r ⌝ }
 {
     let buyer = r.buyer();
@@ -73,12 +78,12 @@ fn add_confirmed(table: &mut [u32], top: usize, r: Row)
 
 // A pending row: it waits on its proposer, as a sale or as a purchase.
 fn add_pending(table: &mut [u32], top: usize, r: Row)
-    requires { ⌜ SumTable top (now table) × RoomForRow top (now table) r × (r .status ≡ 1) ⌝ }
+    requires { ⌜ SumTable top (now table) × RoomForRow top (now table) r × (r .status ≡ pendingStatus) ⌝ }
     ensures { λ _. ⌜ RowAdded top (now (table .entry)) (now (table .exit)) r ⌝ }
 {
-    if r.side == 1 {
+    if r.side == SELLS {
         add_hours(table, top, SALES, r.proposer, r);
-    } else if r.side == 2 {
+    } else if r.side == BUYS {
         add_hours(table, top, PURCHASES, r.proposer, r);
     }
 }
@@ -88,9 +93,9 @@ fn add_row(table: &mut [u32], top: usize, r: Row)
     requires { ⌜ SumTable top (now table) × RoomForRow top (now table) r ⌝ }
     ensures { λ _. ⌜ RowAdded top (now (table .entry)) (now (table .exit)) r ⌝ }
 {
-    if r.status == 2 {
+    if r.status == CONFIRMED {
         add_confirmed(table, top, r);
-    } else if r.status == 1 {
+    } else if r.status == PENDING {
         add_pending(table, top, r);
     }
 }

@@ -11,7 +11,7 @@ use Rattle.rules.specs.declared.Point.{Point}
 use Rattle.rules.specs.declared.Schedule.{Schedule}
 use Rattle.rules.specs.Basics.{if_then_else_}
 use Rattle.rules.specs.Limits.{mostHours}
-use Rattle.rules.specs.Books.{Setup}
+use Rattle.rules.specs.Books.{Setup, injectingSide, mixedKind}
 use Rattle.rules.specs.Settlement.{Judged, accountOf}
 use Rattle.valuation.specs.Tables.{setupIn, netsIn, cellFor, pointCells, usedCells, judgedAs, JudgedInRange, UsedBy, UsedIn, judgeIn}
 
@@ -30,11 +30,11 @@ nothingUsed = replicate usedCells 0
 
 -- the point's greatest amount on a side
 abbrev pub greatest : Point → ℕ → ℕ
-greatest p side = if eqb side 1 then p .injection .0 else p .withdrawal .0
+greatest p side = if eqb side injectingSide then p .injection .0 else p .withdrawal .0
 
 -- what a net position leaves for a side: minus net for injections and net for withdrawals, or 0
 abbrev pub leftBy : Net → ℕ → ℕ
-leftBy n side = if eqb side 1 then n .sold .0 - n .bought .0 else n .bought .0 - n .sold .0
+leftBy n side = if eqb side injectingSide then n .sold .0 - n .bought .0 else n .bought .0 - n .sold .0
 
 -- the schedule, with what is used up already, passes its point's greatest amount
 abbrev pub overPoint : List ℕ → Point → Schedule → Bool
@@ -47,11 +47,11 @@ overAccount book used p x =
 
 -- the number, in the price table, of the price that is met: the zone's for injections and on mixed points, else PUN
 abbrev pub priceNumber : ℕ → Point → Schedule → ℕ
-priceNumber hours p x = if eqb (x .side) 1 || eqb (p .kind) 3 then hours * p .zone + x .hour else x .hour
+priceNumber hours p x = if eqb (x .side) injectingSide || eqb (p .kind) mixedKind then hours * p .zone + x .hour else x .hour
 
 -- taken at the price that is met
 abbrev pub takenAt : Schedule → CentsPerMwh → Bool
-takenAt x met = if eqb (x .side) 1 then leb (x .price .0) (met .0) else leb (met .0) (x .price .0)
+takenAt x met = if eqb (x .side) injectingSide then leb (x .price .0) (met .0) else leb (met .0) (x .price .0)
 
 -- the result, by the three tests
 abbrev pub resultBy : Bool → Bool → Bool → ℕ

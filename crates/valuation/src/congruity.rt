@@ -19,14 +19,11 @@ use rules::Schedule;
 use rules::limits::MOST_ACCOUNTS;
 use rules::limits::MOST_POINTS;
 use rules::limits::PERIODS;
+use rules::sides::INJECTS;
+use rules::sites::MIXED;
 use setup::counts::counts;
 use units::CentsPerMwh;
 use units::Kwh;
-
-// The side of an injection, and the kind of a mixed point.
-const INJECTION: u8 = 1;
-
-const MIXED: u8 = 3;
 
 // The results.
 const REGISTERED: u8 = 0;
@@ -56,7 +53,7 @@ fn cell_for(holder: u8, x: Schedule) -> usize
 fn point_limit(point: Point, side: u8) -> Kwh
     ensures { λ r. ⌜ r .0 ≡ greatest point side ⌝ }
 {
-    if side == INJECTION {
+    if side == INJECTS {
         return point.injection;
     }
     point.withdrawal
@@ -66,7 +63,7 @@ fn point_limit(point: Point, side: u8) -> Kwh
 fn account_limit(net: Net, side: u8) -> Kwh
     ensures { λ r. ⌜ r .0 ≡ leftBy net side ⌝ }
 {
-    if side == INJECTION {
+    if side == INJECTS {
         return net.sold.above(net.bought);
     }
     net.bought.above(net.sold)
@@ -104,7 +101,7 @@ fn over_account(book: &[u8], used: &[u32], x: Schedule, point: Point) -> bool
 fn price_number(hours: u8, point: Point, x: Schedule) -> usize
     ensures { λ r. ⌜ r ≡ priceNumber hours point x ⌝ }
 {
-    if (x.side == INJECTION) | (point.kind == MIXED) {
+    if (x.side == INJECTS) | (point.kind == MIXED) {
         return (hours as usize) * (point.zone as usize) + x.hour as usize;
     }
     x.hour as usize
@@ -114,7 +111,7 @@ fn price_number(hours: u8, point: Point, x: Schedule) -> usize
 fn taken_at(x: Schedule, met: CentsPerMwh) -> bool
     ensures { λ r. ⌜ r ≡ takenAt x met ⌝ }
 {
-    if x.side == INJECTION {
+    if x.side == INJECTS {
         return x.price.at_most(met);
     }
     met.at_most(x.price)
