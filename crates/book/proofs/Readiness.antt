@@ -14,6 +14,7 @@ use Rattle.rules.specs.Calls.{Call, _oneOf_, inputChecks}
 use Rattle.rules.proofs.Basics.Tests.{within-true}
 use Rattle.rules.proofs.Checks.Clearing.{Clear}
 use Rattle.rules.proofs.Checks.Passed.{field-in-range}
+use Rattle.book.specs.Members.{IsOperator}
 use Rattle.book.specs.Kinds.{Ready}
 
 -- a call that lends nothing: only settle looks at more than the request
@@ -36,6 +37,6 @@ unfolding bit inRange
 ready-number b q r = within-true 1 (q .number) mostRows .0 (ready-field withdraw b q r 8 (omega arith) refl)
 
 -- guarantee names an operator of the book
-pub ready-operator : (b : Book) (q : Request) → Ready guarantee b q → (1 ≤ q .operator) × (q .operator ≤ operatorCount (b .setup))
+pub ready-operator : (b : Book) (q : Request) → Ready guarantee b q → IsOperator b (q .operator)
 unfolding bit inRange
 ready-operator b q r = within-true 1 (q .operator) (operatorCount (b .setup)) .0 (ready-field guarantee b q r 9 (omega arith) refl)

@@ -154,10 +154,10 @@ module _ (s : List ℕ) (h : isBook s ≡ true) (n : Counts) (e : n ≡ countsIn
     net-no-hour x y = ap (λ (o : Option Refusal). netReadingOf o net) (applies-past _ _ _ (by-account x) ∙ applies-here _ _ [] (by-hour y))
 
     module _ (x : not (within 1 a (n .accounts)) ≡ false) (y : not (within 1 t (n .hours)) ≡ false) where
-      account-inside : (1 ≤ a) × (a ≤ accountCount u)
+      account-inside : IsAccount (bookIn s) a
       account-inside = within-true 1 a (accountCount u) .0 (not-false _ (by-account x))
 
-      hour-inside : (1 ≤ t) × (t ≤ periods u)
+      hour-inside : IsHour (bookIn s) t
       hour-inside = within-true 1 t (periods u) .0 (not-false _ (by-hour y))
 
       pub net-in-table : InTable mostHours a t

@@ -1,4 +1,4 @@
--- A net position by itself, as its 4 bytes say it: what was bought over what was sold, or the reverse.
+-- A net position as its 4 bytes say it: what was bought beyond what was sold, or the reverse.
 use Prim.Native.Nat.{_-_}
 use Rattle.units.specs.Units.{kwh}
 use Rattle.rules.specs.declared.Net.{Net}

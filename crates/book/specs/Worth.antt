@@ -49,7 +49,7 @@ shortWorth u net o = ofOperator u (accountShort u net) o
 unfoldable pub shortShare : Setup → (ℕ → ℕ → Net) → ℕ → ℕ → ℕ
 shortShare u net o a = if eqb (operatorOf u a) o then accountShort u net a else 0
 
--- the net positions once the accounts took rows that are to be added
+-- the net positions after the rows that are to be added
 abbrev pub netWith : List Row → List Row → ℕ → ℕ → Net
 netWith rows added a h = afterTrades a h (accountHour rows a h) added .net
 
@@ -57,7 +57,7 @@ netWith rows added a h = afterTrades a h (accountHour rows a h) added .net
 abbrev pub netsWith : Book → Added → ℕ → ℕ → Net
 netsWith b added = netWith (b .part .rows) (addedRows added)
 
--- what of a net position lies below zero once the account took the trade
+-- what of a net position lies below zero after the trade
 unfoldable pub shortAfter : Net → Row → ℕ → ℕ → ℕ
 shortAfter net trade a h = shortOf (afterTrade a h (record { net = net; sales = kwh 0; purchases = kwh 0 }) trade .net)
 

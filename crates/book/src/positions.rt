@@ -1,4 +1,4 @@
-// Net positions as settlement works from them: read off the 4 bytes that hold each.
+// Net positions, each read from the 4 bytes that hold it.
 ghost use mathlib.Core.Path.{_≡_};
 ghost use mathlib.Core.Bool.{true};
 ghost use Prim.Native.Nat.{_+_};
@@ -25,7 +25,7 @@ pub fn stored_net(book: &[u8], account: u8, hour: u8) -> u32
     get_u32(book, net_offset(account, hour))
 }
 
-// The net position of an account in an hour, both of the set-up: what was bought over what was sold, or the reverse.
+// The net position of an account in an hour: what was bought beyond what was sold, or the reverse.
 pub fn net_at(book: &[u8], account: u8, hour: u8) -> Net
     requires { ⌜ (isBook (now book) ≡ true) × IsAccount (bookIn (now book)) account × IsHour (bookIn (now book)) hour ⌝ }
     ensures { λ r. ⌜ r ≡ netted (netOf (bookIn (now (book .entry)) .part .rows) account hour) ⌝ }

@@ -106,7 +106,7 @@ fn price_sums(book: &[u8]) -> [u64; PRICE_SUMS]
 
 // ---- pending sales
 
-// What a quantity is worth in each hour from `first` to `last` together: the sum up to `last`, less that before `first`.
+// What a quantity in each hour from `first` to `last` is worth: the sum of prices up to `last`, less that before `first`, times the quantity.
 fn span_worth(sums: &[u64], first: u8, last: u8, quantity: Kwh) -> MilliCents
     requires { ⌜ PricedSpan (now sums) first last (quantity .0) ⌝ }
     ensures { λ m. ⌜ m .0 ≡ quantity .0 * (getD (now (sums .entry)) last 0 - getD (now (sums .entry)) (first - 1) 0) ⌝ }
@@ -131,7 +131,7 @@ fn sale_of(book: &[u8], sums: &[u64], entries: AccountEntries, operator: u8, r: 
     MilliCents(0)
 }
 
-// The same of the book's row of that number. Most rows are another operator's, so that the operator is looked at first.
+// What the book's row of that number adds to it. Most rows are another operator's, so that the operator is tested first.
 fn row_sale(
     book: &[u8],
     sums: &[u64],
@@ -150,7 +150,7 @@ fn row_sale(
     sale_of(book, sums, entries, operator, row_at(book, at))
 }
 
-// The same of all rows of the book.
+// What all rows of the book add to it.
 fn sales_worth(book: &[u8], sums: &[u64], entries: AccountEntries, operator: u8) -> MilliCents
     requires { ⌜ SaleInputs (now book) (now sums) entries ⌝ }
     ensures meaning { λ m. ⌜ (let b = bookIn (now (book .entry)) in m .0 ≡ total (saleWorth (b .setup) operator) (b .part .rows)) ⌝ }
@@ -166,7 +166,7 @@ fn sales_worth(book: &[u8], sums: &[u64], entries: AccountEntries, operator: u8)
     sum
 }
 
-// The same of what is to be added.
+// What the row that is to be added adds to it, if there is one.
 fn added_sale(
     book: &[u8],
     sums: &[u64],
@@ -186,7 +186,7 @@ fn added_sale(
 
 // ---- net positions below zero
 
-// What of a net position lies below zero once the account took the trade.
+// What of a net position lies below zero after the trade.
 fn short_with(net: Net, account: u8, hour: u8, trade: Row) -> Kwh
     requires { ⌜ (net .bought .0 ≤ mostEnergy) × (net .sold .0 ≤ mostEnergy) × (trade .quantity .0 ≤ mostEnergy) ⌝ }
     ensures { λ r. ⌜ r .0 ≡ shortAfter net trade account hour ⌝ }
@@ -218,7 +218,7 @@ fn short_at(book: &[u8], account: u8, hour: u8, added: Added) -> Kwh
     }
 }
 
-// The same in all hours, at estimated prices.
+// What of an account's net positions in all hours lies below zero, at estimated prices.
 fn account_short(book: &[u8], account: u8, added: Added) -> MilliCents
     requires { ⌜ (isBook (now book) ≡ true) × IsAccount (bookIn (now book)) account × QuantityInRange added ⌝ }
     ensures meaning { λ r. ⌜ (let b = bookIn (now (book .entry)) in r .0 ≡ accountShort (b .setup) (netsWith b added) account) ⌝ }
@@ -236,7 +236,7 @@ fn account_short(book: &[u8], account: u8, added: Added) -> MilliCents
     sum
 }
 
-// The same where the account is one of the operator's; nothing where it is another's.
+// What the account adds to the operator's sum of these: nothing where it is another operator's.
 fn short_share(
     book: &[u8],
     entries: AccountEntries,
@@ -254,7 +254,7 @@ fn short_share(
     MilliCents(0)
 }
 
-// What of the operator's net positions lies below zero, with what is to be added, at estimated prices.
+// What of the net positions of all the operator's accounts lies below zero, at estimated prices.
 fn short_worth(book: &[u8], entries: AccountEntries, operator: u8, added: Added) -> MilliCents
     requires { ⌜ (isBook (now book) ≡ true) × (entries ≡ entriesIn (now book)) × QuantityInRange added ⌝ }
     ensures meaning { λ r. ⌜ (let b = bookIn (now (book .entry)) in r .0 ≡ shortWorth (b .setup) (netsWith b added) operator) ⌝ }

@@ -1,6 +1,6 @@
 -- A row confirmed: what it is by being named; what it adds to an exposure once it is a trade; the tests of confirm in the order of their
 -- numbers, each on the book as it would be; and its status with the nets of both parties as all that is written.
-use Prim.Native.Nat.{ℕ, suc, _+_, _-_, _^_, _≤_}
+use Prim.Native.Nat.{ℕ, suc, _+_, _-_, _≤_}
 use mathlib.Core.Path.{_≡_, refl, sym, ap, _∙_}
 use mathlib.Core.List.{List, [], _∷_}
 use mathlib.Core.Option.{Option, none, some}
@@ -14,7 +14,7 @@ use Rattle.rules.specs.declared.Row.{Row}
 use Rattle.rules.specs.declared.Request.{Request}
 use Rattle.rules.specs.declared.Refusal.the-variants.{NoSuchRow, NotMirrored, MarginBroken, Uncovered}
 use Rattle.rules.specs.Basics.{indexOf, nth, counting}
-use Rattle.rules.specs.Limits.{mostEnergy, mostHours}
+use Rattle.rules.specs.Limits.{mostHours}
 use Rattle.rules.specs.Verdicts.{accepted}
 use Rattle.rules.specs.Books.{Setup, Book, noRow, operatorOf, periods, marginsAt}
 use Rattle.rules.specs.Requests.{confirm}

@@ -18,13 +18,11 @@ use Rattle.rules.specs.declared.Refusal.the-variants.{Uncovered}
 use Rattle.rules.specs.Basics.{bit, put}
 use Rattle.rules.specs.Limits.{mostHours, mostGuarantee, thousand, bookSize}
 use Rattle.rules.specs.Verdicts.{firstToApply, accepted}
-use Rattle.rules.specs.Books.{Setup, Book, countsOf, maintenanceAt, guaranteeAt, operatorCount}
+use Rattle.rules.specs.Books.{Setup, Book, maintenanceAt, guaranteeAt}
 use Rattle.rules.specs.Requests.{guarantee, inRange}
 use Rattle.rules.specs.Registration.{exposure, covered}
 use Rattle.rules.specs.Calls.{next, given, stateChecks, apply}
 use Rattle.rules.specs.Opening.{guaranteeWidth}
-use Rattle.rules.proofs.Basics.Tests.{within-true}
-use Rattle.rules.proofs.Checks.Passed.{field-in-range}
 use Rattle.image.specs.Layout.{presentOffset}
 use Rattle.image.specs.Valid.{isBook, bookIn}
 use Rattle.image.proofs.Writing.BookWrites.{write-guarantee}
@@ -34,7 +32,7 @@ use Rattle.book.specs.Members.{IsOperator}
 use Rattle.book.specs.Kinds.{decided, Ready}
 use Rattle.book.proofs.StateLaws.{book-image, book-fits, book-is-sound}
 use Rattle.book.proofs.Answers.{decided-clear, Answered, accepted-answered}
-use Rattle.book.proofs.Readiness.{bare, ready-input}
+use Rattle.book.proofs.Readiness.{bare, ready-field, ready-input, ready-operator}
 use Rattle.registration.specs.Cover.{coveredUnder}
 use Rattle.registration.proofs.CoverLaws.{covered-at-guarantee, exposure-available}
 
@@ -44,10 +42,7 @@ use Rattle.registration.proofs.CoverLaws.{covered-at-guarantee, exposur
 pub ready-guarantee : (b : Book) (q : Request) → Ready guarantee b q
     → IsOperator b (q .operator) × (q .guarantee .0 ≤ mostGuarantee)
 unfolding bit inRange
-ready-guarantee b q r =
-    let o =
-    within-true 1 (q .operator) (operatorCount (b .setup)) .0 (field-in-range (countsOf (b .setup)) q 9 (r .in-range) (omega arith) (rw (r .of-kind))) in
-    (o, leb-true _ _ (field-in-range (countsOf (b .setup)) q 10 (r .in-range) (omega arith) (rw (r .of-kind))))
+ready-guarantee b q r = (ready-operator b q r, leb-true _ _ (ready-field guarantee b q r 10 (omega arith) refl))
 
 -- ---- what the state decides
 

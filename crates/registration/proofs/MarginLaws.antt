@@ -88,7 +88,7 @@ keeps-netted margins rows trade a h =
     keeps-alike margins (afterTrade a h (nettedHour rows a h) trade) (afterTrade a h (accountHour rows a h) trade) refl refl
     (omega (arith, netted-difference (netOf rows a h)))
 
--- the account breaks a margin in the hour once it took the trade
+-- the account breaks a margin in the hour after the trade
 unfoldable pub breaks : Setup → List Row → Row → ℕ → ℕ → Bool
 breaks u rows trade a h = not (keepsMargins (marginsAt u a h) (afterTrade a h (accountHour rows a h) trade))
 

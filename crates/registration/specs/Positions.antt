@@ -11,7 +11,7 @@ use Rattle.rules.specs.Books.{confirmedStatus}
 use Rattle.image.specs.Layout.{presentOffset, rowOffset, statusOffset, netOffset, netWidth}
 use Rattle.image.specs.Changes.{raised}
 
--- the nets of an account in the hours of a trade, each raised by that much; what does not fit 4 bytes is cut off
+-- the nets of an account in the hours of a trade, each raised by that much, modulo 2^32
 abbrev pub netsRaised : List ℕ → ℕ → Row → ℕ → List ℕ
 netsRaised s account r more =
     sweep (raised netWidth more) netWidth s (presentOffset + netOffset mostHours account (r .first)) (r .last - r .first + 1)

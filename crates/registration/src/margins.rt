@@ -19,8 +19,8 @@ pub enum Broken {
     Nowhere,
 }
 
-// The lowest hour in which the account breaks a margin once it took the trade; `waits` holds the account's pending sums. Only the trade's
-// hours are tested: the other hours stay as they are, and in a book no margin is broken.
+// The lowest hour in which the account breaks a margin after the trade; `waits` holds the account's pending sums. Only the trade's hours are
+// tested: the other hours stay as they are, and in a book no margin is broken.
 pub fn first_broken(book: &[u8], waits: &[u32], trade: Row, number: u8) -> Broken
     requires { ⌜ (isBook (now book) ≡ true) × WaitsOf (bookIn (now book) .part .rows) number (now waits) ⌝ }
     requires { ⌜ AccountTrade (bookIn (now book)) number trade ⌝ }

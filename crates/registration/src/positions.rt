@@ -17,7 +17,7 @@ use wire::numbers::get_u32;
 use wire::numbers::put_u32;
 use wire::signed::minus_u32;
 
-// Raises the number in the 4 bytes at `at`; of a sum that does not fit the highest bit is dropped.
+// Raises the number in the 4 bytes at `at`, modulo 2^32.
 fn raise_net(s: &mut [u8], at: usize, more: u32)
     requires { ⌜ at + netWidth ≤ length (now s) ⌝ }
     ensures { λ _. ⌜ now (s .exit) ≡ splice (now (s .entry)) at (raised netWidth more (take netWidth (drop at (now (s .entry))))) ⌝ }
@@ -25,7 +25,7 @@ fn raise_net(s: &mut [u8], at: usize, more: u32)
     put_u32(s, at, wrapping_add_u32(get_u32(s, at), more));
 }
 
-// Raises each of the `n` numbers that stand from `from` on.
+// Raises each of the `n` numbers from `from` on.
 fn raise_nets(s: &mut [u8], from: usize, n: usize, more: u32)
     requires { ⌜ from + netWidth * n ≤ length (now s) ⌝ }
     ensures { λ _. ⌜ now (s .exit) ≡ sweep (raised netWidth more) netWidth (now (s .entry)) from n ⌝ }

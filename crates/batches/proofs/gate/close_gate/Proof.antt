@@ -49,13 +49,17 @@ add-end-rows : tie.Need-add-end-rows
 add-end-rows c = search needs
 
 end-rows-requires : tie.Need-end-rows-requires
-end-rows-requires c κs = let n = book-length _ (c .before .before .before .before .before .before .before .before .pre) in omega arith
+end-rows-requires c κs =
+    let counted = c .before in
+    let clear = counted .before .before in
+    let n = book-length _ (clear .before .before .before .before .before .pre) in
+    omega arith
 
 put-u8-requires : tie.Need-put-u8-requires
 put-u8-requires c κs =
     let counted = c .before .before .before .before .before in
-    let start = counted .before .before .before .before .before .before .before in
-    let n = book-length _ (start .pre) in
+    let clear = counted .before .before in
+    let n = book-length _ (clear .before .before .before .before .before .pre) in
     omega arith
 
 same-length-2 : tie.Need-same-length-2

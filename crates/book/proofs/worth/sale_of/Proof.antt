@@ -17,21 +17,23 @@ entry-operator-requires c κs =
 
 span-worth-requires : tie.Need-span-worth-requires
 span-worth-requires c κs =
-    let start = c .before .before .before .before .before .before .before in
-    spanned _ _ _ (start .args .r) (start .pre .0) (start .pre .1) (sale-waits (start .args .r) (c .before .before .if1 .left)) .priced
+    let pending = c .before .before in
+    let start = pending .before .before .before .before .before in
+    spanned _ _ _ (start .args .r) (start .pre .0) (start .pre .1) (sale-waits (start .args .r) (pending .if1 .left)) .priced
 
 returns-2 : tie.Need-returns-2
 returns-2 c =
     let read = c .before .before in
-    let waits = read .before .if1 .left in
-    let start = c .before .before .before .before .before .before .before .before in
-    let span = spanned _ _ _ (start .args .r) (start .pre .0) (start .pre .1) (sale-waits (start .args .r) waits) in
-    sale-priced _ (start .args .operator) _ (start .args .r) _ _ span waits (read .entry-operator .ensures) (c .before .if2 .taken) (c .span-worth .ensures)
+    let pending = read .before in
+    let start = pending .before .before .before .before .before in
+    let span = spanned _ _ _ (start .args .r) (start .pre .0) (start .pre .1) (sale-waits (start .args .r) (pending .if1 .left)) in
+    sale-priced _ (start .args .operator) _ (start .args .r) _ _ span (pending .if1 .left) (read .entry-operator .ensures) (c .before .if2 .taken) (c .span-worth .ensures)
 
 returns-3 : tie.Need-returns-3
 returns-3 c =
-    let start = c .before .before .before .before .before .before .before in
-    (sym (sale-of-others _ (start .args .operator) (start .args .r) _ (c .before .entry-operator .ensures) (c .if2 .left)), omega arith)
+    let read = c .before in
+    let start = read .before .before .before .before .before .before in
+    (sym (sale-of-others _ (start .args .operator) (start .args .r) _ (read .entry-operator .ensures) (c .if2 .left)), omega arith)
 
 pub sale-of-spec : {M : Type 1} → statement M
 sale-of-spec = tie.close (tie.spec returns entry-operator-requires span-worth-requires returns-2 returns-3)

@@ -34,7 +34,10 @@ cast-put-u64 c = search needs
 
 sub-put-u64 : tie.Need-sub-put-u64
 sub-put-u64 c =
-    let low = ready-guarantee _ _ (c .before .before .before .before .before .before .before .before .pre .1) .0 .0 in omega arith
+    let clear = c .before .before .before in
+    let pre = clear .before .before .before .before .before .pre in
+    let low = ready-guarantee _ _ (pre .1) .0 .0 in
+    omega arith
 
 mul-put-u64 : tie.Need-mul-put-u64
 mul-put-u64 c = search needs
@@ -44,7 +47,8 @@ add-put-u64 c = search needs
 
 put-u64-requires : tie.Need-put-u64-requires
 put-u64-requires c κs =
-    let pre = c .before .before .before .before .before .before .before .before .pre in
+    let clear = c .before .before .before in
+    let pre = clear .before .before .before .before .before .pre in
     let n = book-length _ (pre .0) in
     let r = ready-guarantee _ _ (pre .1) in
     omega arith

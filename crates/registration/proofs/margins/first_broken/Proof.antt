@@ -48,14 +48,16 @@ loop-holds c =
 
 account-hour-requires : tie.Need-account-hour-requires Inv-loop μ-loop
 account-hour-requires c κs =
-    let l = c .before .before .loop in
-    let pre = c .before .before .before .before .before .before .pre in
+    let step = c .before .before in
+    let l = step .loop in
+    let pre = step .before .before .before .before .pre in
     (pre .0, (pre .1 .account-known, (omega (arith, pre .1 .first-low, l .inv .1), omega (arith, pre .1 .last-high))))
 
 after-trade-requires : tie.Need-after-trade-requires Inv-loop μ-loop
 after-trade-requires c κs =
-    let l = c .before .before .before .loop in
-    let pre = c .before .before .before .before .before .before .before .pre in
+    let step = c .before .before .before in
+    let l = step .loop in
+    let pre = step .before .before .before .before .pre in
     hour-room _ (pre .0 .0) _ _ _ _ _ (pre .1 .account-known) (omega (arith, pre .1 .first-low, l .inv .1), omega (arith, pre .1 .last-high)) (pre .0 .1) (pre .1 .quantity-high) (c .account-hour .ensures)
 
 keeps-margins-requires : tie.Need-keeps-margins-requires Inv-loop μ-loop

@@ -38,7 +38,8 @@ add-put-u8 c = search needs
 
 put-u8-requires : tie.Need-put-u8-requires
 put-u8-requires c κs =
-    let pre = c .before .before .before .before .before .before .before .pre in
+    let clear = c .before .before in
+    let pre = clear .before .before .before .before .before .pre in
     let n = book-length _ (pre .0) in
     let r = ready-number _ _ (pre .1) in
     omega arith
