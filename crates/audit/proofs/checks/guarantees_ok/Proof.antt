@@ -1,4 +1,4 @@
--- What was tested so far, with the test of what is left, is the test of all.
+-- After each guarantee, what was tested so far and the test of those that are left together are the test of all.
 use Prim.Native.Nat.{_+_, _-_, _*_, _≤_}
 use mathlib.Core.Path.{_≡_, refl, ap}
 use mathlib.Core.Bool.{Bool, _&&_}

@@ -1,4 +1,5 @@
--- None is pending where each is not: what was tested so far, with the test of what is left, is the test of all.
+-- No row is pending where each is not; after each row, what was tested so far and the test of the rows that are left together are the test
+-- of all.
 use Prim.Native.Nat.{_+_, _-_, _*_, _≤_}
 use mathlib.Core.Path.{_≡_, refl}
 use mathlib.Core.Bool.{not, _&&_}

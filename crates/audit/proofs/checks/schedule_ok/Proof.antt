@@ -1,13 +1,11 @@
--- The tests of the definition, in its order.
+-- The tests are those of the definition, in its order.
 use native.Mathlib.Omega.{arith}
 use Rattle.audit.proofs.CheckLaws.{schedule-by-counts}
 use Rattle.audit.proofs.checks.schedule_ok.Statement.{statement}
 use Rattle.audit.proofs.checks.schedule_ok.Tie as tie
 
 returns : tie.Need-returns
-returns c u n h =
-    let a = c .before .before .before .before .before .before .before .before .before .args in
-    schedule-by-counts u (a .x) (a .points) (a .hours) n h
+returns c u n h = schedule-by-counts u _ _ _ n h
 
 pub schedule-ok-spec : {M : Type 1} → statement M
 schedule-ok-spec = tie.close (tie.spec returns)

@@ -1,4 +1,4 @@
--- What was read of the operator's guarantee and maintenance is what is available to it.
+-- The exposure is that of the rows, and what is available is that of the guarantee and the maintenance that were read.
 use mathlib.Core.Path.{_∙_, ap}
 use native.Mathlib.Omega.{arith}
 use borrow.Author.Needs.{needs}

@@ -1,4 +1,4 @@
--- Every operator is covered where every operator that is left is, whatever rows the table is of.
+-- The first operator that is not covered decides; where none was found, all are covered if those that are left are.
 use Prim.Native.Nat.{_+_, _-_, _≤_}
 use mathlib.Core.Path.{_≡_, _∙_, sym, ap}
 use mathlib.Core.List.{List}

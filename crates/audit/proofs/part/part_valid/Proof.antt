@@ -1,4 +1,4 @@
--- Too many rows are no part; else the tests, in this order, are those of a part.
+-- A part that has too many rows or fails a test is not valid; otherwise the last tests, by the sums of its rows, decide.
 use mathlib.Core.Path.{sym, ap, _∙_}
 use native.Mathlib.Omega.{arith}
 use borrow.Author.Tests.{not-true, not-false}

@@ -1,4 +1,4 @@
--- The table is filled with the sums of the rows, so each test by it is the test of them.
+-- The table is filled with the sums of the rows, so that each test by the table is the test of the rows.
 use Rattle.audit.proofs.PartValidity.{sums-valid}
 use borrow.Author.Needs.{needs}
 use Rattle.audit.proofs.part.sums_valid.Statement.{statement}

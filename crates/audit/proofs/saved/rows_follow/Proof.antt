@@ -1,4 +1,4 @@
--- What was compared so far, with what follows of the rows left on both sides, is what follows of all.
+-- After each row, what was compared so far and the comparison of the rows that are left together compare all rows.
 use Prim.Native.Nat.{_+_, _-_, _*_, _≤_}
 use mathlib.Core.Path.{_≡_, sym, _∙_}
 use mathlib.Core.Bool.{_&&_}

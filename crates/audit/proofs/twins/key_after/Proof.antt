@@ -1,4 +1,4 @@
--- What was found so far, or is among the keys left, is among all.
+-- After each key, a key that was found so far or is among those left is among all.
 use Prim.Native.Nat.{_+_, _-_, _≤_}
 use mathlib.Core.Path.{_≡_, refl, sym, _∙_}
 use mathlib.Core.Bool.{_||_}

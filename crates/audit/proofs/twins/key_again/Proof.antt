@@ -1,4 +1,4 @@
--- Nothing seen is no key again, by what is required; else it is searched.
+-- Where nothing was seen at its mark the key does not repeat, by what is required; otherwise it is searched for.
 use mathlib.Core.Path.{sym}
 use borrow.Author.Needs.{needs}
 use Rattle.audit.proofs.twins.key_again.Statement.{statement}

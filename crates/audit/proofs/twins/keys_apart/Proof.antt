@@ -1,4 +1,4 @@
--- The keys passed, from the last on, are apart, and each has left a 1 at its mark.
+-- The keys passed so far, from the last one back, all differ, and each has left a 1 at its mark.
 use Prim.Native.Nat.{_+_, _-_, _≤_}
 use mathlib.Core.Path.{_≡_, sym, _∙_}
 use mathlib.Core.Bool.{true}
@@ -44,8 +44,9 @@ slice-read-key-again c = search needs
 
 key-again-requires : tie.Need-key-again-requires Inv-loop μ-loop
 key-again-requires c κs =
-    let l = c .before .before .before .before .before .loop in
-    let a = c .before .before .before .before .before .before .before .before .before .args in (
+    let looped = c .before .before .before .before .before in
+    let l = looped .loop in
+    let a = looped .before .before .before .before .args in (
       search needs,
       search needs,
       search needs,
@@ -57,8 +58,9 @@ same-length c = search needs
 
 returns : tie.Need-returns Inv-loop μ-loop
 returns c =
-    let l = c .before .before .before .before .before .before .before .loop in
-    let a = c .before .before .before .before .before .before .before .before .before .before .before .args in
+    let looped = c .before .before .before .before .before .before .before in
+    let l = looped .loop in
+    let a = looped .before .before .before .before .args in
     let e : l .left - 1 + (a .n - (l .left - 1)) ≡ a .n = omega arith in
     let f = apart-found (a .codes .now) (a .pairs .now) (l .left - 1) (a .n - (l .left - 1)) (a .n - (l .left - 1 + 1)) (omega arith) (rw (← c .before .key-again .ensures) (c .if1 .taken)) in
     sym (rw e at (apart-before (a .codes .now) (a .pairs .now) (l .left - 1) 0 (a .n - (l .left - 1)) (rw zero-add f)))
@@ -71,8 +73,9 @@ loop-less c = search needs
 
 loop-again : tie.Need-loop-again Inv-loop μ-loop
 loop-again c =
-    let l = c .before .before .before .before .before .before .before .loop in
-    let a = c .before .before .before .before .before .before .before .before .before .before .before .args in
+    let looped = c .before .before .before .before .before .before .before in
+    let l = looped .loop in
+    let a = looped .before .before .before .before .args in
     let e : l .left ≡ l .left - 1 + 1 = omega arith in (
       search needs,
       simp length-set (search needs),

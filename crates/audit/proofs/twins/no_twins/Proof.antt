@@ -1,4 +1,4 @@
--- The keys of the rows are all apart where no two pending rows are alike.
+-- Two rows have the same key only where both are pending and alike, so no key repeats exactly where no two pending rows are alike.
 use mathlib.Core.Path.{_∙_}
 use borrow.Author.Needs.{needs}
 use Rattle.wire.proofs.NumberLaws.{bytes-known}

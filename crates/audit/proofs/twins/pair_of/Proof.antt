@@ -1,4 +1,4 @@
--- By the row's status.
+-- The row's status says which of the two numbers it is.
 use native.Mathlib.Omega.{arith}
 use borrow.Author.Needs.{needs}
 use Rattle.audit.proofs.TwinLaws.{pair-pending, pair-other}

@@ -1,4 +1,4 @@
--- The keys of the rows passed are filled in.
+-- After `i` rows the first `i` keys are those of the rows.
 use Prim.Native.Nat.{_-_, _≤_}
 use mathlib.Core.Path.{_≡_, ap, _∙_}
 use native.Mathlib.Omega.{arith}

@@ -1,4 +1,4 @@
--- What a set-up is refused for fails, and nothing else does.
+-- `fault` says what opening would refuse the bytes for; where that is nothing they are accepted.
 use mathlib.Core.Path.{sym, ap, _∙_}
 use mathlib.Core.Bool.{not}
 use mathlib.Core.Option.{Option, none, some}

@@ -1,4 +1,4 @@
--- A section that does not stand makes the bytes no book; where the set-up and both parts stand, the rest decides.
+-- A section that is not valid makes the bytes no book; where the set-up and both parts are valid, the other tests decide.
 use mathlib.Core.Path.{sym, _∙_}
 use native.Mathlib.Omega.{arith}
 use borrow.Author.Tests.{not-true, not-false}

@@ -1,4 +1,4 @@
--- What was tested so far, with the test of what is left, is the test of all.
+-- After each operator, what was tested so far and the test of those that are left together are the test of all.
 use Prim.Native.Nat.{_+_, _-_, _*_, _≤_}
 use mathlib.Core.Path.{_≡_, refl, sym, _∙_}
 use mathlib.Core.Bool.{_&&_}

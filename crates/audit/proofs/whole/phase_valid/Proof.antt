@@ -1,4 +1,4 @@
--- The tests are those of the definition.
+-- The tests are those of the definition, in its order.
 use mathlib.Core.List.{[], _∷_}
 use Rattle.rules.proofs.Basics.Tests.{chained-all}
 use Rattle.audit.specs.Validity.{phaseValid}

@@ -1,4 +1,4 @@
--- The first `k` of the order are judged, and the tables are those of them.
+-- After `k` schedules the tables are those of the first `k` in order of priority, judged one after the other.
 use Prim.Native.Nat.{_-_, _≤_, _<_}
 use mathlib.Core.Path.{_≡_, sym, _∙_}
 use native.Mathlib.Omega.{arith}
@@ -37,8 +37,9 @@ array-copy-out-x c = search needs
 
 judge-next-requires : tie.Need-judge-next-requires Inv-loop μ-loop
 judge-next-requires c κs =
-    let l = c .before .before .before .before .loop in
-    let start = c .before .before .before .before .before .before .before .before .before .before in
+    let looped = c .before .before .before .before in
+    let l = looped .loop in
+    let start = looped .before .before .before .before .before .before in
     let here : l .k < start .args .n = omega arith in
     let ready = next-ready _ _ (start .pre .0) (l .k) (omega (arith, here, start .pre .1 .0 .all-of)) _ (in-turn _ _ _ _ here (start .pre .1 .0 .by-priority)) _ _ _ (l .inv .2) in
     ((start .pre .0, ready .0), ready .1)
@@ -57,9 +58,11 @@ array-copy-out-so-far c = search needs
 
 plus-requires : tie.Need-plus-requires Inv-loop μ-loop
 plus-requires c κs =
-    let l = c .before .before .before .before .before .before .before .before .before .before .before .loop in
-    let start = c .before .before .before .before .before .before .before .before .before .before .before .before .before .before .before .before .before in
-    let credit = c .before .before .before .before .before .before .judge-next in
+    let judged = c .before .before .before .before .before .before in
+    let looped = judged .before .before .before .before .before in
+    let start = looped .before .before .before .before .before .before in
+    let l = looped .loop in
+    let credit = judged .judge-next in
     let h : l .k ≤ length (bookIn (start .args .book .now) .schedules) = omega (arith, start .pre .1 .0 .all-of) in
     let held = first-fits _ _ (start .pre .0) (l .k) h _ (l .inv .2 .balances-of) (credit .result .operator - 1) in
     let share = credit .ensures .bounded .share-fits in
@@ -79,10 +82,12 @@ loop-less c = search needs
 
 loop-again : tie.Need-loop-again Inv-loop μ-loop
 loop-again c =
-    let l = c .before .before .before .before .before .before .before .before .before .before .before .before .loop in
-    let start = c .before .before .before .before .before .before .before .before .before .before .before .before .before .before .before .before .before .before in
-    let credit = c .before .before .before .before .before .before .before .judge-next in
-    let here : l .k < start .args .n = omega (arith, c .before .before .before .before .before .before .before .before .before .before .before .loop-test .taken) in
+    let judged = c .before .before .before .before .before .before .before in
+    let looped = judged .before .before .before .before .before in
+    let start = looped .before .before .before .before .before .before in
+    let l = looped .loop in
+    let credit = judged .judge-next in
+    let here : l .k < start .args .n = omega (arith, judged .before .before .before .before .loop-test .taken) in
     let h : l .k < length (bookIn (start .args .book .now) .schedules) = omega (arith, here, start .pre .1 .0 .all-of) in
     let turn = in-turn _ _ _ _ here (start .pre .1 .0 .by-priority) in
     let known = next-known _ _ (start .pre .0) (l .k) h _ turn in

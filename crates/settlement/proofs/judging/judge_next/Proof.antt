@@ -1,4 +1,4 @@
--- What is used up, the results and the balances each follow the schedule's result, which is the definition's.
+-- The result is the rules' after the schedules before it, and each of the three tables is brought up to date by that result.
 use mathlib.Core.Path.{sym, ap}
 use Rattle.rules.specs.declared.Point.{Point}
 use Rattle.valuation.proofs.CongruityLaws.{on-point, point-stands, point-in-cells, account-read-in-cells}
@@ -19,10 +19,11 @@ result-of-requires c κs =
 
 use-up-requires : tie.Need-use-up-requires
 use-up-requires c κs =
-    let pre = c .before .before .before .before .before .before .before .before .before .pre in
+    let read = c .before .before .before in
+    let pre = read .before .before .before .before .before .before .pre in
     let h = pre .0 .0 .is-book in
     let ok = pre .0 .1 .in-range in
-    let on = on-point _ h _ ok _ (c .before .before .before .point .ensures) in
+    let on = on-point _ h _ ok _ (read .point .ensures) in
     ((point-in-cells _ h _ ok, account-read-in-cells _ h _ ok _ (on .its-point)), (pre .1 .0, pre .1 .1))
 
 cast-results : tie.Need-cast-results

@@ -1,4 +1,4 @@
--- The order is that of the book's schedules with their places, and the tables begin with nothing used and no results.
+-- The schedules are judged in order of priority, from tables with nothing used up and no results, so that at the end all are judged.
 use mathlib.Core.Path.{ap, _∙_}
 use native.Mathlib.Omega.{arith}
 use Rattle.rules.specs.Settlement.{prioritised}

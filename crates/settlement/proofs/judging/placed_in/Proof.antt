@@ -1,4 +1,4 @@
--- The schedules before `k` have their places.
+-- After `k` schedules the first `k` have their places.
 use Prim.Native.Nat.{_-_, _≤_, _<_}
 use mathlib.Core.Path.{_≡_, refl, _∙_}
 use native.Mathlib.Omega.{arith}

@@ -1,4 +1,4 @@
--- The schedule's bytes go to the first free place, and the count follows.
+-- The schedule's bytes are written after the last one, and then the count that includes it.
 use mathlib.Core.Path.{_∙_}
 use borrow.Author.Needs.{needs}
 use Rattle.settlement.proofs.schedule.append_schedule.Statement.{statement}

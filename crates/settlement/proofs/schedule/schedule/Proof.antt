@@ -1,4 +1,5 @@
--- What was checked is what the state decides, and what is written is the book with the schedule handed in.
+-- What was checked is what the book's state refuses the schedule for; where that is nothing, the bytes written are the book with the
+-- schedule added.
 use mathlib.Core.Path.{sym, _∙_}
 use mathlib.Core.Option.{none, some}
 use native.Mathlib.Omega.{arith}

@@ -1,4 +1,4 @@
--- The bytes that a definition counts.
+-- The widths of an account's fields add up to the width of its entry.
 use mathlib.Core.Path.{refl}
 use native.Mathlib.Omega.{arith}
 use Rattle.rules.specs.Opening.{accountEntry}

@@ -1,4 +1,4 @@
--- At most 255 entries, none of them longer than 2^12.
+-- There are at most 255 entries, and none is longer than 2^12.
 use Prim.Native.Nat.{_^_}
 use native.Mathlib.Omega.{arith}
 use Rattle.rules.proofs.Basics.Products.{no-longer}

@@ -1,4 +1,4 @@
--- Each number inside the entry is that number of the whole.
+-- Each field is read from its own bytes of the entry.
 use native.Mathlib.Omega.{arith}
 use Rattle.rules.proofs.Setups.SetupEntries.{account-at, account-wide}
 use borrow.Author.Needs.{needs}

@@ -1,4 +1,4 @@
--- The entry that was read at its place is the one of that number.
+-- Entries of one width follow one another, so the entry at that offset is the one of that number.
 use mathlib.Core.Path.{refl}
 use Rattle.rules.specs.Opening.{estimatesIn, priceWidth}
 use Rattle.rules.proofs.Setups.SetupEntries.{entry-by-number}

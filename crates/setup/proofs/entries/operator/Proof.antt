@@ -1,4 +1,4 @@
--- The entry that was read at its place is the one of that number.
+-- Entries of one width follow one another, so the entry at that offset is the one of that number.
 use mathlib.Core.Path.{_∙_, ap}
 use native.Mathlib.Omega.{arith}
 use Rattle.rules.specs.Opening.{operatorsIn, operatorsOffset, operatorEntry}

@@ -1,4 +1,4 @@
--- Each number inside the entry is that number of the whole.
+-- Each field is read from its own bytes of the entry.
 use Rattle.rules.proofs.Setups.SetupEntries.{point-at}
 use borrow.Author.Needs.{needs}
 use Rattle.setup.proofs.entries.point_at.Statement.{statement}

@@ -1,4 +1,4 @@
--- The entry is its one number.
+-- The entry is one number.
 use Rattle.rules.proofs.Setups.SetupEntries.{price-at}
 use borrow.Author.Needs.{needs}
 use Rattle.setup.proofs.entries.price_at.Statement.{statement}

@@ -1,4 +1,4 @@
--- What is left comes to what all come to: an entry with no fault is passed, and the first with one decides.
+-- An estimate without a fault is passed over, and the first with one decides.
 use Prim.Native.Nat.{_-_}
 use mathlib.Core.Path.{ap}
 use lib.ListN.{drop}

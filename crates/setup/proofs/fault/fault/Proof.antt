@@ -1,4 +1,4 @@
--- Bytes in shape hold what their counts say, so that their values can be judged.
+-- Bytes of the right shape hold every entry that their counts say, so that their values can be judged; the first value at fault decides.
 use mathlib.Core.Path.{sym, _∙_}
 use Rattle.rules.proofs.Setups.SetupShape.{shape-of}
 use Rattle.setup.proofs.FaultLaws.{shaped, refused-shape, refused-value}

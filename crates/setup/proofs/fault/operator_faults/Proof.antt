@@ -1,4 +1,4 @@
--- What is left comes to what all come to: an entry with no fault is passed, and the first with one decides.
+-- An operator without a fault is passed over, and the first with one decides.
 use Prim.Native.Nat.{ℕ, _-_}
 use lib.ListN.{drop}
 use native.Mathlib.Omega.{arith}

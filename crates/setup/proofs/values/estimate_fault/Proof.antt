@@ -1,4 +1,4 @@
--- There is one value.
+-- An estimate has one value, which is judged at its offset.
 use Rattle.rules.specs.Opening.{estimateValues}
 use Rattle.setup.specs.Faults.{firstFaultFrom}
 use borrow.Author.Needs.{needs}

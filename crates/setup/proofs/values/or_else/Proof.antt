@@ -1,4 +1,4 @@
--- By cases on what the first says.
+-- It is the first where that fails, and otherwise the second.
 use Rattle.setup.specs.Faults.{orElse}
 use borrow.Author.Needs.{needs}
 use Rattle.setup.proofs.values.or_else.Statement.{statement}

@@ -1,4 +1,4 @@
--- A value in range changes nothing; one that is not counts where nothing was found before.
+-- A value in range changes nothing; one out of range counts where nothing was found before it.
 use Rattle.setup.proofs.FaultLaws.{in-range, out-of-range}
 use borrow.Author.Needs.{needs}
 use Rattle.setup.proofs.values.or_fault.Statement.{statement}

@@ -1,4 +1,4 @@
--- The sum and the exposure of the hours that are left make that of all hours, whatever rows the table is of.
+-- After each hour, the sum so far and the exposure of the hours that are left together are that of all hours.
 use Prim.Native.Nat.{ℕ, _+_, _-_, _*_, _^_, _≤_}
 use mathlib.Core.Path.{_≡_, _∙_, sym, ap}
 use mathlib.Core.List.{List}

@@ -1,4 +1,4 @@
--- The sum and what the accounts that are left add make the operator's exposure, whatever rows the table is of.
+-- After each account, the sum so far and what the accounts that are left add together are the operator's exposure.
 use Prim.Native.Nat.{ℕ, _+_, _-_, _*_, _^_, _≤_}
 use mathlib.Core.Path.{_≡_, _∙_, sym, ap}
 use mathlib.Core.List.{List}

@@ -1,4 +1,4 @@
--- Every account passes the test where every account that is left does, whatever rows the table is of.
+-- The first account that breaks a margin decides; where none was found, all keep them if those that are left do.
 use Prim.Native.Nat.{_+_, _-_, _≤_}
 use mathlib.Core.Path.{_≡_, _∙_, sym, ap}
 use mathlib.Core.List.{List}

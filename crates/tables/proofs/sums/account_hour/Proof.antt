@@ -1,4 +1,4 @@
--- Each of the four cells is its lane's sum, whatever rows the table is of.
+-- Each of the four sums is read from its own lane.
 use mathlib.Core.Path.{_∙_}
 use borrow.Author.Needs.{needs}
 use Rattle.tables.proofs.sums.account_hour.Statement.{statement}

@@ -1,4 +1,4 @@
--- Every hour passes the test where every hour that is left does.
+-- The first hour whose net position differs decides; where none was found, all agree if those that are left do.
 use Prim.Native.Nat.{_+_, _-_, _≤_}
 use mathlib.Core.Path.{_≡_, _∙_, sym}
 use native.Mathlib.Omega.{arith}

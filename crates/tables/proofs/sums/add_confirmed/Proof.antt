@@ -1,4 +1,4 @@
--- The buyer's cells are raised in the first lane and then the seller's in the second, which the first has not touched.
+-- The buyer's cells are raised in one lane and the seller's in another, so that neither touches the other.
 use native.Mathlib.Omega.{arith}
 use Rattle.rules.specs.Limits.{mostAccounts}
 use Rattle.image.specs.Tables.{slotOf}
@@ -25,8 +25,8 @@ add-hours-requires c κs =
 
 add-hours-requires-2 : tie.Need-add-hours-requires-2
 add-hours-requires-2 c κs =
-    let start = c .before .before .before .before .before .before .before .before in
     let first = c .before .before .before in
+    let start = first .before .before .before .before .before in
     let buys = buyer-in (start .args .r) (start .pre .1 .tabled) in
     let sells = seller-in (start .args .r) (start .pre .1 .tabled) in
     let e = c .before .before .before .before .before .seller .ensures in
@@ -38,9 +38,9 @@ same-length c = search needs
 
 returns : tie.Need-returns
 returns c =
-    let start = c .before .before .before .before .before .before .before .before .before .before .before in
     let second = c .before .before in
     let first = second .before .before .before .before in
+    let start = first .before .before .before .before .before in
     let buys = first .before .before .before .buyer .ensures in
     let sells = first .before .before .seller .ensures in
     added-confirmed _ _ _ _ (start .pre .1 .tabled) (start .pre .2) (rw buys at (first .add-hours .ensures)) (rw sells at (second .add-hours2 .ensures))

@@ -1,4 +1,4 @@
--- The row's hours are a range of cells that begins at the cell of its first.
+-- The row's hours are a range of cells that begins at the cell of its first hour.
 use native.Mathlib.Omega.{arith}
 use borrow.Author.Needs.{needs}
 use Rattle.tables.proofs.sums.add_hours.Statement.{statement}

@@ -28,8 +28,9 @@ same-length-2 c = search needs
 
 returns-2 : tie.Need-returns-2
 returns-2 c =
-    let start = c .before .before .before .before .before .before .before .before .before in
-    added-purchase _ _ _ (start .pre .1 .tabled) (start .pre .2) (c .before .before .before .before .if2 .taken) (c .before .before .add-hours2 .ensures)
+    let added = c .before .before in
+    let start = added .before .before .before .before .before .before .before in
+    added-purchase _ _ _ (start .pre .1 .tabled) (start .pre .2) (added .before .before .if2 .taken) (added .add-hours2 .ensures)
 
 returns-3 : tie.Need-returns-3
 returns-3 c =

@@ -1,4 +1,4 @@
--- By the row's status.
+-- The row's status says to which lanes it is added.
 use Rattle.tables.proofs.ShareLaws.{added-idle}
 use borrow.Author.Needs.{needs}
 use Rattle.tables.proofs.sums.add_row.Statement.{statement}

@@ -1,4 +1,4 @@
--- What the table holds and the sums of the rows that are left make the sums of all rows.
+-- After each row, what the table holds and the sums of the rows that are left together are the sums of all rows.
 use Prim.Native.Nat.{_+_, _-_, _*_, _≤_}
 use mathlib.Core.Path.{_≡_}
 use native.Mathlib.Omega.{arith}

@@ -1,4 +1,4 @@
--- Every account passes the test where every account that is left does.
+-- The first account whose net positions differ decides; where none was found, all agree if those that are left do.
 use Prim.Native.Nat.{_+_, _-_, _≤_}
 use mathlib.Core.Path.{_≡_, _∙_, sym, refl}
 use native.Mathlib.Omega.{arith}

@@ -1,4 +1,4 @@
--- The element at the cell.
+-- It is the element at the cell of that account hour in that lane.
 use borrow.Author.Needs.{needs}
 use Rattle.tables.proofs.sums.sum_at.Statement.{statement}
 use Rattle.tables.proofs.sums.sum_at.Tie as tie

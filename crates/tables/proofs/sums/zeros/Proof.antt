@@ -1,4 +1,4 @@
--- The array is written out as the list of zeros is.
+-- The array has a zero in each cell.
 use native.Mathlib.Omega.{arith}
 use Rattle.rules.specs.Limits.{mostHours}
 use Rattle.image.specs.Tables.{tableSize}

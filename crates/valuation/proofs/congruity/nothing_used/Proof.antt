@@ -1,4 +1,4 @@
--- The array is written out as the list of zeros is.
+-- The array has a zero in each cell.
 use mathlib.Core.Path.{refl}
 use Rattle.valuation.specs.Congruity.{nothingUsed}
 use Rattle.valuation.proofs.congruity.nothing_used.Statement.{statement}

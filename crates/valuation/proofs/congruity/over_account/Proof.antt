@@ -1,4 +1,4 @@
--- The limit is what the net position leaves, and what is used up stands in the cell past the points.
+-- The limit is what the net position leaves, and what is used up is read from the account's cell, which lies past those of the points.
 use mathlib.Core.Path.{_∙_}
 use native.Mathlib.Omega.{arith}
 use borrow.Author.Needs.{needs}

@@ -1,4 +1,4 @@
--- The limit is that of the side, and what is used up stands in the cell.
+-- The limit is the point's on that side, and what is used up is read from the point's cell.
 use borrow.Author.Needs.{needs}
 use Rattle.valuation.proofs.congruity.over_point.Statement.{statement}
 use Rattle.valuation.proofs.congruity.over_point.Tie as tie

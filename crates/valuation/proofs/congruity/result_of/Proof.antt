@@ -1,4 +1,4 @@
--- The three tests are those of the definition, once what is used up is read off the table.
+-- The three tests are those of the rules, with what is used up read off the table.
 use mathlib.Core.Path.{_∙_}
 use native.Mathlib.Omega.{arith}
 use Rattle.book.proofs.StateLaws.{book-length}

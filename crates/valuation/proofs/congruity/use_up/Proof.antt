@@ -1,4 +1,4 @@
--- Both cells of the schedule are raised by its share.
+-- The cells of the schedule's point and of its account grow by what it uses up, and no other cell changes.
 use native.Mathlib.Omega.{arith}
 use Rattle.valuation.proofs.CellLaws.{room-here, room-next, used-next}
 use borrow.Author.Needs.{needs}
