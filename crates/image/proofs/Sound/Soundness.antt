@@ -5,15 +5,16 @@ use mathlib.Core.Option.{Option, none}
 use mathlib.Core.Bool.{Bool, true, false, not, _||_}
 use native.Mathlib.Omega.{arith}
 use lib.ListN.{length, replicate}
-use borrow.Author.Tests.{eqb-true, eqb-false, leb-true, ltb-true, eq-eqb, ne-eqb, le-leb, lt-ltb, not-false, not-true}
+use borrow.Author.Tests.{eqb-true, eqb-false, leb-true, ltb-true, eq-eqb, ne-eqb, le-leb, lt-ltb, not-true}
 use Rattle.units.specs.Units.{cents}
 use Rattle.rules.specs.declared.Row.{Row}
 use Rattle.rules.specs.declared.Schedule.{Schedule}
 use Rattle.rules.specs.Basics.{every, isSome, counting, upTo, Each, nil, cons}
 use Rattle.rules.specs.Limits.{mostEnergy, mostPrice, fewestHours, mostHours, mostOperators, mostAccounts, mostPoints, mostZones}
-use Rattle.rules.specs.Books.{Setup, operatorCount, accountCount, pointCount, periods}
+use Rattle.rules.specs.Books.{Setup, countsOf, operatorCount, accountCount, pointCount, periods}
 use Rattle.rules.specs.Opening.{badCounts, operatorsOf, faultyOffset}
-use Rattle.rules.proofs.Basics.Tests.{Holds, _and_, no-more, all-holds, holds-all, or-neither, within-true}
+use Rattle.rules.proofs.Basics.Tests.{Holds, _and_, no-more, all-holds, holds-all, within-true}
+use Rattle.rules.proofs.Setups.SetupShape.{in-range as counts-in-range}
 use Rattle.rules.proofs.Basics.Searches.{none-of, every-each, each-every, counted-has}
 use Rattle.image.specs.Valid.{setupTests, setupOk, rowTests, rowOk, scheduleTests, scheduleOk}
 
@@ -61,26 +62,18 @@ pub not-some : {A : Type 0} (o : Option A) → not (isSome o) ≡ true → o ≡
 not-some o h = none-of o (not-true (isSome o) h)
 
 setup-facts : (u : Setup) → Holds (setupTests u) → SoundSetup u
-unfolding badCounts
 setup-facts u (counts and estimates and values and _) =
-    let e = or-neither _ _ .0 (not-true _ counts) in
-    let d = or-neither _ _ .0 (e .0) in
-    let c = or-neither _ _ .0 (d .0) in
-    let b = or-neither _ _ .0 (c .0) in
-    let hs = within-true fewestHours (u .hours) mostHours .0 (not-false _ (b .0)) in
-    let os = within-true 1 (operatorCount u) mostOperators .0 (not-false _ (b .1)) in
-    let cs = within-true 1 (accountCount u) mostAccounts .0 (not-false _ (c .1)) in
-    let zs = within-true 1 (u .zones) mostZones .0 (not-false _ (e .1)) in
+    let n = counts-in-range (countsOf u) (not-true _ counts) in
     record {
-      hours-low = hs .0;
-      hours-high = hs .1;
-      operators-low = os .0;
-      operators-high = os .1;
-      accounts-low = cs .0;
-      accounts-high = cs .1;
-      points-high = leb-true _ _ (not-false _ (d .1));
-      zones-low = zs .0;
-      zones-high = zs .1;
+      hours-low = n .hours .least;
+      hours-high = n .hours .most;
+      operators-low = n .operators .least;
+      operators-high = n .operators .most;
+      accounts-low = n .accounts .least;
+      accounts-high = n .accounts .most;
+      points-high = n .points;
+      zones-low = n .zones .least;
+      zones-high = n .zones .most;
       estimates-all = eqb-true _ _ estimates;
       in-range = not-some _ values;
     }

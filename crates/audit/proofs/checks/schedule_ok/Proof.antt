@@ -1,5 +1,4 @@
 -- The tests are those of the definition, in its order.
-use native.Mathlib.Omega.{arith}
 use Rattle.audit.proofs.CheckLaws.{schedule-by-counts}
 use Rattle.audit.proofs.checks.schedule_ok.Statement.{statement}
 use Rattle.audit.proofs.checks.schedule_ok.Tie as tie
