@@ -38,7 +38,7 @@ pub record SumsOf (top : ℕ) (rows : List Row) (table : List ℕ) : Type 0 wher
   pub sales-at : (a h : ℕ) → InTable top a h → getD table (cellOf top 2 a h) 0 ≡ pendingSales rows a h
   pub purchases-at : (a h : ℕ) → InTable top a h → getD table (cellOf top 3 a h) 0 ≡ pendingPurchases rows a h
 
--- so it is for any rows whose sums the table holds
+-- P is true of any rows whose sums the table holds
 abbrev pub ForRowsSummedIn : ℕ → List ℕ → (List Row → Type 0) → Type 0
 ForRowsSummedIn top table P = (rows : List Row) → SumsOf top rows table → P rows
 
