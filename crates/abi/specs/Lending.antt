@@ -1,4 +1,4 @@
--- Readings lent to a buffer: its first bytes are filled and no others changed. 10 where it is shorter than what is written; a refusal
+-- Readings put into a lent buffer: its first bytes are filled and no others changed. 10 where it is shorter than what is written; a refusal
 -- changes no byte.
 use Prim.Native.Nat.{ℕ}
 use mathlib.Core.Path.{_≡_}

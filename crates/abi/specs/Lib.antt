@@ -1,7 +1,7 @@
--- What the contracts of `abi` say: the doors of `day` on numbers and bytes.
+-- What the contracts of `abi` say: the functions of `day` on numbers and bytes.
 -- Packing: an outcome as one number, and the three numbers that it says.
 pub mod Packing
 -- Fields: a request in 34 bytes, and the record that they are written as.
 pub mod Fields
--- Lending: readings told to a lent buffer.
+-- Lending: readings put into a lent buffer.
 pub mod Lending

@@ -1,4 +1,4 @@
-// Readings told to a buffer that the caller lends: its first bytes are filled, or the reading is refused and it stays as it was.
+// Readings put into a buffer that the caller lends: its first bytes are filled, or the reading is refused and no byte changes.
 ghost use mathlib.Core.Path.{_≡_};
 ghost use Rattle.wire.specs.Numbers.{le, signed};
 ghost use Rattle.rules.specs.Verdicts.{numbers};

@@ -1,4 +1,4 @@
-// The book for programs in other languages: the doors of `day` on numbers and byte slices.
+// The book for programs in other languages: the functions of `day` on numbers and byte slices.
 pub mod exports;
 mod fields;
 pub mod lending;

@@ -1,1 +1,1 @@
--- The contracts of `abi_inner` rest on the definitions of `abi` and of the doors.
+-- The contracts of `abi_inner` rest on the definitions of `abi` and of `day`.

@@ -1,2 +1,2 @@
-// The inner doors for programs in other languages: for a holder that keeps the bytes of its book to itself.
+// Calls and readings for programs in other languages that keep the bytes of their book to themselves: no test that the bytes are a book.
 pub mod exports;

@@ -1,5 +1,5 @@
--- Bytes that are an image, by tests that each look at one place: what is not used is zero, the flag is 0 or 1, no guarantee stands in the
--- set-up, and each stored net is that of the rows. No image is built.
+-- Bytes that are an image, by tests that each look at one place: what is not used is zero, the flag is 0 or 1, the set-up has no
+-- guarantees, and each stored net is that of the rows. No image is built.
 use Prim.Native.Nat.{ℕ, zero, suc, _+_, _-_, _*_, _%_, _^_}
 use mathlib.Core.List.{List, [], _∷_}
 use mathlib.Core.Bool.{Bool, true, _&&_}
@@ -15,12 +15,12 @@ use Rattle.rules.specs.Opening.{countsIn, operatorsOffset, setupLength, guarant
 use Rattle.image.specs.Layout.{setupRoom, rowWidth, scheduleWidth, partSize, usedSize, flagOffset, scheduleCountOffset, schedulesOffset, presentOffset, savedOffset, rowCountOffset, rowOffset, netOffset, netWidth}
 use Rattle.image.specs.Cells.{partAt}
 
--- no guarantee stands in the n operators from `at` on
+-- the n operators from `at` on have no guarantees
 unfoldable pub noGuarantees : List ℕ → ℕ → ℕ → Bool
 noGuarantees s at zero = true
 noGuarantees s at (suc n) = zerosFrom s at guaranteeWidth && noGuarantees s (at + operatorEntry) n
 
--- the net in 4 bytes is what was bought less what was sold, in whole turns
+-- the net in 4 bytes is what was bought less what was sold, but for multiples of 2 ^ 32
 abbrev pub netMatches : List Row → ℕ → ℕ → ℕ → Bool
 netMatches rows a h stored = eqb ((stored + sold rows a h) % 256 ^ netWidth) (bought rows a h % 256 ^ netWidth)
 

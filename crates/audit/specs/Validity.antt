@@ -23,7 +23,7 @@ use Rattle.audit.specs.Exact.{noGuarantees, netsMatch, partExact}
 
 -- ---- the set-up
 
--- opening would accept it; no guarantee stands in it, and zeros stand behind it
+-- opening would accept it; it has no guarantees, and only zeros follow it
 abbrev pub setupValidTests : List ℕ → List Bool
 setupValidTests s =
     setupOk (setupOf (take setupRoom s))
@@ -34,7 +34,7 @@ setupValidTests s =
 unfoldable pub setupValid : List ℕ → Bool
 setupValid s = allOf (setupValidTests s)
 
--- what is known of a book's bytes once its set-up stands
+-- what is known of a book's bytes once its set-up is valid
 pub record SetupKnown (top : ℕ) (s : List ℕ) : Type 0 where
   pub size : length s ≡ bookSize
   pub tabled : SetupTabled top s
@@ -66,7 +66,7 @@ pub record PartKnown (top : ℕ) (s : List ℕ) (at n : ℕ) : Type 0 where
   pub guarantees : GuaranteesKnown s at
   pub rows : RowsTabled top s (at + rowsOffset) n
 
--- no guarantee is too great, and zeros stand behind them
+-- no guarantee is too great, and only zeros follow them
 abbrev pub guaranteesValidTests : List ℕ → ℕ → ℕ → List Bool
 guaranteesValidTests s at operators =
     every (λ g. leb (g .0) mostGuarantee) (guaranteesFrom s at operators)
@@ -76,7 +76,7 @@ guaranteesValidTests s at operators =
 unfoldable pub guaranteesValid : List ℕ → ℕ → ℕ → Bool
 guaranteesValid s at operators = allOf (guaranteesValidTests s at operators)
 
--- the n rows are in range, no two pending ones alike, and zeros stand behind them
+-- the n rows are in range, no two pending ones alike, and only zeros follow them
 abbrev pub rowsValidTests : List ℕ → ℕ → ℕ → List Bool
 rowsValidTests s at n =
     every (rowOk (setupOf s)) (rowsFrom s (at + rowsOffset) n)
@@ -111,7 +111,7 @@ savedValid top s =
 
 -- ---- schedules and phase
 
--- there are no more schedules than may stand, each in range, and zeros stand behind them
+-- there are no more schedules than a book has room for, each in range, and only zeros follow them
 abbrev pub schedulesValidTests : List ℕ → List Bool
 schedulesValidTests s =
     let n = numberAt s scheduleCountOffset 2 in

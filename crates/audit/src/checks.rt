@@ -1,4 +1,4 @@
-// The tests of rows, schedules and guarantees, one by one and as they stand in bytes.
+// The tests of rows, schedules and guarantees, one by one and side by side in bytes.
 ghost use mathlib.Core.Path.{_≡_};
 ghost use mathlib.Core.Bool.{not};
 ghost use Prim.Native.Nat.{_+_, _*_, _≤_};

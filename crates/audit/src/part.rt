@@ -30,7 +30,7 @@ use wire::numbers::get_u16;
 use wire::numbers::get_u64;
 use wire::regions::all_zero;
 
-// None of the guarantees is too great, and zeros stand behind them.
+// None of the guarantees is too great, and only zeros follow them.
 fn guarantees_valid(book: &[u8], at: usize, operators: usize) -> bool
     requires { ⌜ (at + rowCountOffset ≤ length (now book)) × (operators ≤ mostOperators) ⌝ }
     ensures { λ r. ⌜ r ≡ guaranteesValid (now (book .entry)) at operators ⌝ }
@@ -39,7 +39,7 @@ fn guarantees_valid(book: &[u8], at: usize, operators: usize) -> bool
     guarantees_ok(book, at, operators) & all_zero(book, at + used, ROW_COUNT_OFFSET - used)
 }
 
-// The rows are in range, no two pending ones are alike, and zeros stand behind them.
+// The rows are in range, no two pending ones are alike, and only zeros follow them.
 fn rows_valid(book: &[u8], at: usize, n: usize) -> bool
     requires { ⌜ (at + netsOffset ≤ length (now book)) × (n ≤ mostRows) ⌝ }
     ensures { λ r. ⌜ r ≡ rowsValid (now (book .entry)) at n ⌝ }
@@ -81,7 +81,7 @@ fn operators_covered(book: &[u8], at: usize, table: &[u32], top: usize) -> bool
     true
 }
 
-// What follows of the sums of the rows: the nets are theirs, margins are kept, and every exposure is covered. The sums are taken into the
+// What follows of the sums of the rows: the nets are theirs, margins are kept, and every exposure is covered. The sums are made in the
 // table of no rows that is lent.
 fn sums_valid(book: &[u8], at: usize, top: usize, n: usize, table: &mut [u32]) -> bool
     requires { ⌜ SetupKnown top (now book) × PartKnown top (now book) at n ⌝ }
@@ -94,7 +94,7 @@ fn sums_valid(book: &[u8], at: usize, top: usize, n: usize, table: &mut [u32]) -
         & operators_covered(book, at, table, top)
 }
 
-// The part that begins at `at` is valid, and nothing else stands in its bytes. It is lent a table of no rows.
+// The part that begins at `at` is valid, and its bytes say nothing else. It is lent a table of no rows.
 pub fn part_valid(book: &[u8], at: usize, top: usize, table: &mut [u32]) -> bool
     requires { ⌜ SetupKnown top (now book) × (at + partSize top ≤ length (now book)) ⌝ }
     requires { ⌜ NoSums top (now table) × (top ≤ mostPeriods) ⌝ }

@@ -51,7 +51,7 @@ fn is_accepted(setup: &[u8]) -> bool
     }
 }
 
-// No guarantee stands in the `n` operators from `at` on.
+// The `n` operators from `at` on have no guarantees.
 fn no_guarantees(s: &[u8], at: usize, n: usize) -> bool
     requires { ⌜ at + operatorEntry * n ≤ length (now s) ⌝ }
     ensures { λ r. ⌜ r ≡ noGuarantees (now (s .entry)) at n ⌝ }
@@ -84,7 +84,7 @@ fn setup_valid(book: &[u8]) -> bool
     no_guarantees(book, from, n.operators as usize) & all_zero(book, size, SETUP_ROOM - size)
 }
 
-// There are no more schedules than may stand, each is in range, and zeros stand behind them.
+// There are no more schedules than a book has room for, each is in range, and only zeros follow them.
 fn schedules_valid(book: &[u8]) -> bool
     requires { ⌜ SetupKnown mostHours (now book) ⌝ }
     ensures { λ r. ⌜ r ≡ schedulesValid (now (book .entry)) ⌝ }
@@ -129,7 +129,7 @@ fn is_part(book: &[u8], at: usize) -> bool
     part_valid(book, at, PERIODS, &mut table)
 }
 
-// Without a batch the saved part is zero; with one it stands, and the present rows follow from its own.
+// Without a batch the saved part is zero; with one it is valid, and the present rows follow from its own.
 fn saved_valid(book: &[u8]) -> bool
     requires { ⌜ SetupKnown mostHours (now book) × (rowCount (now book) presentOffset ≤ mostRows) ⌝ }
     ensures { λ r. ⌜ r ≡ savedValid mostHours (now (book .entry)) ⌝ }

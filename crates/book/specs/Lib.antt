@@ -7,7 +7,7 @@ pub mod Netted
 pub mod Waits
 -- Worth: exposure in two parts, net positions and pending sales.
 pub mod Worth
--- Doors: what opening and the two readings answer, on any bytes.
+-- Answers: what opening and the two readings answer, on any bytes.
 pub mod Answers
 -- Fresh: the loops by which opening writes a fresh book.
 pub mod Fresh

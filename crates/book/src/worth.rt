@@ -194,12 +194,12 @@ fn short_with(net: Net, account: u8, hour: u8, trade: Row) -> Kwh
     if (trade.status == CONFIRMED)
         & ((trade.proposer == account) | (trade.counterparty == account))
     {
-        let held = AccountHour {
+        let before = AccountHour {
             net,
             sales: Kwh(0),
             purchases: Kwh(0),
         };
-        let after = held.after_trade(trade, account, hour);
+        let after = before.after_trade(trade, account, hour);
         return short(after.net);
     }
     short(net)

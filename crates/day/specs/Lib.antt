@@ -1,5 +1,5 @@
 -- What the contracts of `day` say, and what is promised of a day.
--- Doors: what a call answers, on any bytes.
+-- Answers: what a call answers, on any bytes.
 pub mod Answers
 -- Readings: what the ledger would read out.
 pub mod Readings

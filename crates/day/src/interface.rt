@@ -1,4 +1,4 @@
-// The other doors of a day: opening, the readings, and the record reader and writer.
+// The rest of the interface of a day: opening, the readings, and the record reader and writer.
 ghost use mathlib.Core.Path.{_≡_};
 ghost use mathlib.Core.Bool.{true};
 ghost use Rattle.rules.specs.Opening.{openOutcome};

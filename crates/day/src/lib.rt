@@ -1,4 +1,4 @@
-// A day's calls on the bytes of a book: the one door of the product.
+// A day's calls on the bytes of a book: the public functions of the product.
 pub mod calls;
 pub mod interface;
 mod kinds;

@@ -1,4 +1,4 @@
--- What stands in bytes from a place on: rows, schedules, guarantees, and a part.
+-- What bytes say from a place on: rows, schedules, guarantees, and a part.
 use Prim.Native.Nat.{ℕ}
 use mathlib.Core.List.{List, map}
 use lib.ListN.{take, drop}
@@ -13,15 +13,15 @@ use Rattle.rules.specs.Opening.{guaranteeWidth}
 use Rattle.image.specs.Layout.{rowWidth, scheduleWidth, partSize}
 use Rattle.image.specs.Image.{rowIn, scheduleIn, partIn}
 
--- the n rows that stand in bytes from `at` on
+-- the n rows in bytes from `at` on
 unfoldable pub rowsFrom : List ℕ → ℕ → ℕ → List Row
 rowsFrom s at n = map rowIn (chunks rowWidth n (drop at s))
 
--- the n schedules that stand in bytes from `at` on
+-- the n schedules in bytes from `at` on
 unfoldable pub schedulesFrom : List ℕ → ℕ → ℕ → List Schedule
 schedulesFrom s at n = map scheduleIn (chunks scheduleWidth n (drop at s))
 
--- the n guarantees that stand in bytes from `at` on
+-- the n guarantees in bytes from `at` on
 unfoldable pub guaranteesFrom : List ℕ → ℕ → ℕ → List Cents
 guaranteesFrom s at n = map (λ x. cents (number x)) (chunks guaranteeWidth n (drop at s))
 

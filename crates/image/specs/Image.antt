@@ -60,7 +60,7 @@ unfoldable pub savedBytes : ℕ → Option Part → List ℕ
 savedBytes top none = zeros (partSize top)
 savedBytes top (some p) = partBytes top p
 
--- the set-up with its guarantees zero: those in force stand in the part
+-- the set-up with its guarantees zero: those in force are in the part
 unfoldable pub storedSetup : Setup → List ℕ
 storedSetup u = setupBytes u (replicate (operatorCount u) (cents 0))
 

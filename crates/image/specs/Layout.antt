@@ -37,7 +37,7 @@ netWidth = 4
 abbrev pub accountWidth : ℕ → ℕ
 accountWidth top = netWidth * top
 
--- ---- the sections of a part and of a book, in the order in which they stand
+-- ---- the sections of a part and of a book, in their order
 
 abbrev pub guaranteesSection : ℕ
 guaranteesSection = 0

@@ -7,7 +7,7 @@ pub mod Image
 pub mod Valid
 -- Changes: what a loop over cells of a book puts to each.
 pub mod Changes
--- Cells: what stands in bytes from a place on.
+-- Cells: what bytes say from a place on.
 pub mod Cells
 -- Tables: tables by account hour, what has room in them, and cells raised.
 pub mod Tables

@@ -1,5 +1,5 @@
 -- What the contracts of `items` say; the items, lines and text that they lead to are those of rules/specs/Replay.antt.
--- Stream: what stands at an offset of a stream, and how much of an item is its record.
+-- Stream: the item at an offset of a stream, and how much of an item is its record.
 pub mod Stream
 -- Written: text put into a lent buffer.
 pub mod Written

@@ -1,4 +1,4 @@
--- The stream walked item by item (document 01, "Replay"). What an offset comes to in the list of all items is said by the laws of
+-- The stream read item by item (document 01, "Replay"). What an offset comes to in the list of all items is said by the laws of
 -- proofs/StreamLaws.antt.
 use Prim.Native.Nat.{ℕ, _+_}
 use mathlib.Core.List.{List}
@@ -16,7 +16,7 @@ foundAt s at =
     else if leb (at + 2 + numberAt s at 2) (length s) then Whole (at + 2) (at + 2 + numberAt s at 2)
     else Cut
 
--- where the walk stands past what it found: behind a whole item, else where it was
+-- where the next item begins: behind a whole item, else at the same offset
 unfoldable pub pastFound : Found → ℕ → ℕ
 pastFound (Whole from end) at = end
 pastFound Cut at = at

@@ -5,7 +5,7 @@ use mathlib.Core.List.{List}
 use lib.ListN.{length}
 use Rattle.wire.specs.Regions.{splice}
 
--- the text stands at `at`, nothing else changed, and `past` is the offset behind it
+-- the text is at `at`, nothing else changed, and `past` is the offset behind it
 pub record Written (before : List ℕ) (at : ℕ) (text after : List ℕ) (past : ℕ) : Type 0 where
   pub put : after ≡ splice before at text
   pub behind : past ≡ at + length text

@@ -6,7 +6,7 @@ pub mod reader;
 pub mod stream;
 pub mod text;
 
-// What stands at an offset of a stream: an item whose bytes run from `from` to `end`, one that is cut short, or nothing.
+// What is found at an offset of a stream: an item whose bytes run from `from` to `end`, one that is cut short, or nothing.
 pub enum Found {
     Whole { from: usize, end: usize },
     Cut,

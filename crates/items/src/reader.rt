@@ -1,4 +1,4 @@
-// The stream walked item by item: a reader knows its stream and its place in it, gives the item that stands there, and moves on.
+// The stream read item by item: a reader knows its stream and its place in it, gives the item there, and moves on.
 ghost use mathlib.Core.Path.{_≡_};
 ghost use Rattle.items.specs.Stream.{foundAt, pastFound};
 use crate::Found;
@@ -12,7 +12,7 @@ pub struct Reader<'a> {
 }
 
 impl<'a> Reader<'a> {
-    // What stands at the reader's place, and the reader moves on past it.
+    // The item at the reader's place. The reader moves on past it.
     pub fn next(&mut self) -> Found
         ensures item { λ r. ⌜ r ≡ foundAt (now (now (self .entry) .stream)) (now (self .entry) .at) ⌝ }
         ensures same_stream { λ _. ⌜ now (self .exit) .stream ≡ now (self .entry) .stream ⌝ }

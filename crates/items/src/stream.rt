@@ -8,7 +8,7 @@ use wire::numbers::get_u16;
 // The bytes of a record with no fields: its map and its kind.
 const BARE_RECORD: usize = 3;
 
-// What stands at `at` of the stream.
+// The item at `at` of the stream.
 pub fn item_at(stream: &[u8], at: usize) -> Found
     ensures { λ r. ⌜ r ≡ foundAt (now (stream .entry)) at ⌝ }
 {
@@ -30,7 +30,7 @@ pub fn item_at(stream: &[u8], at: usize) -> Found
     }
 }
 
-// Where the walk stands past what it found at `at`.
+// Where the next item begins, after what was found at `at`.
 pub fn past_found(found: Found, at: usize) -> usize
     ensures { λ r. ⌜ r ≡ pastFound found at ⌝ }
 {

@@ -1,4 +1,4 @@
--- A replay in rounds: lines are gathered in a buffer and written, then the next ones are gathered in the same buffer, while the walk goes on.
+-- A replay in rounds: lines are gathered in a buffer and written, then the next ones are gathered in the same buffer, while the replay goes on.
 use Prim.Native.Nat.{ℕ, zero, suc}
 use mathlib.Core.Path.{_≡_}
 use mathlib.Core.List.{List, _++_}
@@ -26,7 +26,7 @@ unfoldable pub linesOfRounds : ℕ → List ℕ → Progress → List ℕ
 linesOfRounds zero stream p = linesIn p
 linesOfRounds (suc n) stream p = linesOfRounds n stream p ++ linesIn (afterRounds (suc n) stream p)
 
--- a replay that ended after some rounds: the book and the buffer are as the last one left them; where all was written, the walk has ended, and
+-- a replay that ended after some rounds: the book and the buffer are as the last one left them; where all was written, the replay has ended, and
 -- the lines of the rounds are the text of the replay
 pub record Replayed (stream book out book₁ out₁ : List ℕ) (written : Bool) : Type 0 where
   pub rounds : ℕ

@@ -1,4 +1,4 @@
-// Records of requests: read, written, and their fields held against a book's counts.
+// Records of requests: read, written, and their fields compared with a book's counts.
 pub mod ranges;
 pub mod reader;
 pub mod tables;

@@ -1,4 +1,4 @@
-// The fields of a request held against a book's counts: which is out of range, and whether both accounts are the same.
+// The fields of a request compared with a book's counts: which is out of range, and whether both accounts are the same.
 ghost use mathlib.Core.Path.{_≡_};
 ghost use mathlib.Core.Bool.{not};
 ghost use Rattle.rules.specs.Basics.{if_then_else_};

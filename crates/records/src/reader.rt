@@ -37,7 +37,7 @@ fn number_at(s: &[u8], at: usize, width: usize) -> u64
     v
 }
 
-// The fields of a record by bit, one after the other. A field that does not stand is 0.
+// The fields of a record by bit, one after the other. A field that the record has not is 0.
 fn fields(bytes: &[u8]) -> [u64; FIELDS]
     requires { ⌜ offset (mapOf (now bytes)) fieldCount ≤ length (now bytes) ⌝ }
     ensures { λ r. ⌜ r ≡ map (fieldIn (now (bytes .entry))) bits ⌝ }

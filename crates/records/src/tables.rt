@@ -63,7 +63,7 @@ pub fn width(k: usize) -> usize
     WIDTHS[k] as usize
 }
 
-// Whether a bit of a map stands.
+// Whether the map has the field: its bit is set.
 pub fn has_field(map: u16, k: usize) -> bool
     requires { ⌜ k < 16 ⌝ }
     ensures { λ r. ⌜ r ≡ bit map k ⌝ }
@@ -79,7 +79,7 @@ pub fn room_of(map: u16, k: usize) -> usize
     if has_field(map, k) { width(k) } else { 0 }
 }
 
-// How many fields stand in one map and not in the other.
+// How many fields one map has and the other has not.
 pub fn fields_more(one: u16, other: u16) -> u8
     requires { ⌜ one < 2 ^ fieldCount ⌝ }
     ensures { λ r. ⌜ r ≡ more one other ⌝ }

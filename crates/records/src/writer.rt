@@ -63,7 +63,7 @@ fn field_of(q: Request, k: usize) -> u64
     fields[k]
 }
 
-// Puts the fields of a request whose bit stands in the map, one after the other, behind the place of the map.
+// Puts the fields of a request that the map has, one after the other, behind the place of the map.
 fn put_fields(q: Request, map: u16, buffer: &mut [u8])
     requires { ⌜ offset map fieldCount ≤ length (now buffer) ⌝ }
     ensures { λ _. ⌜ now (buffer .exit) ≡ splice (now (buffer .entry)) 2 (fieldBytes map q 0 fieldCount) ⌝ }

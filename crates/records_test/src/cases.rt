@@ -98,7 +98,7 @@ fn show_written(q: Request, room: u8) {
     write_within(q, room, &mut buffer);
 }
 
-// A record: read, and where it is accepted held against the counts and written again.
+// A record: read, and where it is accepted compared with the counts and written again.
 fn show_record(record: &[u8], counts: Counts) {
     let reading = read(record);
     match reading {
@@ -142,7 +142,7 @@ fn show_writing(body: &[u8]) {
     show_written(request(&body[1..]), room);
 }
 
-// The counts that later records are held against.
+// The counts that later records are compared with.
 fn show_counts(body: &[u8], before: Counts) -> Counts {
     if body.len() < 5 {
         return before;

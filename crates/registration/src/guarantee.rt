@@ -31,8 +31,8 @@ fn covered_under(book: &[u8], guarantee: Cents, number: u8) -> bool
     requires { ⌜ (isBook (now book) ≡ true) × (guarantee .0 ≤ mostGuarantee) × IsOperator (bookIn (now book)) number ⌝ }
     ensures { λ r. ⌜ r ≡ coveredUnder (bookIn (now (book .entry))) (guarantee .0) number ⌝ }
 {
-    let held = guarantee_in_force(book, number);
-    if held.0 <= guarantee.0 {
+    let in_force = guarantee_in_force(book, number);
+    if in_force.0 <= guarantee.0 {
         return true;
     }
     let owed = exposure_with(book, number, Added::Nothing);

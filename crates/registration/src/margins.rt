@@ -32,8 +32,8 @@ pub fn first_broken(book: &[u8], waits: &[u32], trade: Row, number: u8) -> Broke
         if trade.last < hour {
             break Broken::Nowhere;
         }
-        let held = account_hour(book, waits, number, hour);
-        let after = held.after_trade(trade, number, hour);
+        let before = account_hour(book, waits, number, hour);
+        let after = before.after_trade(trade, number, hour);
         if keeps_margins(own, after) {
             hour = hour + 1;
         } else {

@@ -1,5 +1,5 @@
--- Laws of the walk.
--- WalkLaws: the steps strung together are the replay.
+-- Laws of the replay.
+-- ReplayLaws: the steps strung together are the replay.
 pub mod ReplayLaws
 -- CallLaws: the call of an item, by its two parts.
 pub mod CallLaws

@@ -1,4 +1,4 @@
--- The steps of the walk, strung together, print the replay: what stands at an offset is the first of the items from there on.
+-- The steps of the replay, strung together, print the replay: what stands at an offset is the first of the items from there on.
 use Prim.Native.Nat.{ℕ, suc}
 use mathlib.Core.Path.{_≡_, refl, ap, _∙_}
 use mathlib.Core.List.{List, [], _∷_, _++_}

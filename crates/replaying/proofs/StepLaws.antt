@@ -1,4 +1,4 @@
--- A step by what stands at its place, and what the code of the walk hands back for one that goes on and for one that ends.
+-- A step by what stands at its place, and what the code of the replay hands back for one that goes on and for one that ends.
 use Prim.Native.Nat.{ℕ, _≤_, _<_}
 use mathlib.Core.Path.{_≡_, refl, sym, ap, _∙_}
 use mathlib.Core.List.{List, [], _∷_}
@@ -51,7 +51,7 @@ module _ (lines : List Line) {out out₁ : List ℕ} {past : ℕ} (put : Written
       → Does (endsAfter lines) w book book₁ out out₁ rest
   does-end e same more = (rw (e, past-lines), (same, (put .put, (rw e room, more))))
 
--- where the walk ends nothing is promised of its going on
+-- where the replay ends nothing is promised of its going on
 pub ended-not-on : {P : Type 0} {past : ℕ} {w : Stepped} → w ≡ record { «goes_on» = false; next = 0; end = past } → w .«goes_on» ≡ true → P
 ended-not-on e h = let z : _≡_ {A = ℕ} 0 1 = cc in absurd (omega arith)
 
@@ -114,7 +114,7 @@ unfolding openStep
 open-next-go setup end (some r) = omega arith
 open-next-go setup end none = omega arith
 
--- the walk goes on no further than past the set-up
+-- the replay goes on no further than past the set-up
 pub open-next : (setup : List ℕ) (end n : ℕ) (r : Option Refusal) {w : Stepped} → w ≡ stepped (openStep setup end r) → end ≤ n → w .next ≤ n
 open-next setup end n r e h = rw e (omega (arith, open-next-go setup end r))
 
@@ -137,7 +137,7 @@ module _ (setup book : List ℕ) (size : length book ≡ bookSize) (next : ℕ) 
 
   module _ (v : Numbers) (told : v ≡ numbers o) {out out₁ : List ℕ} {past : ℕ} (put : Written out 0 (lineText (answered 0 v)) out₁ past)
       (room : past ≤ stepRoom) where
-    -- an accepted set-up: its line, the fresh book, and the walk goes on
+    -- an accepted set-up: its line, the fresh book, and the replay goes on
     pub does-open : {n : ℕ} → o .verdict ≡ Accepted n
         → Does (openStep setup next (setupRefusal setup)) (record { «goes_on» = true; next = next; end = past }) book book₁ out out₁ (_≡_ {A = Bool} true true → isBook book₁ ≡ true)
     unfolding openStep
@@ -147,7 +147,7 @@ module _ (setup book : List ℕ) (size : length book ≡ bookSize) (next : ℕ) 
         let line = one-line (answered 0 (numbers (accepted 0))) (rw (told, d .0) at put) in
         rw e (does-go-on _ line room book (opened setup) next (d .1) (λ t. rw (d .1) (opened-is-book setup e mostHours bookSize (omega arith))))
 
-    -- a refused one: its line, the bytes as they were, and the walk ends
+    -- a refused one: its line, the bytes as they were, and the replay ends
     pub does-refuse : {r : Refusal} {w : Stepped} → o .verdict ≡ Refused r → w ≡ record { «goes_on» = false; next = 0; end = past }
         → Does (openStep setup next (setupRefusal setup)) w book book₁ out out₁ (w .«goes_on» ≡ true → isBook book₁ ≡ true)
     unfolding openStep

@@ -1,4 +1,4 @@
--- Lines that are gathered in one buffer: what each item leaves in the book and in the buffer. The lines that stand there and the text that
+-- Lines that are gathered in one buffer: what each item leaves in the book and in the buffer. The lines in the buffer and the text that
 -- is still to come make the whole.
 use Prim.Native.Nat.{ℕ, zero, suc, _+_, _-_, _≤_}
 use mathlib.Core.Path.{_≡_}
@@ -16,7 +16,7 @@ use Rattle.replaying.specs.Lent.{stepRoom, stepped, bookOn, printed}
 
 -- ---- what is gathered
 
--- how far a walk has come, the bytes of the book, and the buffer with the lines
+-- how far a replay has come, the bytes of the book, and the buffer with the lines
 pub record Progress : Type 0 where
   pub gathered : Gathered
   pub book : List ℕ
@@ -25,7 +25,7 @@ pub record Progress : Type 0 where
 abbrev pub soFar : Gathered → List ℕ → List ℕ → Progress
 soFar g book out = record { gathered = g; book = book; out = out }
 
--- a step's lines stand behind those up to `end`, and its book is the one that the walk goes on with; the next item has the number n
+-- a step's lines stand behind those up to `end`, and its book is the one that the replay goes on with; the next item has the number n
 abbrev pub onStep : Step → ℕ → ℕ → List ℕ → List ℕ → Progress
 onStep x n end book out =
     let w = stepped x in
@@ -44,23 +44,23 @@ itemGathered stream p =
     let g = p .gathered in
     onStep (stepAt (bookIn (p .book)) (g .number) stream (g .next)) (g .number + 1) (g .end) (p .book) (p .out)
 
--- the walk goes on, and the buffer has room for another step
+-- the replay goes on, and the buffer has room for another step
 unfoldable pub takesAnother : Progress → Bool
 takesAnother p = p .gathered .«goes_on» && leb (p .gathered .end + stepRoom) (length (p .out))
 
--- at most so many items are gathered, while the walk goes on and the buffer has room
+-- at most so many items are gathered, while the replay goes on and the buffer has room
 unfoldable pub itemsGathered : ℕ → List ℕ → Progress → Progress
 itemsGathered zero stream p = p
 itemsGathered (suc n) stream p = if takesAnother p then itemsGathered n stream (itemGathered stream p) else p
 
--- items are gathered until the walk ends or the buffer has no room for another step; since an item has 2 bytes or more, so many steps are
+-- items are gathered until the replay ends or the buffer has no room for another step; since an item has 2 bytes or more, so many steps are
 -- enough
 unfoldable pub allGathered : List ℕ → Progress → Progress
 allGathered stream p = itemsGathered (length stream + 2 - p .gathered .number) stream p
 
 -- ---- the whole text
 
--- the text that the items from the next on print on the book; none where the walk has ended
+-- the text that the items from the next on print on the book; none where the replay has ended
 abbrev pub toCome : List ℕ → Progress → List ℕ
 toCome stream p =
     let g = p .gathered in if g .«goes_on» then text (linesFrom (bookIn (p .book)) (g .number) stream (g .next)) else []
@@ -73,7 +73,7 @@ linesIn p = take (p .gathered .end) (p .out)
 abbrev pub wholeText : List ℕ → Progress → List ℕ
 wholeText stream p = linesIn p ++ toCome stream p
 
--- the lines end within the buffer; where the walk goes on, the bytes are a book and the next item begins within the stream; an item takes
+-- the lines end within the buffer; where the replay goes on, the bytes are a book and the next item begins within the stream; an item takes
 -- 2 bytes or more, so that its number stays behind its offset
 pub record Underway (stream : List ℕ) (p : Progress) : Type 0 where
   pub room : p .gathered .end ≤ length (p .out)
@@ -81,7 +81,7 @@ pub record Underway (stream : List ℕ) (p : Progress) : Type 0 where
   pub onward : p .gathered .«goes_on» ≡ true
       → (isBook (p .book) ≡ true) × (p .gathered .next ≤ length stream) × (p .gathered .number ≤ p .gathered .next + 1)
 
--- from one to the other the text stays whole, and the walk underway
+-- from one to the other the text stays whole, and the replay goes on
 pub record Follows (stream : List ℕ) (before after : Progress) : Type 0 where
   pub whole : wholeText stream after ≡ wholeText stream before
   pub underway : Underway stream after

@@ -1,4 +1,4 @@
--- What a step of the walk answers, and what it leaves in the book and in the buffer for its lines.
+-- What a step of the replay answers, and what it leaves in the book and in the buffer for its lines.
 use Prim.Native.Nat.{ℕ, _+_, _*_}
 use mathlib.Core.List.{List, _++_}
 use mathlib.Core.Option.{Option, none, some}
@@ -20,12 +20,12 @@ use Rattle.replaying.specs.Steps.{Onward, Step}
 abbrev pub stepRoom : ℕ
 stepRoom = lineRoom * (mostSchedules + mostOperators + 2)
 
--- where the next item begins; 0 where the walk ends
+-- where the next item begins; 0 where the replay ends
 abbrev pub nextOf : Option Onward → ℕ
 nextOf none = 0
 nextOf (some o) = o .at
 
--- the bytes of the book that the walk goes on with; as they were where it ends
+-- the bytes of the book that the replay goes on with; as they were where it ends
 abbrev pub bookOn : Option Onward → List ℕ → List ℕ
 bookOn none before = before
 bookOn (some o) before = bookBytes (o .book)

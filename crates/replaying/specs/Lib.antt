@@ -1,5 +1,5 @@
--- What the contracts of `walk` say; the items, lines and text that they lead to are those of rules/specs/Replay.antt.
--- Walk: what one step of the walk prints, and with what the walk goes on.
+-- What the contracts of `replaying` say; the items, lines and text that they lead to are those of rules/specs/Replay.antt.
+-- Steps: what one step of the replay prints, and with what the replay goes on.
 pub mod Steps
 -- Lent: what a step leaves in the buffers that it is lent.
 pub mod Lent

@@ -1,5 +1,5 @@
--- The stream walked item by item (document 01, "Replay"): what the beginning prints and what each later item prints, and with what the
--- walk then goes on. That the steps strung together are the replay is said by the laws of proofs/WalkLaws.antt.
+-- The stream replayed item by item (document 01, "Replay"): what the beginning prints and what each later item prints, and with what the
+-- replay then goes on. That the steps strung together are the replay is said by the laws of proofs/ReplayLaws.antt.
 use Prim.Native.Nat.{ℕ, _-_}
 use mathlib.Core.List.{List, [], _∷_}
 use mathlib.Core.Option.{Option, none, some}
@@ -17,21 +17,21 @@ use Rattle.items.specs.declared.Found.{Found}
 use Rattle.items.specs.declared.Found.the-variants.{Whole, Cut, End}
 use Rattle.items.specs.Stream.{foundAt}
 
--- the book that the walk goes on with, and where the next item begins
+-- the book that the replay goes on with, and where the next item begins
 pub record Onward : Type 0 where
   pub book : Book
   pub at : ℕ
 
--- the lines that a step prints, and how the walk goes on; none where it ends
+-- the lines that a step prints, and how the replay goes on; none where it ends
 pub record Step : Type 0 where
   pub lines : List Line
   pub onward : Option Onward
 
--- the walk ends after these lines
+-- the replay ends after these lines
 abbrev pub endsAfter : List Line → Step
 endsAfter lines = record { lines = lines; onward = none }
 
--- the walk goes on after these lines
+-- the replay goes on after these lines
 abbrev pub goesOnAfter : List Line → Book → ℕ → Step
 goesOnAfter lines b at = record { lines = lines; onward = some (record { book = b; at = at }) }
 
@@ -41,12 +41,12 @@ itemIn s from end = take (end - from) (drop from s)
 
 -- ---- the beginning: item 0 is the set-up
 
--- a refused set-up ends the walk after its line
+-- a refused set-up ends the replay after its line
 unfoldable pub openStep : List ℕ → ℕ → Option Refusal → Step
 openStep setup end (some r) = endsAfter (answered 0 (numbers (refused r)) ∷ [])
 openStep setup end none = goesOnAfter (answered 0 (numbers (accepted 0)) ∷ []) (opened setup) end
 
--- by what stands at the front of the stream: nothing prints nothing
+-- by what is found at the front of the stream: nothing prints nothing
 unfoldable pub firstStep : List ℕ → Found → Step
 firstStep s End = endsAfter []
 firstStep s Cut = endsAfter (cut 0 ∷ [])
@@ -58,7 +58,7 @@ beginning s = if ltb longestStream (length s) then endsAfter (long ∷ []) else 
 
 -- ---- the items after it
 
--- item n, by what stands there, on a book: its call is answered; one that is cut short ends the walk
+-- item n, by what is found there, on a book: its call is answered; one that is cut short ends the replay
 unfoldable pub itemStep : Book → ℕ → List ℕ → Found → Step
 itemStep b n s End = endsAfter []
 itemStep b n s Cut = endsAfter (cut n ∷ [])

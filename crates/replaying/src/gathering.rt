@@ -12,7 +12,7 @@ use crate::steps::STEP_ROOM;
 use crate::steps::begin;
 use crate::steps::replay_item;
 
-// Begins the walk: opens the book of item 0, and puts the lines of the beginning at the front of `out`.
+// Begins the replay: opens the book of item 0, and puts the lines of the beginning at the front of `out`.
 pub fn gather_first(stream: &[u8], book: &mut [u8], out: &mut [u8]) -> Gathered
     requires { ⌜ (length (now book) ≡ bookSize) × (stepRoom ≤ length (now out)) ⌝ }
     ensures left { λ g. ⌜ soFar g (now (book .exit)) (now (out .exit)) ≡ firstGathered (now (stream .entry)) (now (book .entry)) (now (out .entry)) ⌝ }
@@ -28,7 +28,7 @@ pub fn gather_first(stream: &[u8], book: &mut [u8], out: &mut [u8]) -> Gathered
     }
 }
 
-// Walks the next item, and puts its lines behind those that are gathered.
+// Replays the next item, and puts its lines behind those that are gathered.
 fn gather_item(stream: &[u8], gathered: Gathered, book: &mut [u8], out: &mut [u8]) -> Gathered
     requires { ⌜ (gathered .«goes_on» ≡ true) × (gathered .end + stepRoom ≤ length (now out)) ⌝ }
     requires { ⌜ Underway (now stream) (soFar gathered (now book) (now out)) ⌝ }
@@ -47,7 +47,7 @@ fn gather_item(stream: &[u8], gathered: Gathered, book: &mut [u8], out: &mut [u8
     }
 }
 
-// Walks on, and gathers the lines of each item behind those that are gathered, until the walk ends or `out` has no room for another step.
+// Replays further, and gathers the lines of each item behind those that are gathered, until the replay ends or `out` has no room for another step.
 pub fn gather(stream: &[u8], gathered: Gathered, book: &mut [u8], out: &mut [u8]) -> Gathered
     requires { ⌜ stepRoom ≤ length (now out) ⌝ }
     requires { ⌜ Underway (now stream) (soFar gathered (now book) (now out)) ⌝ }

@@ -1,4 +1,4 @@
-// The steps of the walk: the beginning, which opens the book, and each item after it.
+// The steps of the replay: the beginning, which opens the book, and each item after it.
 ghost use mathlib.Core.Path.{_≡_};
 ghost use mathlib.Core.Bool.{true, false};
 ghost use Prim.Native.Nat.{_+_, _≤_};
@@ -25,7 +25,7 @@ use rules::verdicts::outcome_numbers;
 // Bytes of the longest stream that is replayed.
 const LONGEST_STREAM: usize = 65_536;
 
-// One byte more, which tells that a stream is longer.
+// One byte more, by which a longer stream is known.
 pub const STREAM_ROOM: usize = LONGEST_STREAM + 1;
 
 // Room for any line.
@@ -34,7 +34,7 @@ const LINE_ROOM: usize = 84;
 // Room for the lines of any step: one for the item, for each schedule, for each operator, and for the total.
 pub const STEP_ROOM: usize = LINE_ROOM * (MOST_SCHEDULES + MOST_OPERATORS as usize + 2);
 
-// The walk ends, with lines up to `end`.
+// The replay ends, with lines up to `end`.
 fn ended(end: usize) -> Stepped
     ensures { λ w. ⌜ w ≡ record { «goes_on» = false; next = 0; end = end } ⌝ }
 {
@@ -45,7 +45,7 @@ fn ended(end: usize) -> Stepped
     }
 }
 
-// Opens the book of a set-up, and puts its line. The walk goes on at `next` where the set-up is accepted.
+// Opens the book of a set-up, and puts its line. The replay goes on at `next` where the set-up is accepted.
 fn open_setup(setup: &[u8], next: usize, book: &mut [u8], out: &mut [u8]) -> Stepped
     requires { ⌜ (length (now book) ≡ bookSize) × (stepRoom ≤ length (now out)) ⌝ }
     ensures answer { λ w. ⌜ w ≡ stepped (openStep (now (setup .entry)) next (setupRefusal (now (setup .entry)))) ⌝ }
@@ -68,7 +68,7 @@ fn open_setup(setup: &[u8], next: usize, book: &mut [u8], out: &mut [u8]) -> Ste
     }
 }
 
-// Begins the walk: opens the book of item 0, and puts the lines of the beginning at the front of `out`.
+// Begins the replay: opens the book of item 0, and puts the lines of the beginning at the front of `out`.
 pub fn begin(stream: &[u8], book: &mut [u8], out: &mut [u8]) -> Stepped
     requires { ⌜ (length (now book) ≡ bookSize) × (stepRoom ≤ length (now out)) ⌝ }
     ensures answer { λ w. ⌜ w ≡ stepped (beginning (now (stream .entry))) ⌝ }
@@ -93,7 +93,7 @@ pub fn begin(stream: &[u8], book: &mut [u8], out: &mut [u8]) -> Stepped
     }
 }
 
-// Walks the item that begins at `at`, whose number it is told: answers its call on the book, and puts its lines at the front of `out`.
+// Replays the item that begins at `at` and has that number: answers its call on the book, and puts its lines at the front of `out`.
 pub fn replay_item(
     stream: &[u8],
     at: usize,

@@ -120,7 +120,7 @@ periods u = u .hours
 abbrev pub hourOf : Setup → ℕ → ℕ
 hourOf u p = p
 
--- ---- entries by number, from 1; what is named `no…` stands at a number that no book has
+-- ---- entries by number, from 1; what is named `no…` is given for a number that no book has
 
 abbrev pub noAccount : Account
 noAccount = record { operator = 0; kind = 0; lower = kwh 0; upper = kwh 0 }

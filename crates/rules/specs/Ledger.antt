@@ -62,7 +62,7 @@ abbrev pub pageNext : Page → ℕ → Page
 pageNext p n =
     record { guarantees = p .guarantees; pending = p .pending; trades = p .trades; schedules = p .schedules; nextNumber = n }
 
--- the set-up, the ledger as it stands, and the copy that the last open made
+-- the set-up, the present page, and the copy that the last open made
 pub record Ledger : Type 0 where
   pub setup : Setup
   pub page : Page

@@ -15,7 +15,7 @@ pub const THOUSAND: u16 = 1000;
 // Rows that may have numbers in a day, withdrawn ones too.
 pub const MOST_ROWS: u16 = 256;
 
-// Schedules that may stand.
+// Schedules that a book has room for.
 pub const MOST_SCHEDULES: usize = 256;
 
 // The counts of a set-up.

@@ -1,4 +1,4 @@
-// Schedule: takes a schedule in, under the next place.
+// Schedule: adds a schedule under the next place.
 ghost use mathlib.Core.Path.{_≡_};
 ghost use mathlib.Core.Bool.{true};
 ghost use Prim.Native.Nat.{_+_, _*_, _<_};
@@ -60,7 +60,7 @@ fn schedule_fault(book: &[u8]) -> Checked
     Checked::Clear
 }
 
-// Puts a schedule after the `n` that stand, and counts it.
+// Puts a schedule after the `n` that there are, and counts it.
 fn append_schedule(book: &mut [u8], n: u16, x: Schedule)
     requires { ⌜ (length (now book) ≡ bookSize) × (n < mostSchedules) × Small scheduleWidths (scheduleValues x) ⌝ }
     ensures { λ _. ⌜ now (book .exit) ≡ scheduleAppended (now (book .entry)) n x ⌝ }
@@ -74,7 +74,7 @@ fn append_schedule(book: &mut [u8], n: u16, x: Schedule)
     put_u16(book, SCHEDULE_COUNT_OFFSET, n + 1);
 }
 
-// Kind 9: the schedule that the request hands in stands under the next place.
+// Kind 9: the schedule that the request hands in gets the next place.
 pub fn schedule(book: &mut [u8], request: Request) -> Outcome
     requires { ⌜ isBook (now book) ≡ true ⌝ }
     requires { ⌜ Ready schedule (bookIn (now book)) request ⌝ }

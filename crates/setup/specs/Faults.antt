@@ -75,6 +75,6 @@ pub record Shaped (n : Counts) (s : List ℕ) : Type 0 where
   pub whole : setupLength n ≤ length s
   pub short : length s ≤ 2 ^ 16
 
--- what stands at a number that no operator has
+-- for a number that no operator has
 abbrev pub noOperator : Operator
 noOperator = record { guarantee = cents 0; maintenance = 0 }

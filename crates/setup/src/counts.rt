@@ -1,4 +1,4 @@
-// The counts of a set-up, and where its entries stand.
+// The counts of a set-up, and where its entries begin.
 ghost use mathlib.Core.Path.{_≡_};
 ghost use Prim.Native.Nat.{_*_, _^_, _≤_};
 ghost use lib.ListN.{length};
@@ -18,7 +18,7 @@ pub const POINT_ENTRY: usize = 11;
 
 pub const MARGIN_WIDTH: usize = 4;
 
-// Where an account's margins stand in its entry, past its operator and its kind.
+// Where an account's margins begin in its entry, past its operator and its kind.
 pub const LOWER_OFFSET: usize = 2;
 
 pub const UPPER_OFFSET: usize = LOWER_OFFSET + MARGIN_WIDTH;

@@ -47,7 +47,7 @@ fn or_fault(found: Checked, fine: bool, at: usize) -> Checked
     or_else(found, Checked::Fails(Refusal::SetupValue { offset }))
 }
 
-// The fault of the price that stands at `at`.
+// The fault of the price at `at`.
 pub fn estimate_fault(x: CentsPerMwh, at: usize) -> Checked
     requires { ⌜ at + priceWidth ≤ 2 ^ 16 ⌝ }
     ensures { λ r. ⌜ r ≡ firstFault (estimateValues at x) ⌝ }
@@ -55,7 +55,7 @@ pub fn estimate_fault(x: CentsPerMwh, at: usize) -> Checked
     or_fault(Checked::Clear, x.0 <= MOST_PRICE, at)
 }
 
-// The first fault of the operator that stands at `at`.
+// The first fault of the operator at `at`.
 pub fn operator_fault(x: Operator, at: usize) -> Checked
     requires { ⌜ at + operatorEntry ≤ 2 ^ 16 ⌝ }
     ensures { λ r. ⌜ r ≡ firstFault (operatorValues at x) ⌝ }
@@ -64,7 +64,7 @@ pub fn operator_fault(x: Operator, at: usize) -> Checked
     or_fault(guarantee, x.maintenance <= THOUSAND, at + GUARANTEE_WIDTH)
 }
 
-// The first fault of the account that stands at `at`, in a set-up of these counts.
+// The first fault of the account at `at`, in a set-up of these counts.
 pub fn account_fault(x: Account, n: Counts, at: usize) -> Checked
     requires { ⌜ at + accountEntry n ≤ 2 ^ 16 ⌝ }
     ensures { λ r. ⌜ r ≡ firstFault (accountValues (n .operators) at x) ⌝ }
@@ -105,7 +105,7 @@ fn most_amount(barred: bool) -> u32
     if barred { 0 } else { MOST_ENERGY }
 }
 
-// What was found so far, or the fault of an amount of the point that stands at `at`: its kind may bar a direction.
+// What was found so far, or the fault of an amount of the point at `at`: its kind may bar a direction.
 fn amounts_fault(found: Checked, x: Point, at: usize) -> Checked
     requires { ⌜ at + pointEntry ≤ 2 ^ 16 ⌝ }
     ensures { λ r. ⌜ r ≡ firstFaultFrom found (amountValues at x) ⌝ }
@@ -122,7 +122,7 @@ fn amounts_fault(found: Checked, x: Point, at: usize) -> Checked
     )
 }
 
-// The first fault of the point that stands at `at`, in a set-up of these counts.
+// The first fault of the point at `at`, in a set-up of these counts.
 pub fn point_fault(setup: &[u8], n: Counts, x: Point, at: usize) -> Checked
     requires { ⌜ Shaped n (now setup) × (at + pointEntry ≤ 2 ^ 16) ⌝ }
     ensures { λ r. ⌜ r ≡ firstFault (pointValues (accountsIn (now (setup .entry))) (n .zones) at x) ⌝ }

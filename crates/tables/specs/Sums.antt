@@ -53,7 +53,7 @@ pub record RoomForRow (top : ℕ) (table : List ℕ) (r : Row) : Type 0 where
   pub tabled : Tabled top r
   pub room : Room table 0 (r .quantity .0)
 
--- n rows stand in the bytes from `at` on, no more than a book has, and the table has cells for each
+-- the bytes have n rows from `at` on, no more than a book has, and the table has cells for each
 pub record RowsTabled (top : ℕ) (s : List ℕ) (at n : ℕ) : Type 0 where
   pub whole : at + rowWidth * n ≤ length s
   pub few : n ≤ mostRows
@@ -79,7 +79,7 @@ pub record RowAdded (top : ℕ) (before after : List ℕ) (r : Row) : Type 0 whe
 
 -- ---- what is stored of the sums
 
--- the net positions of all accounts stand in the bytes from `nets` on
+-- the bytes have the net positions of all accounts from `nets` on
 abbrev pub NetsInside : ℕ → List ℕ → ℕ → Type 0
 NetsInside top s nets = nets + mostAccounts * accountWidth top ≤ length s
 

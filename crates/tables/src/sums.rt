@@ -76,7 +76,7 @@ fn add_confirmed(table: &mut [u32], top: usize, r: Row)
     add_hours(table, top, SOLD, seller, r);
 }
 
-// A pending row: it waits on its proposer, as a sale or as a purchase.
+// A pending row: it counts for its proposer, as a sale or as a purchase.
 fn add_pending(table: &mut [u32], top: usize, r: Row)
     requires { ⌜ SumTable top (now table) × RoomForRow top (now table) r × (r .status ≡ pendingStatus) ⌝ }
     ensures { λ _. ⌜ RowAdded top (now (table .entry)) (now (table .exit)) r ⌝ }
@@ -107,7 +107,7 @@ pub fn zeros() -> [u32; TABLE_SIZE]
     [0u32; TABLE_SIZE]
 }
 
-// Takes the `n` rows that stand from `at` on into a table of no rows.
+// Adds the `n` rows from `at` on to a table of no rows.
 pub fn fill(table: &mut [u32], top: usize, s: &[u8], at: usize, n: usize)
     requires { ⌜ NoSums top (now table) × (top ≤ mostPeriods) × RowsTabled top (now s) at n ⌝ }
     ensures { λ _. ⌜ SumsOf top (rowsFrom (now (s .entry)) at n) (now (table .exit)) ⌝ }
@@ -175,7 +175,7 @@ fn account_nets_match(s: &[u8], nets: usize, table: &[u32], top: usize, account:
     true
 }
 
-// Whether all net positions that stand from `nets` on are those of the table.
+// Whether all net positions from `nets` on are those of the table.
 pub fn nets_match(s: &[u8], nets: usize, table: &[u32], top: usize) -> bool
     requires { ⌜ NetsInside top (now s) nets × SumTable top (now table) ⌝ }
     ensures { λ r. ⌜ r ≡ netsStored top (now (s .entry)) nets (now (table .entry)) ⌝ }

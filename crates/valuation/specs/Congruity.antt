@@ -1,4 +1,4 @@
--- What a schedule is held against, in the values that code has at hand: the cells of the table of what is used up, the limits, the price.
+-- What a schedule is compared with, in the values that code has at hand: the cells of the table of what is used up, the limits, the price.
 use Prim.Native.Nat.{ℕ, _+_, _-_, _*_, _≤_}
 use mathlib.Core.Path.{_≡_}
 use mathlib.Core.List.{List, _∷_}
@@ -15,7 +15,7 @@ use Rattle.rules.specs.Books.{Setup, injectingSide, mixedKind}
 use Rattle.rules.specs.Settlement.{Judged, accountOf}
 use Rattle.valuation.specs.Tables.{setupIn, netsIn, cellFor, pointCells, usedCells, judgedAs, JudgedInRange, UsedBy, UsedIn, judgeIn}
 
--- the table has a cell for the owner, of so many at most, in the schedule's hour and side
+-- the table has a cell for the holder of a limit, of so many at most, in the schedule's hour and side
 pub record InCells (most holder : ℕ) (x : Schedule) : Type 0 where
   pub holder-low : 1 ≤ holder
   pub holder-high : holder ≤ most

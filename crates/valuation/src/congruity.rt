@@ -34,14 +34,14 @@ const OVER_ACCOUNT: u8 = 2;
 
 const NOT_TAKEN: u8 = 3;
 
-// The table of what is used up: the cells of an owner, of all points, and of the whole.
+// The table of what is used up: the cells of one holder of a limit, of all points, and of the whole.
 const HOLDER_CELLS: usize = 2 * PERIODS;
 
 const POINT_CELLS: usize = HOLDER_CELLS * (MOST_POINTS as usize);
 
 pub const USED_SIZE: usize = POINT_CELLS + HOLDER_CELLS * (MOST_ACCOUNTS as usize);
 
-// The cell of an owner, which is a point or an account, in the schedule's hour and side.
+// The cell of the holder of a limit, which is a point or an account, in the schedule's hour and side.
 fn cell_for(holder: u8, x: Schedule) -> usize
     requires { ⌜ InCells mostPoints holder x ⌝ }
     ensures { λ r. ⌜ r ≡ cellFor holder x ⌝ }

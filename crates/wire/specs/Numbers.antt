@@ -31,7 +31,7 @@ signed width (negsuc n) = le width ((256 ^ width - 1) * suc n)
 abbrev pub minusWord : ℕ → ℕ → ℕ
 minusWord width v = (256 ^ width - v) % 256 ^ width
 
--- the signed number that 8 bytes say in two's complement: from half a turn on it is a whole turn less
+-- the signed number that 8 bytes say in two's complement: from 2 ^ 63 on it is 2 ^ 64 less
 unfoldable pub figureIn : List ℕ → ℤ
 figureIn s = cond (ltb (number s) (2 ^ 63)) (pos (number s)) (subℕ (number s) (2 ^ 64))
 
