@@ -32,7 +32,7 @@ fn show_open(body: &[u8], room: &mut [u8]) {
 }
 
 // Whether the first bytes of the room are a book, as 1 or 0.
-fn judged(size: u16, room: &[u8]) -> u64 {
+fn book_flag(size: u16, room: &[u8]) -> u64 {
     let n = io::count(size as isize, room);
     if is_book(&room[..n]) {
         return 1;
@@ -48,7 +48,7 @@ fn show_judged(body: &[u8], room: &[u8]) {
     let size = get_u16(body, 0);
     begin(b'l');
     number(size as u64);
-    number(judged(size, room));
+    number(book_flag(size, room));
     end();
 }
 
@@ -89,7 +89,7 @@ fn show_damaged(body: &[u8], room: &mut [u8]) {
     begin(b'd');
     number(offset as u64);
     small(new);
-    number(judged(BOOK_SIZE, room));
+    number(book_flag(BOOK_SIZE, room));
     end();
     exchange(room, offset as usize, old);
 }

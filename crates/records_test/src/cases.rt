@@ -31,7 +31,7 @@ const ROOM: u8 = 24;
 const REQUEST: usize = 34;
 
 // A line with a verdict.
-fn judged(tag: u8, n: Numbers) {
+fn put_numbers(tag: u8, n: Numbers) {
     begin(tag);
     verdict(n);
     end();
@@ -102,11 +102,11 @@ fn show_written(q: Request, room: u8) {
 fn show_record(record: &[u8], counts: Counts) {
     let reading = read(record);
     match reading {
-        Reading::Unread(r) => judged(b'r', refusal_numbers(r)),
+        Reading::Unread(r) => put_numbers(b'r', refusal_numbers(r)),
         Reading::Read(q) => {
-            judged(b'r', checked_numbers(Checked::Clear));
+            put_numbers(b'r', checked_numbers(Checked::Clear));
             show_fields(q);
-            judged(b'c', checked_numbers(check_ranges(q, counts)));
+            put_numbers(b'c', checked_numbers(check_ranges(q, counts)));
             show_written(q, ROOM);
         }
     }
@@ -168,7 +168,7 @@ pub fn run(case: &[u8], counts: Counts) -> Counts {
     match tag {
         b'n' => return show_counts(body, counts),
         b'r' => show_record(body, counts),
-        b's' => judged(b's', checked_numbers(setup::fault::fault(body))),
+        b's' => put_numbers(b's', checked_numbers(setup::fault::fault(body))),
         b'w' => show_writing(body),
         _ => begin(b'?'),
     }

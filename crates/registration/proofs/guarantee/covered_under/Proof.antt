@@ -11,10 +11,10 @@ guarantee-in-force-requires c κs = search needs
 
 returns : tie.Need-returns
 returns c =
-    let held = c .before .before .before in
-    let start = held .before .before in
+    let in-force = c .before .before .before in
+    let start = in-force .before .before in
     let pre = start .pre in
-    no-lower-covers _ (pre .0) (start .args .number) _ _ (pre .2) (held .guarantee-in-force .ensures .0) (c .if1 .taken)
+    no-lower-covers _ (pre .0) (start .args .number) _ _ (pre .2) (in-force .guarantee-in-force .ensures .0) (c .if1 .taken)
 
 exposure-with-requires : tie.Need-exposure-with-requires
 exposure-with-requires c κs =
