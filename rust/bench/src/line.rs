@@ -30,7 +30,7 @@ pub enum Work {
 #[derive(Default)]
 pub struct Times {
     pub public: Vec<f64>,
-    /// The reference's check of its state and then the work, which is what the public door does.
+    /// The reference's check of its state and then the work, which is what the public call does.
     pub checked: Vec<f64>,
     pub inner: Vec<f64>,
     pub reference: Vec<f64>,

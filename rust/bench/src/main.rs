@@ -1,5 +1,5 @@
-//! Measures each call on the proved book, by the public and by the inner door, and on the reference implementation, after a check of its
-//! state as the public door makes one and without it as by the inner, on the same input in the same run, and prints a table.
+//! Measures each call on the proved book, by the public and by the inner call, and on the reference implementation, after a check of its
+//! state as the public call makes one and without it as by the inner, on the same input in the same run, and prints a table.
 //!
 //!     cargo run --release              all lines
 //!     cargo run --release -- WORD      the lines whose call has this word

@@ -1,4 +1,4 @@
-//! The times of each work: by the public door, by the reference after its check, by the inner door, by the reference.
+//! The times of each work: by the public call, by the reference after its check, by the inner call, by the reference.
 
 use crate::clock;
 use crate::line::Times;

@@ -1,4 +1,4 @@
-//! A book in three forms: bytes for the public door, an owned book for the inner one, and the reference's.
+//! A book in three forms: bytes for the public call, an owned book for the inner one, and the reference's.
 
 use energy_book::{raw, Book as Owned, Verdict as Outcome};
 use reference::days::Step;

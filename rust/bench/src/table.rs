@@ -3,7 +3,7 @@
 use crate::clock;
 use crate::line::{Line, Work};
 
-/// Each door beside the reference doing the same: the public one checks the book first, the inner one does not.
+/// Each call beside the reference doing the same: the public one checks the book first, the inner one does not.
 const RATIOS: &str = "public ÷ checked reference | inner ÷ reference | public ÷ reading";
 
 pub fn print(lines: &[Line], rounds: usize) {

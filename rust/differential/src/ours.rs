@@ -1,4 +1,4 @@
-//! The proved book by both of its doors, which are to agree on everything.
+//! The proved book in both of its forms, on any bytes and on a known book, which are to agree on everything.
 
 use energy_book::{raw, Book, Refusal, BOOK_SIZE, FIELDS_SIZE, FIGURE_SIZE};
 use reference::days::Step;
@@ -25,14 +25,14 @@ impl Answer {
 /// Refused by 1.
 const NO_BOOK: energy_book::Verdict = energy_book::Verdict::Refused(Refusal::NotABook);
 
-/// A book as bytes that are called by the public door, and again by the inner one, which the owner of a book goes by.
+/// A book as bytes for the public calls, and again for the inner ones, which the owner of a book goes by.
 pub struct Ours {
     public: Vec<u8>,
     owned: Book,
 }
 
 impl Ours {
-    /// Opens a day; or the verdict of its refusal. The outer error says in what the doors differ.
+    /// Opens a day; or the verdict of its refusal. The outer error says in what the forms differ.
     pub fn open(setup: &[u8]) -> Result<Result<Self, Verdict>, String> {
         let mut public = vec![UNWRITTEN; BOOK_SIZE];
         let verdict = verdict(raw::open(setup, &mut public));
@@ -55,7 +55,7 @@ impl Ours {
         &self.public
     }
 
-    /// A call by both doors. A refused one changes no lent byte.
+    /// A call in both forms. A refused one changes no lent byte.
     pub fn call(&mut self, call: &Step) -> Result<Answer, String> {
         let before = self.public.clone();
         let (mut public, mut inner) = (Answer::lent(call), Answer::lent(call));
@@ -64,10 +64,10 @@ impl Ours {
         let outcome = self.owned.call(&call.record, &call.prices, &mut inner.results, &mut inner.balances);
         inner.verdict = verdict(outcome);
         if public != inner {
-            return Err(format!("the public door answers {public:?}, the inner one {inner:?}"));
+            return Err(format!("the public call answers {public:?}, the inner one {inner:?}"));
         }
         if self.public[..] != self.owned.as_bytes()[..] {
-            return Err(String::from("the two doors leave different books"));
+            return Err(String::from("the two forms leave different books"));
         }
         if !public.verdict.is_accepted() {
             if self.public != before {
@@ -82,30 +82,30 @@ impl Ours {
         Ok(public)
     }
 
-    /// A net position by both doors.
+    /// A net position in both forms.
     pub fn net(&self, account: u8, hour: u8) -> Result<Result<i64, Verdict>, String> {
         let mut figure = [UNWRITTEN; FIGURE_SIZE];
         let outcome = raw::net(&self.public, account, hour, &mut figure);
         let public = read_figure(outcome, figure)?;
         if self.owned.net(account, hour).map_err(refusal) != public {
-            return Err(String::from("the two doors read different net positions"));
+            return Err(String::from("the two forms read different net positions"));
         }
         Ok(public)
     }
 
-    /// An exposure by both doors.
+    /// An exposure in both forms.
     pub fn exposure(&self, operator: u8) -> Result<Result<u64, Verdict>, String> {
         let mut figure = [UNWRITTEN; FIGURE_SIZE];
         let outcome = raw::exposure(&self.public, operator, &mut figure);
         let public = read_figure(outcome, figure)?.map(|figure| figure as u64);
         if self.owned.exposure(operator).map_err(refusal) != public {
-            return Err(String::from("the two doors read different exposures"));
+            return Err(String::from("the two forms read different exposures"));
         }
         Ok(public)
     }
 
     /// The call on this book with a byte changed: where the bytes are no book it is 1, as are the readings, and changes nothing;
-    /// where they still are one, both doors agree. Says whether they are one.
+    /// where they still are one, both forms agree. Says whether they are one.
     pub fn damaged(&self, call: &Step, at: usize, change: u8) -> Result<bool, String> {
         let mut bytes = self.public.clone();
         bytes[at] ^= change;

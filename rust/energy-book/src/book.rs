@@ -9,7 +9,7 @@ const OPERATORS_AT: usize = 1;
 const SCHEDULES_AT: usize = 8_194;
 
 /// A book of one day. Its bytes are those of a book at all times: it is opened or checked, nobody else can write them, and the contract
-/// of the inner call says that it leaves a book. So calls and readings go by the inner doors, which do not check the bytes again.
+/// of the inner call says that it leaves a book. So calls and readings go by the functions for a known book, which do not check the bytes again.
 #[derive(Clone, PartialEq, Eq)]
 pub struct Book {
     bytes: Box<[u8; BOOK_SIZE]>,

@@ -1,4 +1,4 @@
-//! The inner doors: calls and readings of bytes that are known to be a book, without the check that they are one.
+//! The inner functions: calls and readings of bytes that are known to be a book, without the check that they are one.
 
 use crate::{Verdict, BOOK_SIZE};
 

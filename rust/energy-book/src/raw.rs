@@ -1,6 +1,6 @@
 //! The functions of the library on any bytes: slices of any length are answered, and a refusal changes none of their bytes.
 //!
-//! The crate's `unsafe` code is here and, for the inner doors, in `inner` and `book`. A Rust slice is what the library asks for: a
+//! The crate's `unsafe` code is here and, for the functions for a known book, in `inner` and `book`. A Rust slice is what the library asks for: a
 //! pointer that is not null, a length, and bytes that are initialised; and `&mut` keeps a buffer that is written apart from every other.
 
 use crate::Verdict;

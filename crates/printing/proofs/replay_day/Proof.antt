@@ -44,15 +44,17 @@ write-lines-requires-2 c κs = c .before .before .before .before .before .gather
 
 loop-less : tie.Need-loop-less Inv-loop μ-loop
 loop-less c =
-    let said = c .before .before .before .before .before .before .gather2 .ensures .1 in
-    let l = c .before .before .before .before .before .before .before .before .before .before .before .loop in
-    let further = said .1 (and-both (l .written) (l .gathered .«goes_on») .0 (c .before .before .before .before .before .before .before .before .before .if1 .taken) .1) (l .inv .2) in
+    let round = c .before .before .before .before .before .before in
+    let said = round .gather2 .ensures .1 in
+    let l = round .before .before .before .before .before .loop in
+    let further = said .1 (and-both (l .written) (l .gathered .«goes_on») .0 (round .before .before .before .if1 .taken) .1) (l .inv .2) in
     omega (arith, said .0 .underway .counted)
 
 loop-again : tie.Need-loop-again Inv-loop μ-loop
 loop-again c =
-    let said = c .before .before .before .before .before .before .gather2 .ensures in
-    (led-on _ (c .before .before .before .before .before .before .before .before .before .before .before .loop .inv .0) (said .0) (said .1 .0), said .1 .0 .underway, omega arith, omega arith, omega arith)
+    let round = c .before .before .before .before .before .before in
+    let said = round .gather2 .ensures in
+    (led-on _ (round .before .before .before .before .before .loop .inv .0) (said .0) (said .1 .0), said .1 .0 .underway, omega arith, omega arith, omega arith)
 
 same-length : tie.Need-same-length Inv-loop μ-loop
 same-length c = search needs
@@ -62,9 +64,11 @@ same-length-2 c = search needs
 
 returns : tie.Need-returns Inv-loop μ-loop
 returns c =
-    let first = c .before .before .before .before .before .before .before .before .before .before .before .before .before .before .before .before .gather-first .ensures in
-    let round = c .before .before .before .before .before .before .before .before .before .gather .ensures in
-    replayed _ _ _ _ (first .0) (round .0) (round .1 .0 .whole ∙ first .1 .0) (c .before .before .loop .inv .0) (c .if1 .left)
+    let looped = c .before .before in
+    let gathered = looped .before .before .before .before .before .before .before in
+    let first = gathered .before .before .before .before .before .before .before .gather-first .ensures in
+    let round = gathered .gather .ensures in
+    replayed _ _ _ _ (first .0) (round .0) (round .1 .0 .whole ∙ first .1 .0) (looped .loop .inv .0) (c .if1 .left)
 
 pub replay-day-spec : {M : Type 1} → statement M
 replay-day-spec =

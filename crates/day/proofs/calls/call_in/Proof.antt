@@ -42,23 +42,28 @@ same-length-3 c = search needs
 
 returns : tie.Need-returns
 returns c =
-    let said = c .before .before .before .before .before .before .before .before .before .before .before .before .before in
-    settle-given _ _ _ _ _ _ (c .before .before .before .before .before .before .before .before .before .before .before .before .before .before .before .before .before .before .before .before .before .pre) (bytes said) (says said) (omega arith) _ _ _ _ (c .before .before .before .before .before .before .settle .ensures)
+    let settled = c .before .before .before .before .before .before in
+    let said = settled .before .before .before .before .before .before .before in
+    settle-given _ _ _ _ _ _ (said .before .before .before .before .before .before .before .before .pre) (bytes said) (says said) (omega arith) _ _ _ _ (settled .settle .ensures)
 
 answer-requires : tie.Need-answer-requires
 answer-requires c κs =
     let said = c .before .before .before .before in
     let n = other-kind _ _ (says said) (λ e. omega arith) in
-    (c .before .before .before .before .before .before .before .before .before .before .before .before .pre, (n .0, n .1, read-code _ _ (bytes said) (says said)))
+    (said .before .before .before .before .before .before .before .before .pre, (n .0, n .1, read-code _ _ (bytes said) (says said)))
 
 returns-2 : tie.Need-returns-2
-returns-2 c = unread-given _ _ (c .before .before .before .before .before .before .before .before .before .pre) _ (sym (c .before .before .before .read .ensures) ∙ c .before .said .given .1)
+returns-2 c =
+    let looked = c .before .before .before in
+    unread-given _ _ (looked .before .before .before .before .before .before .pre) _ (sym (looked .read .ensures) ∙ c .before .said .given .1)
 
 same-length-4 : tie.Need-same-length-4
 same-length-4 c = search needs
 
 returns-3 : tie.Need-returns-3
-returns-3 c = said-given _ _ (c .before .before .before .before .before .before .before .before .before .before .before .before .before .before .before .pre) _ (says (c .before .before .before .before .before .before .before)) (λ e. omega arith) _ _ (c .before .before .answer .ensures)
+returns-3 c =
+    let said = c .before .before .before .before .before .before .before in
+    said-given _ _ (said .before .before .before .before .before .before .before .before .pre) _ (says said) (λ e. omega arith) _ _ (c .before .before .answer .ensures)
 
 pub call-in-spec : {M : Type 1} → statement M
 call-in-spec =

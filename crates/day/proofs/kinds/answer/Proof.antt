@@ -50,8 +50,9 @@ same-length-2 c = search needs
 
 returns-2 : tie.Need-returns-2
 returns-2 c =
-    let pre = c .before .before .before .before .before .before .before .before .before .before .pre in
-    kind-saying _ _ (pre .0) (pre .1 .0) (pre .1 .1) (in-range (c .before .before .before .before)) _ _ (c .before .before .by-kind .ensures)
+    let checked = c .before .before .before .before in
+    let pre = checked .before .before .before .before .before .before .pre in
+    kind-saying _ _ (pre .0) (pre .1 .0) (pre .1 .1) (in-range checked) _ _ (c .before .before .by-kind .ensures)
 
 pub answer-spec : {M : Type 1} → statement M
 answer-spec =

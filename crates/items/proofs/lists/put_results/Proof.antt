@@ -20,9 +20,10 @@ loop-holds c = (search needs, underway-start _ _ (results-whole _ _) (omega arit
 
 loop-again : tie.Need-loop-again Inv-loop μ-loop
 loop-again c =
-    let l = c .before .before .before .before .before .before .loop in
+    let looped = c .before .before .before .before .before .before in
+    let l = looped .loop in
     let w = c .before .before .put-result .ensures in
-    let next = results-next (c .before .before .before .before .before .before .before .before .before .args .results .now) (l .k) (l .left) (l .left - 1) (omega arith) (omega arith) in
+    let next = results-next (looped .before .before .before .args .results .now) (l .k) (l .left) (l .left - 1) (omega arith) (omega arith) in
     (omega arith, underway-line _ _ (l .left - 1) (l .inv .1) next (omega arith) (omega arith) (omega arith) (w .0) (w .1))
 
 returns : tie.Need-returns Inv-loop μ-loop

@@ -33,14 +33,17 @@ cast-put-answer c = search needs
 
 put-answer-requires : tie.Need-put-answer-requires
 put-answer-requires c κs =
-    let pre = c .before .before .before .before .before .before .before .before .before .before .before .before .before .before .before .before .before .before .before .before .before .before .before .before .pre in
-    let counted = c .before .before .before .before .before .before .before .before .before .before .before .before .before .before .before .before .before .counts .ensures in
-    let called = c .before .before .before .before .before .before .before .before .before .before .before .call-item .ensures in
+    let answered = c .before .before .before .before in
+    let item = answered .before .before .before .before .before .before .before in
+    let start = item .before .before .before .before .before .before in
+    let pre = start .before .before .before .before .before .before .before .pre in
+    let counted = start .counts .ensures in
+    let called = item .call-item .ensures in
     let few = operators-few _ (pre .0) _ counted in
     let (room, zeros) = pre .1 in
     let results = ap length (zeros .0) in
     let balances = ap length (zeros .1) in
-    ((omega (arith, length-replicate {A = ℕ} mostSchedules 0), few, omega (arith, length-replicate {A = ℕ} (balanceWidth * mostOperators) 0), omega arith), answer-small _ (book-valid _ (pre .0)) _ (called .0 .outcome-given) (c .before .before .before .before .settles .ensures) _ (operators-counted _ (pre .0) _ counted) (called .0 .balances-left))
+    ((omega (arith, length-replicate {A = ℕ} mostSchedules 0), few, omega (arith, length-replicate {A = ℕ} (balanceWidth * mostOperators) 0), omega arith), answer-small _ (book-valid _ (pre .0)) _ (called .0 .outcome-given) (answered .settles .ensures) _ (operators-counted _ (pre .0) _ counted) (called .0 .balances-left))
 
 same-length : tie.Need-same-length
 same-length c = search needs
@@ -56,13 +59,17 @@ same-length-4 c = search needs
 
 returns : tie.Need-returns
 returns c =
-    let pre = c .before .before .before .before .before .before .before .before .before .before .before .before .before .before .before .before .before .before .before .before .before .before .before .before .before .before .before .pre in
-    let counted = c .before .before .before .before .before .before .before .before .before .before .before .before .before .before .before .before .before .before .before .before .counts .ensures in
-    let called = c .before .before .before .before .before .before .before .before .before .before .before .before .before .before .call-item .ensures in
+    let answered = c .before .before .before .before .before .before .before in
+    let item = answered .before .before .before .before .before .before .before in
+    let standing = item .before .before .before .before in
+    let start = standing .before .before in
+    let pre = start .before .before .before .before .before .before .before .pre in
+    let counted = start .counts .ensures in
+    let called = item .call-item .ensures in
     let (given, still) = called in
     let put = c .before .before .put-answer .ensures in
     let few = operators-few _ (pre .0) _ counted in
-    (written-as _ (answer-prints _ (book-valid _ (pre .0)) _ (given .outcome-given) (c .before .before .before .before .before .before .before .settles .ensures) _ _ _ (c .before .before .before .before .before .before .before .before .before .before .before .before .before .before .before .before .before .before .schedule-count .ensures .0) (operators-counted _ (pre .0) _ counted) (given .results-left) (given .balances-left)) (put .0), (omega arith, (given .book-left, still)))
+    (written-as _ (answer-prints _ (book-valid _ (pre .0)) _ (given .outcome-given) (answered .settles .ensures) _ _ _ (standing .schedule-count .ensures .0) (operators-counted _ (pre .0) _ counted) (given .results-left) (given .balances-left)) (put .0), (omega arith, (given .book-left, still)))
 
 pub answer-with-spec : {M : Type 1} → statement M
 answer-with-spec =

@@ -36,8 +36,10 @@ same-length-3 c = search needs
 
 returns : tie.Need-returns
 returns c =
-    let pre = c .before .before .before .before .before .before .before .before .before .before .before .before .before .before .before .before .before .pre in
-    item-called _ _ (pre .0) (c .before .before .before .before .before .before .before .before .before .before .before .before .record-length .ensures) (pre .1 .0) (pre .1 .1) (c .before .before .before .before .before .before .call-in .ensures)
+    let called = c .before .before .before .before .before .before in
+    let measured = called .before .before .before .before .before .before in
+    let pre = measured .before .before .before .before .before .pre in
+    item-called _ _ (pre .0) (measured .record-length .ensures) (pre .1 .0) (pre .1 .1) (called .call-in .ensures)
 
 pub call-item-spec : {M : Type 1} → statement M
 call-item-spec =

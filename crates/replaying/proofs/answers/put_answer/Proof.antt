@@ -13,7 +13,8 @@ put-answered-requires c κs = search needs
 
 put-settled-requires : tie.Need-put-settled-requires
 put-settled-requires c κs =
-    let pre = c .before .before .before .before .before .before .before .before .before .before .pre in
+    let line = c .before .before .before in
+    let pre = line .before .before .before .before .before .before .before .pre in
     ((pre .0 .0, pre .0 .1, pre .0 .2, pre .1 (c .before .if1 .taken)), omega arith)
 
 same-length : tie.Need-same-length
@@ -21,9 +22,10 @@ same-length c = search needs
 
 returns : tie.Need-returns
 returns c =
-    let line = c .before .before .before .before .before .before .before .put-answered .ensures in
+    let put = c .before .before .before .before .before .before .before in
+    let line = put .put-answered .ensures in
     let rest = c .before .before .put-settled .ensures in
-    (put-settling _ _ _ _ _ _ _ _ (c .before .before .before .before .if1 .taken) (c .before .before .before .before .before .before .before .before .before .outcome-numbers .ensures) (line .0) (rest .0), omega arith)
+    (put-settling _ _ _ _ _ _ _ _ (c .before .before .before .before .if1 .taken) (put .before .before .outcome-numbers .ensures) (line .0) (rest .0), omega arith)
 
 same-length-2 : tie.Need-same-length-2
 same-length-2 c = search needs

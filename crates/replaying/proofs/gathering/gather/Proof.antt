@@ -1,4 +1,4 @@
--- Each turn keeps the whole text and counts one item, so that the items that may still come are the measure.
+-- Each round of the loop keeps the whole text and counts one item, so that the items that may still come are the measure.
 use Prim.Native.Nat.{_+_, _-_, _<_}
 use mathlib.Core.Path.{_≡_, refl, sym, ap, _∙_}
 use mathlib.Core.Logic.{_⊎_, inl, inr}
@@ -35,16 +35,18 @@ gather-item-requires c κs =
 
 loop-less : tie.Need-loop-less Inv-loop μ-loop
 loop-less c =
-    let l = c .before .before .before .before .before .before .before .before .before .before .loop in
+    let tested = c .before .before .before .before .before .before .before in
+    let l = tested .before .before .before .loop in
     let e = c .before .before .before .before .gather-item .ensures in
-    let on = l .inv .1 .underway .onward (turns (l .reached) _ (c .before .before .before .before .before .before .before .if1 .taken) .0) in
+    let on = l .inv .1 .underway .onward (turns (l .reached) _ (tested .if1 .taken) .0) in
     omega arith
 
 loop-again : tie.Need-loop-again Inv-loop μ-loop
 loop-again c =
-    let l = c .before .before .before .before .before .before .before .before .before .before .loop in
+    let tested = c .before .before .before .before .before .before .before in
+    let l = tested .before .before .before .loop in
     let e = c .before .before .before .before .gather-item .ensures in
-    let t = c .before .before .before .before .before .before .before .if1 .taken in
+    let t = tested .if1 .taken in
     let on = l .inv .1 .underway .onward (turns (l .reached) _ t .0) in (
       ap (allGathered _) (e .0) ∙ all-turn _ _ _ _ _ (omega arith) (omega arith) t (omega arith) ∙ l .inv .0,
       record { whole = e .1 .0 .whole ∙ l .inv .1 .whole; underway = e .1 .0 .underway },

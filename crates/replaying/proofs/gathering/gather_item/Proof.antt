@@ -36,10 +36,12 @@ same-length-2 c = search needs
 
 returns : tie.Need-returns
 returns c =
-    let start = c .before .before .before .before .before .before .before .before .before .before .before in
+    let replayed = c .before .before .before .before .before in
+    let known = replayed .before .before .before .before .before in
+    let start = known .before in
     let on = start .pre .1 .onward (start .pre .0 .0) in
-    let bytes = bytes-known _ (c .before .before .before .before .before .before .before .before .before .before .shared-slice-known .given) in
-    let (answer, left) = c .before .before .before .before .before .replay-item .ensures in
+    let bytes = bytes-known _ (known .shared-slice-known .given) in
+    let (answer, left) = replayed .replay-item .ensures in
     let (book, lines) = left in
     let (out, rest) = lines in
     let (bound, goes) = rest in

@@ -1,4 +1,4 @@
--- The length is looked at first, then what stands at the front; a whole item is opened as the set-up.
+-- The length is looked at first, then what is found at the front; a whole item is opened as the set-up.
 use mathlib.Core.Path.{refl, sym, _∙_}
 use native.Mathlib.Omega.{arith}
 use Rattle.items.proofs.StreamLaws.{Within, found-within}
@@ -67,13 +67,15 @@ same-length-3 c = search needs
 
 returns-2 : tie.Need-returns-2
 returns-2 c =
-    let found = sym (c .before .before .before .before .before .before .before .before .before .before .before .next-item .ensures) ∙ c .before .before .before .before .before .before .before .before .before .found .given .1 in
-    let w = within (c .before .before .before .before .before .before .before .before) in
+    let whole = c .before .before .before .before .before .before .before .before in
+    let looked = whole .before .before .before in
+    let found = sym (looked .next-item .ensures) ∙ whole .before .found .given .1 in
+    let w = within whole in
     let (answer, left) = c .before .before .before .before .open-setup .ensures in
     let (book, lines) = left in
     let (out, rest) = lines in
     let (bound, opens) = rest in
-    rw (begin-whole _ (c .before .before .before .before .before .before .before .before .before .before .before .before .if1 .left) _ _ found) (answer, (book, (out, (bound, (opens, open-next _ _ _ _ answer (w .in-stream))))))
+    rw (begin-whole _ (looked .before .if1 .left) _ _ found) (answer, (book, (out, (bound, (opens, open-next _ _ _ _ answer (w .in-stream))))))
 
 same-length-4 : tie.Need-same-length-4
 same-length-4 c = search needs

@@ -1,4 +1,4 @@
--- The line of the outcome; the verdict says whether the fresh book stands.
+-- The line of the outcome; the verdict says whether there is a fresh book.
 use native.Mathlib.Omega.{arith}
 use Rattle.replaying.proofs.StepLaws.{does-open, does-refuse}
 use borrow.Author.Needs.{needs}
@@ -31,9 +31,11 @@ same-length-2 c = search needs
 
 returns : tie.Need-returns
 returns c =
-    let opening = c .before .before .before .before .before .before .before .before .before .«open» .ensures in
+    let numbered = c .before .before .before .before .before .before in
+    let opened = numbered .before .before .before in
+    let opening = opened .«open» .ensures in
     let line = c .before .before .before .before .put-answered .ensures in
-    does-open _ _ (c .before .before .before .before .before .before .before .before .before .before .before .before .before .before .pre .0) _ (opening .0) (opening .1) _ (c .before .before .before .before .before .before .outcome-numbers .ensures) (line .0) (omega arith) (c .enum-told .given .1)
+    does-open _ _ (opened .before .before .before .before .before .pre .0) _ (opening .0) (opening .1) _ (numbered .outcome-numbers .ensures) (line .0) (omega arith) (c .enum-told .given .1)
 
 same-length-3 : tie.Need-same-length-3
 same-length-3 c = search needs
@@ -43,9 +45,11 @@ same-length-4 c = search needs
 
 returns-2 : tie.Need-returns-2
 returns-2 c =
-    let opening = c .before .before .before .before .before .before .before .before .before .before .«open» .ensures in
+    let numbered = c .before .before .before .before .before .before .before in
+    let opened = numbered .before .before .before in
+    let opening = opened .«open» .ensures in
     let line = c .before .before .before .before .before .put-answered .ensures in
-    does-refuse _ _ (c .before .before .before .before .before .before .before .before .before .before .before .before .before .before .before .pre .0) _ (opening .0) (opening .1) _ (c .before .before .before .before .before .before .before .outcome-numbers .ensures) (line .0) (omega arith) (c .before .enum-told2 .given .1) (c .ended .ensures)
+    does-refuse _ _ (opened .before .before .before .before .before .pre .0) _ (opening .0) (opening .1) _ (numbered .outcome-numbers .ensures) (line .0) (omega arith) (c .before .enum-told2 .given .1) (c .ended .ensures)
 
 pub open-setup-spec : {M : Type 1} → statement M
 open-setup-spec =

@@ -1,4 +1,4 @@
--- What stands at the offset decides; a whole item is answered, and its lines are the step's.
+-- What is found at the offset decides; a whole item is answered, and its lines are the step's.
 use mathlib.Core.Path.{refl, sym, _∙_}
 use native.Mathlib.Omega.{arith}
 use Rattle.items.proofs.StreamLaws.{Within, found-within}
@@ -52,21 +52,24 @@ same-length-2 c = search needs
 
 returns : tie.Need-returns
 returns c =
-    let found = sym (c .before .before .before .before .before .before .before .before .before .before .before .next-item .ensures) ∙ c .before .before .before .before .before .before .before .before .before .found .given .1 in
-    let w = within (c .before .before .before .before .before .before .before .before) in
+    let whole = c .before .before .before .before .before .before .before .before in
+    let looked = whole .before .before .before in
+    let found = sym (looked .next-item .ensures) ∙ whole .before .found .given .1 in
+    let w = within whole in
     let (lines, left) = c .before .before .before .before .answer-item .ensures in
     let (bound, rest) = left in
     let (book, still) = rest in
-    rw (step-whole _ _ _ _ _ _ found) (does-go-on _ lines bound (c .before .before .before .before .before .before .before .before .before .before .before .before .before .before .before .args .book .now) _ _ book (still, λ e. (omega arith, w .in-stream)))
+    rw (step-whole _ _ _ _ _ _ found) (does-go-on _ lines bound (looked .before .before .before .before .args .book .now) _ _ book (still, λ e. (omega arith, w .in-stream)))
 
 same-length-3 : tie.Need-same-length-3
 same-length-3 c = search needs
 
 returns-2 : tie.Need-returns-2
 returns-2 c =
-    let found = sym (c .before .before .before .before .before .before .before .next-item .ensures) ∙ c .before .before .before .before .before .enum-told .given .1 in
+    let looked = c .before .before .before .before .before .before .before in
+    let found = sym (looked .next-item .ensures) ∙ c .before .before .before .before .before .enum-told .given .1 in
     let line = c .before .before .before .put-cut .ensures in
-    rw (step-cut _ _ _ _ found) (does-end _ (one-line _ (line .0)) (omega arith) (c .ended .ensures) refl (c .before .before .before .before .before .before .before .before .before .before .before .pre .0, ended-not-on (c .ended .ensures)))
+    rw (step-cut _ _ _ _ found) (does-end _ (one-line _ (line .0)) (omega arith) (c .ended .ensures) refl (looked .before .before .before .before .pre .0, ended-not-on (c .ended .ensures)))
 
 returns-3 : tie.Need-returns-3
 returns-3 c =
