@@ -83,7 +83,7 @@ fn declared_in_c() -> Declared {
 
 #[test]
 fn declarations_are_those_of_the_exported_functions() {
-    let exported = exported("crates/abi/src/doors.rt");
+    let exported = exported("crates/abi/src/exports.rt");
     assert_eq!(exported.len(), 7);
     assert_eq!(declared_in_rust("rust/energy-book/src/raw.rs"), exported);
     assert_eq!(declared_in_c(), exported);
@@ -91,7 +91,7 @@ fn declarations_are_those_of_the_exported_functions() {
 
 #[test]
 fn inner_declarations_are_those_of_the_exported_functions() {
-    let exported = exported("crates/abi_inner/src/doors.rt");
+    let exported = exported("crates/abi_inner/src/exports.rt");
     assert_eq!(exported.len(), 3);
     assert_eq!(declared_in_rust("rust/energy-book/src/inner.rs"), exported);
 }
