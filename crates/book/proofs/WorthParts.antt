@@ -222,8 +222,8 @@ sale-priced u o sums r x m t e d n f = (
 )
 
 -- a sound row can be added
-pub row-trade-in-range : (u : Setup) (r : Row) → SoundRow u r → TradeInRange u r
-row-trade-in-range u r s =
+pub sound-row-in-range : (u : Setup) (r : Row) → SoundRow u r → TradeInRange u r
+sound-row-in-range u r s =
     record {
       quantity-high = s .quantity-high;
       proposer-known = λ e. (s .proposer-low, s .proposer-high);

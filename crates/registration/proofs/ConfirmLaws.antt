@@ -45,7 +45,7 @@ use Rattle.registration.proofs.Acceptances.{confirmed-answered}
 use Rattle.registration.proofs.SearchLaws.{find-cong}
 use Rattle.registration.proofs.PendingLaws.{number-high}
 use Rattle.registration.proofs.MarginLaws.{found-hour, found-nowhere}
-use Rattle.registration.proofs.CoverLaws.{covered-at, still-covered, settled-trade-in-range}
+use Rattle.registration.proofs.CoverLaws.{covered-at, still-covered, ended-row-in-range}
 
 -- ---- the row that is named
 
@@ -124,8 +124,8 @@ module _ (s : List ℕ) (r : Row) (h : isBook s ≡ true) (w : WaitsIn (bookIn s
           last-high = sound .last-high;
         })
 
-    pub trade-trade-in-range : TradeInRange (bookIn s .setup) trade
-    trade-trade-in-range = settled-trade-in-range (bookIn s .setup) trade (rw e (waiting-sound .quantity-high)) (rw e)
+    pub trade-in-range : TradeInRange (bookIn s .setup) trade
+    trade-in-range = ended-row-in-range (bookIn s .setup) trade (rw e (waiting-sound .quantity-high)) (rw e)
 
   -- once the row is confirmed the exposure is that of the rows where it is marked so
   exposure-with-trade : (o : ℕ) → exposureWithTrade (bookIn s) r o ≡ exposure (bookIn s .setup) (mark (w .number) 2 (bookIn s .part .rows)) o

@@ -110,8 +110,8 @@ still-covered s a owed h own no-more =
     let fits = exposure-available s (operatorOf (bookIn s .setup) a) h (caller-operator s a h own) in sym (le-leb owed _ (omega arith))
 
 -- a row that is not pending can be added
-pub settled-trade-in-range : (u : Setup) (r : Row) → r .quantity .0 ≤ mostEnergy → pending r ≡ false → TradeInRange u r
-settled-trade-in-range u r l f =
+pub ended-row-in-range : (u : Setup) (r : Row) → r .quantity .0 ≤ mostEnergy → pending r ≡ false → TradeInRange u r
+ended-row-in-range u r l f =
     record {
       quantity-high = l;
       proposer-known = λ e. absurd (not-both e f);

@@ -5,7 +5,7 @@ use Rattle.book.specs.Worth.{saleWorth}
 use Rattle.book.proofs.StateLaws.{book-length, row-count-high, numbered-row-stands}
 use Rattle.book.proofs.BookRows.{numbered-sound}
 use Rattle.book.proofs.WaitLaws.{own-stands}
-use Rattle.book.proofs.WorthParts.{sale-of-others, row-trade-in-range}
+use Rattle.book.proofs.WorthParts.{sale-of-others, sound-row-in-range}
 use Rattle.book.proofs.worth.row_sale.Statement.{statement}
 use Rattle.book.proofs.worth.row_sale.Tie as tie
 
@@ -46,7 +46,7 @@ sale-of-requires c κs =
     let start = place .before .before .before in
     let pre = start .pre in
     let same = c .row-at .ensures ∙ numbered-row-stands _ (pre .0 .is-book) (start .args .number) _ (pre .1) (place .row-offset .ensures) in
-    (pre .0, rw same (row-trade-in-range _ _ (numbered-sound _ (pre .0 .is-book) (start .args .number) (pre .1))))
+    (pre .0, rw same (sound-row-in-range _ _ (numbered-sound _ (pre .0 .is-book) (start .args .number) (pre .1))))
 
 returns-2 : tie.Need-returns-2
 returns-2 c =

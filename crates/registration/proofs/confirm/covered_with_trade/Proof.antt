@@ -3,7 +3,7 @@
 use mathlib.Core.Path.{_∙_}
 use borrow.Author.Needs.{needs}
 use Rattle.rules.specs.Basics.{nil, cons}
-use Rattle.registration.proofs.ConfirmLaws.{purchase-frees-none, trade-trade-in-range, sale-covered}
+use Rattle.registration.proofs.ConfirmLaws.{purchase-frees-none, trade-in-range, sale-covered}
 use Rattle.registration.proofs.confirm.covered_with_trade.Statement.{statement}
 use Rattle.registration.proofs.confirm.covered_with_trade.Tie as tie
 
@@ -18,7 +18,7 @@ operator-of-requires c κs = search needs
 exposure-with-requires : tie.Need-exposure-with-requires
 exposure-with-requires c κs =
     let pre = c .before .before .before .before .pre in
-    (pre .0 .0, cons (trade-trade-in-range _ _ (pre .0 .0) (pre .1 .0) _ (pre .1 .1)) nil)
+    (pre .0 .0, cons (trade-in-range _ _ (pre .0 .0) (pre .1 .0) _ (pre .1 .1)) nil)
 
 covered-in-force-requires : tie.Need-covered-in-force-requires
 covered-in-force-requires c κs = search needs

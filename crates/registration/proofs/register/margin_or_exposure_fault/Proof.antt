@@ -2,7 +2,7 @@
 use mathlib.Core.Path.{sym, ap, _∙_}
 use Rattle.rules.specs.Verdicts.{checked}
 use Rattle.registration.proofs.MarginLaws.{sound-account-trade, found-hour, found-nowhere}
-use Rattle.book.proofs.WorthParts.{row-trade-in-range}
+use Rattle.book.proofs.WorthParts.{sound-row-in-range}
 use Rattle.registration.proofs.RegisterLaws.{ready-row, margin-breaks, row-uncovered, covered-with-row}
 use borrow.Author.Needs.{needs}
 use Rattle.registration.proofs.register.margin_or_exposure_fault.Statement.{statement}
@@ -35,7 +35,7 @@ covered-with-row-requires c κs =
     let trade = c .before .before .before in
     let pre = trade .before .before .before .pre in
     let row = ready-row _ _ (pre .1 .ready) in
-    ((pre .0 .0, (row .proposer-low, row .proposer-high)), (rw (trade .proposed-row .ensures) (row-trade-in-range _ _ row), rw (trade .proposed-row .ensures)))
+    ((pre .0 .0, (row .proposer-low, row .proposer-high)), (rw (trade .proposed-row .ensures) (sound-row-in-range _ _ row), rw (trade .proposed-row .ensures)))
 
 returns-2 : tie.Need-returns-2
 returns-2 c =
