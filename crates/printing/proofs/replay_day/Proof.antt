@@ -22,9 +22,6 @@ Inv-loop stream book₀ out₀ gathered₀ written₀ book out gathered written 
 abbrev μ-loop : tie.MeasureT-loop
 μ-loop stream book₀ out₀ gathered₀ written₀ book out gathered written = length stream + 2 - gathered .number
 
-gather-first-requires : tie.Need-gather-first-requires Inv-loop μ-loop
-gather-first-requires c κs = search needs
-
 gather-requires : tie.Need-gather-requires Inv-loop μ-loop
 gather-requires c κs = (omega arith, c .before .before .before .before .before .before .gather-first .ensures .1 .1)
 
@@ -56,12 +53,6 @@ loop-again c =
     let said = round .gather2 .ensures in
     (led-on _ (round .before .before .before .before .before .loop .inv .0) (said .0) (said .1 .0), said .1 .0 .underway, omega arith, omega arith, omega arith)
 
-same-length : tie.Need-same-length Inv-loop μ-loop
-same-length c = search needs
-
-same-length-2 : tie.Need-same-length-2 Inv-loop μ-loop
-same-length-2 c = search needs
-
 returns : tie.Need-returns Inv-loop μ-loop
 returns c =
     let looped = c .before .before in
@@ -76,7 +67,7 @@ replay-day-spec =
     (tie.spec
     Inv-loop
     μ-loop
-    gather-first-requires
+    (λ c κs. search needs)
     gather-requires
     write-lines-requires
     loop-holds
@@ -84,6 +75,6 @@ replay-day-spec =
     write-lines-requires-2
     loop-less
     loop-again
-    same-length
-    same-length-2
+    (λ c. search needs)
+    (λ c. search needs)
     returns)

@@ -11,45 +11,18 @@ Inv-loop input counts₀ at₀ counts at = at ≤ length input
 abbrev μ-loop : tie.MeasureT-loop
 μ-loop input counts₀ at₀ counts at = length input - at
 
-loop-holds : tie.Need-loop-holds Inv-loop μ-loop
-loop-holds c = search needs
-
-case-end-requires : tie.Need-case-end-requires Inv-loop μ-loop
-case-end-requires c κs = search needs
-
-sub-run : tie.Need-sub-run Inv-loop μ-loop
-sub-run c = search needs
-
-part-run-start : tie.Need-part-run-start Inv-loop μ-loop
-part-run-start c = search needs
-
-part-run-end : tie.Need-part-run-end Inv-loop μ-loop
-part-run-end c = search needs
-
-run-requires : tie.Need-run-requires Inv-loop μ-loop
-run-requires c κs = search needs
-
-loop-less : tie.Need-loop-less Inv-loop μ-loop
-loop-less c = search needs
-
-loop-again : tie.Need-loop-again Inv-loop μ-loop
-loop-again c = search needs
-
-returns : tie.Need-returns Inv-loop μ-loop
-returns c = search needs
-
 pub walk-spec : {M : Type 1} → statement M
 walk-spec =
     tie.close
     (tie.spec
     Inv-loop
     μ-loop
-    loop-holds
-    case-end-requires
-    sub-run
-    part-run-start
-    part-run-end
-    run-requires
-    loop-less
-    loop-again
-    returns)
+    (λ c. search needs)
+    (λ c κs. search needs)
+    (λ c. search needs)
+    (λ c. search needs)
+    (λ c. search needs)
+    (λ c κs. search needs)
+    (λ c. search needs)
+    (λ c. search needs)
+    (λ c. search needs))

@@ -26,21 +26,6 @@ abbrev μ-loop : tie.MeasureT-loop
 loop-holds : tie.Need-loop-holds Inv-loop μ-loop
 loop-holds c = (search needs, λ u n h. refl)
 
-schedule-at-requires : tie.Need-schedule-at-requires Inv-loop μ-loop
-schedule-at-requires c κs = search needs
-
-schedule-ok-requires : tie.Need-schedule-ok-requires Inv-loop μ-loop
-schedule-ok-requires c κs = search needs
-
-add-k : tie.Need-add-k Inv-loop μ-loop
-add-k c = search needs
-
-sub-left : tie.Need-sub-left Inv-loop μ-loop
-sub-left c = search needs
-
-loop-less : tie.Need-loop-less Inv-loop μ-loop
-loop-less c = search needs
-
 loop-again : tie.Need-loop-again Inv-loop μ-loop
 unfolding schedulesFrom
 loop-again c =
@@ -63,10 +48,10 @@ schedules-ok-spec =
     Inv-loop
     μ-loop
     loop-holds
-    schedule-at-requires
-    schedule-ok-requires
-    add-k
-    sub-left
-    loop-less
+    (λ c κs. search needs)
+    (λ c κs. search needs)
+    (λ c. search needs)
+    (λ c. search needs)
+    (λ c. search needs)
     loop-again
     returns)

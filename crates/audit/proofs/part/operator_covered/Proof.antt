@@ -7,24 +7,6 @@ use Rattle.audit.proofs.CoverLaws.{guarantee-small, maintenance-small, 
 use Rattle.audit.proofs.part.operator_covered.Statement.{statement}
 use Rattle.audit.proofs.part.operator_covered.Tie as tie
 
-exposure-of-requires : tie.Need-exposure-of-requires
-exposure-of-requires c κs = search needs
-
-operator-requires : tie.Need-operator-requires
-operator-requires c κs = search needs
-
-sub-get-u64 : tie.Need-sub-get-u64
-sub-get-u64 c = search needs
-
-mul-get-u64 : tie.Need-mul-get-u64
-mul-get-u64 c = search needs
-
-add-get-u64 : tie.Need-add-get-u64
-add-get-u64 c = search needs
-
-get-u64-requires : tie.Need-get-u64-requires
-get-u64-requires c κs = search needs
-
 available-requires : tie.Need-available-requires
 available-requires c κs =
     let b = c .before .before .before .before .before in
@@ -32,9 +14,6 @@ available-requires c κs =
     let g = guarantee-small s (b .args .at) _ (b .args .number) (b .pre .0 .1 .in-range) (omega arith) (omega arith) in
     let m = maintenance-small s (b .args .number) (b .pre .0 .0 .maintenance-high) (omega arith) (omega arith) in
     (omega (arith, g, c .get-u64 .ensures), omega (arith, m, ap (λ (x : Operator). x .maintenance) (c .before .operator .ensures)))
-
-at-most-requires : tie.Need-at-most-requires
-at-most-requires c κs = search needs
 
 returns : tie.Need-returns
 returns c rows sums =
@@ -49,12 +28,12 @@ pub operator-covered-spec : {M : Type 1} → statement M
 operator-covered-spec =
     tie.close
     (tie.spec
-    exposure-of-requires
-    operator-requires
-    sub-get-u64
-    mul-get-u64
-    add-get-u64
-    get-u64-requires
+    (λ c κs. search needs)
+    (λ c κs. search needs)
+    (λ c. search needs)
+    (λ c. search needs)
+    (λ c. search needs)
+    (λ c κs. search needs)
     available-requires
-    at-most-requires
+    (λ c κs. search needs)
     returns)

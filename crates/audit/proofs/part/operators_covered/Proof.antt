@@ -29,9 +29,6 @@ Inv-loop book at table top n number₀ number =
 abbrev μ-loop : tie.MeasureT-loop
 μ-loop book at table top n number₀ number = countsIn book .operators + 1 - number
 
-counts-requires : tie.Need-counts-requires Inv-loop μ-loop
-counts-requires c κs = search needs
-
 loop-holds : tie.Need-loop-holds Inv-loop μ-loop
 unfolding operatorsCovered
 loop-holds c =
@@ -41,15 +38,6 @@ loop-holds c =
       search needs,
       λ rows sums. every-same _ _ _ _ (ap (λ (n : Counts). n .operators) (counts-of-setup s) ∙ omega arith),
     )
-
-operator-covered-requires : tie.Need-operator-covered-requires Inv-loop μ-loop
-operator-covered-requires c κs = search needs
-
-add-number : tie.Need-add-number Inv-loop μ-loop
-add-number c = search needs
-
-loop-less : tie.Need-loop-less Inv-loop μ-loop
-loop-less c = search needs
 
 loop-again : tie.Need-loop-again Inv-loop μ-loop
 loop-again c =
@@ -76,11 +64,11 @@ operators-covered-spec =
     (tie.spec
     Inv-loop
     μ-loop
-    counts-requires
+    (λ c κs. search needs)
     loop-holds
-    operator-covered-requires
-    add-number
-    loop-less
+    (λ c κs. search needs)
+    (λ c. search needs)
+    (λ c. search needs)
     loop-again
     returns
     returns-2)

@@ -8,23 +8,8 @@ use borrow.Author.Needs.{needs}
 use Rattle.audit.proofs.part.part_valid.Statement.{statement}
 use Rattle.audit.proofs.part.part_valid.Tie as tie
 
-counts-requires : tie.Need-counts-requires
-counts-requires c κs = search needs
-
-add-get-u16 : tie.Need-add-get-u16
-add-get-u16 c = search needs
-
-get-u16-requires : tie.Need-get-u16-requires
-get-u16-requires c κs = search needs
-
-cast-rows : tie.Need-cast-rows
-cast-rows c = search needs
-
 returns : tie.Need-returns
 returns c = too-many-rows _ _ _ (omega (arith, c .before .get-u16 .ensures))
-
-cast-guarantees-valid : tie.Need-cast-guarantees-valid
-cast-guarantees-valid c = search needs
 
 guarantees-valid-requires : tie.Need-guarantees-valid-requires
 guarantees-valid-requires c κs =
@@ -38,9 +23,6 @@ returns-2 c =
     let counted = read .before in
     guarantees-fail _ _ _ _ _ (counted .before .before .before .pre .0 .0) (read .get-u16 .ensures) (ap (λ (n : Counts). n .operators) (counted .counts .ensures)) (omega arith)
     (sym (tested .guarantees-valid .ensures) ∙ not-true _ (c .if2 .taken))
-
-rows-valid-requires : tie.Need-rows-valid-requires
-rows-valid-requires c κs = search needs
 
 returns-3 : tie.Need-returns-3
 returns-3 c =
@@ -78,9 +60,6 @@ sums-valid-requires c κs =
       counted .before .before .before .pre .1,
     )
 
-same-length : tie.Need-same-length
-same-length c = search needs
-
 returns-4 : tie.Need-returns-4
 returns-4 c =
     let done = c .before .before in
@@ -98,16 +77,16 @@ pub part-valid-spec : {M : Type 1} → statement M
 part-valid-spec =
     tie.close
     (tie.spec
-    counts-requires
-    add-get-u16
-    get-u16-requires
-    cast-rows
+    (λ c κs. search needs)
+    (λ c. search needs)
+    (λ c κs. search needs)
+    (λ c. search needs)
     returns
-    cast-guarantees-valid
+    (λ c. search needs)
     guarantees-valid-requires
     returns-2
-    rows-valid-requires
+    (λ c κs. search needs)
     returns-3
     sums-valid-requires
-    same-length
+    (λ c. search needs)
     returns-4)

@@ -3,11 +3,8 @@ use borrow.Author.Needs.{needs}
 use Rattle.audit.proofs.saved.row_follows.Statement.{statement}
 use Rattle.audit.proofs.saved.row_follows.Tie as tie
 
-same-terms-requires : tie.Need-same-terms-requires
-same-terms-requires c κs = search needs
-
 returns : tie.Need-returns
 returns c = rw (← c .before .before .before .same-terms .ensures)
 
 pub row-follows-spec : {M : Type 1} → statement M
-row-follows-spec = tie.close (tie.spec same-terms-requires returns)
+row-follows-spec = tie.close (tie.spec (λ c κs. search needs) returns)

@@ -32,27 +32,6 @@ loop-holds c =
     let e : a .m + (a .n - a .m) ≡ a .n = omega arith in
     (search needs, search needs, rw e (omega arith), rw e)
 
-row-at-requires : tie.Need-row-at-requires Inv-loop μ-loop
-row-at-requires c κs = search needs
-
-row-at-requires-2 : tie.Need-row-at-requires-2 Inv-loop μ-loop
-row-at-requires-2 c κs = search needs
-
-row-follows-requires : tie.Need-row-follows-requires Inv-loop μ-loop
-row-follows-requires c κs = search needs
-
-add-i : tie.Need-add-i Inv-loop μ-loop
-add-i c = search needs
-
-add-k : tie.Need-add-k Inv-loop μ-loop
-add-k c = search needs
-
-sub-left : tie.Need-sub-left Inv-loop μ-loop
-sub-left c = search needs
-
-loop-less : tie.Need-loop-less Inv-loop μ-loop
-loop-less c = search needs
-
 loop-again : tie.Need-loop-again Inv-loop μ-loop
 loop-again c =
     let l = c .before .before .before .before .loop in
@@ -81,12 +60,12 @@ rows-follow-spec =
     μ-loop
     returns
     loop-holds
-    row-at-requires
-    row-at-requires-2
-    row-follows-requires
-    add-i
-    add-k
-    sub-left
-    loop-less
+    (λ c κs. search needs)
+    (λ c κs. search needs)
+    (λ c κs. search needs)
+    (λ c. search needs)
+    (λ c. search needs)
+    (λ c. search needs)
+    (λ c. search needs)
     loop-again
     returns-2)

@@ -7,11 +7,5 @@ use Rattle.audit.proofs.twins.key_again.Tie as tie
 returns : tie.Need-returns
 returns c = sym (c .before .before .before .pre .3 (c .if1 .taken))
 
-key-after-requires : tie.Need-key-after-requires
-key-after-requires c κs = search needs
-
-returns-2 : tie.Need-returns-2
-returns-2 c = search needs
-
 pub key-again-spec : {M : Type 1} → statement M
-key-again-spec = tie.close (tie.spec returns key-after-requires returns-2)
+key-again-spec = tie.close (tie.spec returns (λ c κs. search needs) (λ c. search needs))

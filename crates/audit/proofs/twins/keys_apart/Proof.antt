@@ -21,27 +21,6 @@ abbrev μ-loop : tie.MeasureT-loop
 loop-holds : tie.Need-loop-holds Inv-loop μ-loop
 loop-holds c = (search needs, search needs, apart-done _ _ _ _ (omega arith), none-marked _ _ _ _)
 
-sub-i : tie.Need-sub-i Inv-loop μ-loop
-sub-i c = search needs
-
-mul-mark-of : tie.Need-mul-mark-of Inv-loop μ-loop
-mul-mark-of c = search needs
-
-shared-slice-read-mark-of : tie.Need-shared-slice-read-mark-of Inv-loop μ-loop
-shared-slice-read-mark-of c = search needs
-
-mul-mark-of-2 : tie.Need-mul-mark-of-2 Inv-loop μ-loop
-mul-mark-of-2 c = search needs
-
-shared-slice-read-mark-of-2 : tie.Need-shared-slice-read-mark-of-2 Inv-loop μ-loop
-shared-slice-read-mark-of-2 c = search needs
-
-mark-of-requires : tie.Need-mark-of-requires Inv-loop μ-loop
-mark-of-requires c κs = search needs
-
-slice-read-key-again : tie.Need-slice-read-key-again Inv-loop μ-loop
-slice-read-key-again c = search needs
-
 key-again-requires : tie.Need-key-again-requires Inv-loop μ-loop
 key-again-requires c κs =
     let looped = c .before .before .before .before .before in
@@ -53,9 +32,6 @@ key-again-requires c κs =
       λ z. unmarked (a .codes .now) (a .pairs .now) (l .left) (a .n) (l .seen) _ _ (l .inv .3) (rw (c .before .mark-of .ensures .0) at z) _ _ (omega arith) (omega arith),
     )
 
-same-length : tie.Need-same-length Inv-loop μ-loop
-same-length c = search needs
-
 returns : tie.Need-returns Inv-loop μ-loop
 returns c =
     let looped = c .before .before .before .before .before .before .before in
@@ -64,12 +40,6 @@ returns c =
     let e : l .left - 1 + (a .n - (l .left - 1)) ≡ a .n = omega arith in
     let f = apart-found (a .codes .now) (a .pairs .now) (l .left - 1) (a .n - (l .left - 1)) (a .n - (l .left - 1 + 1)) (omega arith) (rw (← c .before .key-again .ensures) (c .if1 .taken)) in
     sym (rw e at (apart-before (a .codes .now) (a .pairs .now) (l .left - 1) 0 (a .n - (l .left - 1)) (rw zero-add f)))
-
-slice-write-seen : tie.Need-slice-write-seen Inv-loop μ-loop
-slice-write-seen c = search needs
-
-loop-less : tie.Need-loop-less Inv-loop μ-loop
-loop-less c = search needs
 
 loop-again : tie.Need-loop-again Inv-loop μ-loop
 loop-again c =
@@ -82,9 +52,6 @@ loop-again c =
       apart-next (a .codes .now) (a .pairs .now) (l .left - 1) (a .n - (l .left - 1)) (a .n - (l .left - 1 + 1)) (omega arith) (rw (← c .before .key-again .ensures) (c .if1 .left)) ∙ rw (← e) (l .inv .2),
       mark-more (a .codes .now) (a .pairs .now) (l .left - 1) (l .left) (a .n) (l .seen) _ e (c .before .before .before .mark-of .ensures .0) (search needs) (l .inv .3),
     )
-
-same-length-2 : tie.Need-same-length-2 Inv-loop μ-loop
-same-length-2 c = search needs
 
 returns-2 : tie.Need-returns-2 Inv-loop μ-loop
 returns-2 c =
@@ -100,18 +67,18 @@ keys-apart-spec =
     Inv-loop
     μ-loop
     loop-holds
-    sub-i
-    mul-mark-of
-    shared-slice-read-mark-of
-    mul-mark-of-2
-    shared-slice-read-mark-of-2
-    mark-of-requires
-    slice-read-key-again
+    (λ c. search needs)
+    (λ c. search needs)
+    (λ c. search needs)
+    (λ c. search needs)
+    (λ c. search needs)
+    (λ c κs. search needs)
+    (λ c. search needs)
     key-again-requires
-    same-length
+    (λ c. search needs)
     returns
-    slice-write-seen
-    loop-less
+    (λ c. search needs)
+    (λ c. search needs)
     loop-again
-    same-length-2
+    (λ c. search needs)
     returns-2)

@@ -14,9 +14,6 @@ use Rattle.audit.proofs.whole.is_book.Tie as tie
 returns : tie.Need-returns
 returns c = not-sized _ (bytes-known _ (c .before .shared-slice-known .given)) (c .if1 .taken)
 
-setup-valid-requires : tie.Need-setup-valid-requires
-setup-valid-requires c κs = search needs
-
 returns-2 : tie.Need-returns-2
 returns-2 c =
     let tested = c .before in
@@ -58,12 +55,6 @@ phase-valid-requires c κs =
     let stands = c .before .before .before in
     (search needs, few-rows _ _ presentOffset (sym (stands .before .is-part .ensures) ∙ not-false _ (stands .if3 .left)))
 
-sub-all-zero : tie.Need-sub-all-zero
-sub-all-zero c = search needs
-
-all-zero-requires : tie.Need-all-zero-requires
-all-zero-requires c κs = search needs
-
 returns-5 : tie.Need-returns-5
 returns-5 c =
     let phase = c .before in
@@ -83,7 +74,7 @@ is-book-spec =
     tie.close
     (tie.spec
     returns
-    setup-valid-requires
+    (λ c κs. search needs)
     returns-2
     is-part-requires
     returns-3
@@ -91,6 +82,6 @@ is-book-spec =
     returns-4
     schedules-valid-requires
     phase-valid-requires
-    sub-all-zero
-    all-zero-requires
+    (λ c. search needs)
+    (λ c κs. search needs)
     returns-5)

@@ -10,46 +10,13 @@ use Rattle.image.specs.Layout.{savedOffset}
 use Rattle.audit.proofs.whole.saved_valid.Statement.{statement}
 use Rattle.audit.proofs.whole.saved_valid.Tie as tie
 
-shared-slice-read-if1 : tie.Need-shared-slice-read-if1
-shared-slice-read-if1 c = search needs
-
-all-zero-requires : tie.Need-all-zero-requires
-all-zero-requires c κs = search needs
-
 returns : tie.Need-returns
 returns c = c .all-zero .ensures ∙ sym (saved-without _ _ (c .before .if1 .taken))
-
-is-part-requires : tie.Need-is-part-requires
-is-part-requires c κs = search needs
 
 returns-2 : tie.Need-returns-2
 returns-2 c =
     let tested = c .before in
     sym (saved-with _ _ (tested .before .if1 .left) ∙ rw (sym (tested .is-part .ensures) ∙ not-true _ (c .if2 .taken)))
-
-add-get-u16 : tie.Need-add-get-u16
-add-get-u16 c = search needs
-
-get-u16-requires : tie.Need-get-u16-requires
-get-u16-requires c κs = search needs
-
-cast-saved : tie.Need-cast-saved
-cast-saved c = search needs
-
-add-get-u16-2 : tie.Need-add-get-u16-2
-add-get-u16-2 c = search needs
-
-get-u16-requires-2 : tie.Need-get-u16-requires-2
-get-u16-requires-2 c κs = search needs
-
-cast-rows : tie.Need-cast-rows
-cast-rows c = search needs
-
-add-rows-follow : tie.Need-add-rows-follow
-add-rows-follow c = search needs
-
-add-rows-follow-2 : tie.Need-add-rows-follow-2
-add-rows-follow-2 c = search needs
 
 rows-follow-requires : tie.Need-rows-follow-requires
 rows-follow-requires c κs =
@@ -74,18 +41,18 @@ pub saved-valid-spec : {M : Type 1} → statement M
 saved-valid-spec =
     tie.close
     (tie.spec
-    shared-slice-read-if1
-    all-zero-requires
+    (λ c. search needs)
+    (λ c κs. search needs)
     returns
-    is-part-requires
+    (λ c κs. search needs)
     returns-2
-    add-get-u16
-    get-u16-requires
-    cast-saved
-    add-get-u16-2
-    get-u16-requires-2
-    cast-rows
-    add-rows-follow
-    add-rows-follow-2
+    (λ c. search needs)
+    (λ c κs. search needs)
+    (λ c. search needs)
+    (λ c. search needs)
+    (λ c κs. search needs)
+    (λ c. search needs)
+    (λ c. search needs)
+    (λ c. search needs)
     rows-follow-requires
     returns-3)

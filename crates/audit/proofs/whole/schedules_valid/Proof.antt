@@ -9,35 +9,8 @@ use borrow.Author.Needs.{needs}
 use Rattle.audit.proofs.whole.schedules_valid.Statement.{statement}
 use Rattle.audit.proofs.whole.schedules_valid.Tie as tie
 
-counts-requires : tie.Need-counts-requires
-counts-requires c κs = search needs
-
-get-u16-requires : tie.Need-get-u16-requires
-get-u16-requires c κs = search needs
-
-cast-n : tie.Need-cast-n
-cast-n c = search needs
-
 returns : tie.Need-returns
 returns c = too-many-schedules _ (omega (arith, c .before .get-u16 .ensures))
-
-mul-used : tie.Need-mul-used
-mul-used c = search needs
-
-schedules-ok-requires : tie.Need-schedules-ok-requires
-schedules-ok-requires c κs = search needs
-
-add-all-zero : tie.Need-add-all-zero
-add-all-zero c = search needs
-
-mul-all-zero : tie.Need-mul-all-zero
-mul-all-zero c = search needs
-
-sub-all-zero : tie.Need-sub-all-zero
-sub-all-zero c = search needs
-
-all-zero-requires : tie.Need-all-zero-requires
-all-zero-requires c κs = search needs
 
 returns-2 : tie.Need-returns-2
 returns-2 c =
@@ -53,14 +26,14 @@ pub schedules-valid-spec : {M : Type 1} → statement M
 schedules-valid-spec =
     tie.close
     (tie.spec
-    counts-requires
-    get-u16-requires
-    cast-n
+    (λ c κs. search needs)
+    (λ c κs. search needs)
+    (λ c. search needs)
     returns
-    mul-used
-    schedules-ok-requires
-    add-all-zero
-    mul-all-zero
-    sub-all-zero
-    all-zero-requires
+    (λ c. search needs)
+    (λ c κs. search needs)
+    (λ c. search needs)
+    (λ c. search needs)
+    (λ c. search needs)
+    (λ c κs. search needs)
     returns-2)

@@ -11,12 +11,6 @@ use borrow.Author.Needs.{needs}
 use Rattle.audit.proofs.whole.setup_valid.Statement.{statement}
 use Rattle.audit.proofs.whole.setup_valid.Tie as tie
 
-counts-requires : tie.Need-counts-requires
-counts-requires c κs = search needs
-
-length-of-requires : tie.Need-length-of-requires
-length-of-requires c κs = search needs
-
 returns : tie.Need-returns
 returns c =
     let sized = c .before in
@@ -28,9 +22,6 @@ slice-aggregate-is-accepted : tie.Need-slice-aggregate-is-accepted
 slice-aggregate-is-accepted c =
     let start = c .before .before .before .before in sym (length-take-le _ _ (omega (arith, start .before .pre)))
 
-is-accepted-requires : tie.Need-is-accepted-requires
-is-accepted-requires c κs = search needs
-
 returns-2 : tie.Need-returns-2
 returns-2 c =
     let tested = c .before in
@@ -38,18 +29,6 @@ returns-2 c =
     let start = sized .before .before in
     refused-setup _ (bytes-known _ (start .shared-slice-known .given)) (start .before .pre) _ (sized .length-of .ensures ∙ ap setupLength (sized .before .counts .ensures))
     (sym (tested .is-accepted .ensures) ∙ not-true _ (c .if2 .taken))
-
-operators-offset-requires : tie.Need-operators-offset-requires
-operators-offset-requires c κs = search needs
-
-cast-no-guarantees : tie.Need-cast-no-guarantees
-cast-no-guarantees c = search needs
-
-no-guarantees-requires : tie.Need-no-guarantees-requires
-no-guarantees-requires c κs = search needs
-
-all-zero-requires : tie.Need-all-zero-requires
-all-zero-requires c κs = search needs
 
 returns-3 : tie.Need-returns-3
 returns-3 c =
@@ -68,14 +47,14 @@ pub setup-valid-spec : {M : Type 1} → statement M
 setup-valid-spec =
     tie.close
     (tie.spec
-    counts-requires
-    length-of-requires
+    (λ c κs. search needs)
+    (λ c κs. search needs)
     returns
     slice-aggregate-is-accepted
-    is-accepted-requires
+    (λ c κs. search needs)
     returns-2
-    operators-offset-requires
-    cast-no-guarantees
-    no-guarantees-requires
-    all-zero-requires
+    (λ c κs. search needs)
+    (λ c. search needs)
+    (λ c κs. search needs)
+    (λ c κs. search needs)
     returns-3)

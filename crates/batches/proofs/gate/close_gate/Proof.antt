@@ -24,29 +24,11 @@ use Rattle.batches.proofs.gate.close_gate.Tie as tie
 free : (c : tie.After-enum-told) (q : Request) → decided closeGate (bookIn (now (c .before .before .before .before .before .args .book))) q ≡ none
 free c q = checked-same _ none (sym (c .before .before .outside-batch .ensures closeGate q refl) ∙ c .enum-told .given .1)
 
-outside-batch-requires : tie.Need-outside-batch-requires
-outside-batch-requires c κs = search needs
-
-enum-known-r : tie.Need-enum-known-r
-enum-known-r c = search needs
-
-same-length : tie.Need-same-length
-same-length c = search needs
-
 returns : tie.Need-returns
 returns c =
     let tested = c .before .before .before in
     refused-all closeGate _ _ (tested .before .before .before .pre)
     (λ q. checked-same _ (some _) (sym (tested .outside-batch .ensures closeGate q refl) ∙ c .before .r .given .1))
-
-enum-told : tie.Need-enum-told
-enum-told c = search needs
-
-row-count-requires : tie.Need-row-count-requires
-row-count-requires c κs = search needs
-
-add-end-rows : tie.Need-add-end-rows
-add-end-rows c = search needs
 
 end-rows-requires : tie.Need-end-rows-requires
 end-rows-requires c κs =
@@ -62,9 +44,6 @@ put-u8-requires c κs =
     let n = book-length _ (clear .before .before .before .before .before .pre) in
     omega arith
 
-same-length-2 : tie.Need-same-length-2
-same-length-2 c = search needs
-
 returns-2 : tie.Need-returns-2
 returns-2 c =
     let phase = c .before .before in
@@ -79,14 +58,14 @@ pub close-gate-spec : {M : Type 1} → statement M
 close-gate-spec =
     tie.close
     (tie.spec
-    outside-batch-requires
-    enum-known-r
-    same-length
+    (λ c κs. search needs)
+    (λ c. search needs)
+    (λ c. search needs)
     returns
-    enum-told
-    row-count-requires
-    add-end-rows
+    (λ c. search needs)
+    (λ c κs. search needs)
+    (λ c. search needs)
     end-rows-requires
     put-u8-requires
-    same-length-2
+    (λ c. search needs)
     returns-2)

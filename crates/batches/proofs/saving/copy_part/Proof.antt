@@ -6,31 +6,13 @@ use Rattle.batches.proofs.BatchLaws.{part-copied}
 use Rattle.batches.proofs.saving.copy_part.Statement.{statement}
 use Rattle.batches.proofs.saving.copy_part.Tie as tie
 
-mul-copy-within : tie.Need-mul-copy-within
-mul-copy-within c = search needs
-
-add-copy-within : tie.Need-add-copy-within
-add-copy-within c = search needs
-
 copy-within-requires : tie.Need-copy-within-requires
 copy-within-requires c κs =
     (omega arith, omega arith, ⊎-elim (λ w. inl (omega arith)) (λ w. inr (omega arith)) (c .before .before .pre .0 .2))
 
-add-copy-within-2 : tie.Need-add-copy-within-2
-add-copy-within-2 c = search needs
-
-add-copy-within-3 : tie.Need-add-copy-within-3
-add-copy-within-3 c = search needs
-
-sub-copy-within : tie.Need-sub-copy-within
-sub-copy-within c = search needs
-
 copy-within-requires-2 : tie.Need-copy-within-requires-2
 copy-within-requires-2 c κs =
     (omega arith, omega arith, ⊎-elim (λ w. inl (omega arith)) (λ w. inr (omega arith)) (c .before .before .before .before .before .before .pre .0 .2))
-
-same-length : tie.Need-same-length
-same-length c = search needs
 
 returns : tie.Need-returns
 returns c =
@@ -45,12 +27,12 @@ pub copy-part-spec : {M : Type 1} → statement M
 copy-part-spec =
     tie.close
     (tie.spec
-    mul-copy-within
-    add-copy-within
+    (λ c. search needs)
+    (λ c. search needs)
     copy-within-requires
-    add-copy-within-2
-    add-copy-within-3
-    sub-copy-within
+    (λ c. search needs)
+    (λ c. search needs)
+    (λ c. search needs)
     copy-within-requires-2
-    same-length
+    (λ c. search needs)
     returns)

@@ -7,14 +7,8 @@ use borrow.Author.Needs.{needs}
 use Rattle.batches.proofs.saving.inside_batch.Statement.{statement}
 use Rattle.batches.proofs.saving.inside_batch.Tie as tie
 
-phase-requires : tie.Need-phase-requires
-phase-requires c κs = search needs
-
 returns : tie.Need-returns
 returns c = λ k q m. ap checked (sym (in-wrong-phase _ q k (λ e. c .if1 .taken (c .before .phase .ensures ∙ e ∙ phase-inside k m))))
-
-batch-open-requires : tie.Need-batch-open-requires
-batch-open-requires c κs = search needs
 
 returns-2 : tie.Need-returns-2
 returns-2 c = λ k q m. ap checked (sym (inside-batch _ q (sym (c .before .before .before .phase .ensures) ∙ c .before .before .if1 .left) k m (sym (c .before .batch-open .ensures) ∙ c .if2 .taken)))
@@ -24,4 +18,4 @@ returns-3 c = λ k q m. ap checked (sym (without-batch _ q (sym (c .before .befo
 
 pub inside-batch-spec : {M : Type 1} → statement M
 inside-batch-spec =
-    tie.close (tie.spec phase-requires returns batch-open-requires returns-2 returns-3)
+    tie.close (tie.spec (λ c κs. search needs) returns (λ c κs. search needs) returns-2 returns-3)

@@ -27,23 +27,11 @@ free c q = checked-same _ none (sym (c .before .before .inside-batch .ensures ke
 batch : (c : tie.After-enum-told) → isSome (bookIn (now (c .before .before .before .before .before .args .book)) .saved) ≡ true
 batch c = ending-finds-batch keep _ (requestOf []) refl (free c (requestOf []))
 
-inside-batch-requires : tie.Need-inside-batch-requires
-inside-batch-requires c κs = search needs
-
-enum-known-r : tie.Need-enum-known-r
-enum-known-r c = search needs
-
-same-length : tie.Need-same-length
-same-length c = search needs
-
 returns : tie.Need-returns
 returns c =
     let tested = c .before .before .before in
     refused-all keep _ _ (tested .before .before .before .pre)
     (λ q. checked-same _ (some _) (sym (tested .inside-batch .ensures keep q refl) ∙ c .before .r .given .1))
-
-enum-told : tie.Need-enum-told
-enum-told c = search needs
 
 saved-row-count-requires : tie.Need-saved-row-count-requires
 saved-row-count-requires c κs = (c .before .before .before .before .before .before .pre, batch (c .before))
@@ -54,9 +42,6 @@ end-batch-requires c κs =
     let clear = counted .before .before in
     let pre = clear .before .before .before .before .before .pre in
     (book-length _ pre, saved-rows-end _ pre (batch clear) _ (counted .saved-row-count .ensures .0))
-
-same-length-2 : tie.Need-same-length-2
-same-length-2 c = search needs
 
 returns-2 : tie.Need-returns-2
 returns-2 c =
@@ -69,12 +54,12 @@ pub keep-spec : {M : Type 1} → statement M
 keep-spec =
     tie.close
     (tie.spec
-    inside-batch-requires
-    enum-known-r
-    same-length
+    (λ c κs. search needs)
+    (λ c. search needs)
+    (λ c. search needs)
     returns
-    enum-told
+    (λ c. search needs)
     saved-row-count-requires
     end-batch-requires
-    same-length-2
+    (λ c. search needs)
     returns-2)

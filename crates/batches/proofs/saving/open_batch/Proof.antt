@@ -6,21 +6,6 @@ use borrow.Author.Needs.{needs}
 use Rattle.batches.proofs.saving.open_batch.Statement.{statement}
 use Rattle.batches.proofs.saving.open_batch.Tie as tie
 
-outside-batch-requires : tie.Need-outside-batch-requires
-outside-batch-requires c κs = search needs
-
-is-clear-requires : tie.Need-is-clear-requires
-is-clear-requires c κs = search needs
-
-save-if-requires : tie.Need-save-if-requires
-save-if-requires c κs = search needs
-
-outcome-of-requires : tie.Need-outcome-of-requires
-outcome-of-requires c κs = search needs
-
-same-length : tie.Need-same-length
-same-length c = search needs
-
 returns : tie.Need-returns
 returns c =
     let saved = c .before .before .before in
@@ -34,9 +19,9 @@ pub open-batch-spec : {M : Type 1} → statement M
 open-batch-spec =
     tie.close
     (tie.spec
-    outside-batch-requires
-    is-clear-requires
-    save-if-requires
-    outcome-of-requires
-    same-length
+    (λ c κs. search needs)
+    (λ c κs. search needs)
+    (λ c κs. search needs)
+    (λ c κs. search needs)
+    (λ c. search needs)
     returns)

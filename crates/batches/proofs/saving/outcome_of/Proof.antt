@@ -4,12 +4,6 @@ use borrow.Author.Needs.{needs}
 use Rattle.batches.proofs.saving.outcome_of.Statement.{statement}
 use Rattle.batches.proofs.saving.outcome_of.Tie as tie
 
-enum-told : tie.Need-enum-told
-enum-told c = search needs
-
-enum-known-fault : tie.Need-enum-known-fault
-enum-known-fault c = search needs
-
 returns : tie.Need-returns
 returns c = rw (c .enum-told .given .1) refl
 
@@ -17,4 +11,4 @@ returns-2 : tie.Need-returns-2
 returns-2 c = rw (c .before .fault .given .1) refl
 
 pub outcome-of-spec : {M : Type 1} → statement M
-outcome-of-spec = tie.close (tie.spec enum-told enum-known-fault returns returns-2)
+outcome-of-spec = tie.close (tie.spec (λ c. search needs) (λ c. search needs) returns returns-2)

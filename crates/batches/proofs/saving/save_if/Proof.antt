@@ -13,9 +13,6 @@ use borrow.Author.Needs.{needs}
 use Rattle.batches.proofs.saving.save_if.Statement.{statement}
 use Rattle.batches.proofs.saving.save_if.Tie as tie
 
-row-count-requires : tie.Need-row-count-requires
-row-count-requires c κs = search needs
-
 copy-part-requires : tie.Need-copy-part-requires
 copy-part-requires c κs =
     let pre = c .before .before .before .before .before .pre in
@@ -30,9 +27,6 @@ put-u8-requires c κs =
     let n = book-length _ (start .pre) in
     omega arith
 
-same-length : tie.Need-same-length
-same-length c = search needs
-
 returns : tie.Need-returns
 returns c =
     let flagged = c .before .before in
@@ -40,10 +34,7 @@ returns c =
     let clear = copied .before .before .before .before in
     rw (clear .if1 .taken) (flagged .put-u8 .ensures ∙ ap (λ (x : List ℕ). splice x flagOffset (le 1 1)) (copied .copy-part .ensures))
 
-returns-2 : tie.Need-returns-2
-returns-2 c = search needs
-
 pub save-if-spec : {M : Type 1} → statement M
 save-if-spec =
     tie.close
-    (tie.spec row-count-requires copy-part-requires put-u8-requires same-length returns returns-2)
+    (tie.spec (λ c κs. search needs) copy-part-requires put-u8-requires (λ c. search needs) returns (λ c. search needs))

@@ -30,35 +30,17 @@ free c q = checked-same _ none (sym (c .before .before .inside-batch .ensures un
 batch : (c : tie.After-enum-told) → isSome (bookIn (now (c .before .before .before .before .before .args .book)) .saved) ≡ true
 batch c = ending-finds-batch undo _ (requestOf []) refl (free c (requestOf []))
 
-inside-batch-requires : tie.Need-inside-batch-requires
-inside-batch-requires c κs = search needs
-
-enum-known-r : tie.Need-enum-known-r
-enum-known-r c = search needs
-
-same-length : tie.Need-same-length
-same-length c = search needs
-
 returns : tie.Need-returns
 returns c =
     let tested = c .before .before .before in
     refused-all undo _ _ (tested .before .before .before .pre)
     (λ q. checked-same _ (some _) (sym (tested .inside-batch .ensures undo q refl) ∙ c .before .r .given .1))
 
-enum-told : tie.Need-enum-told
-enum-told c = search needs
-
-row-count-requires : tie.Need-row-count-requires
-row-count-requires c κs = search needs
-
 saved-row-count-requires : tie.Need-saved-row-count-requires
 saved-row-count-requires c κs =
     let clear = c .before .before .before in
     let start = clear .before .before .before .before .before in
     (start .pre, batch clear)
-
-sub-since : tie.Need-sub-since
-sub-since c = search needs
 
 copy-part-requires : tie.Need-copy-part-requires
 copy-part-requires c κs =
@@ -79,9 +61,6 @@ end-batch-requires c κs =
     let (few, room) = saved-rows-end _ pre (batch clear) _ (saved .saved-row-count .ensures .0) in
     (omega arith, (few, saved-room-left _ _ _ n few room (copied .copy-part .ensures)))
 
-same-length-2 : tie.Need-same-length-2
-same-length-2 c = search needs
-
 returns-2 : tie.Need-returns-2
 returns-2 c =
     let ended = c .before .before in
@@ -97,15 +76,15 @@ pub undo-spec : {M : Type 1} → statement M
 undo-spec =
     tie.close
     (tie.spec
-    inside-batch-requires
-    enum-known-r
-    same-length
+    (λ c κs. search needs)
+    (λ c. search needs)
+    (λ c. search needs)
     returns
-    enum-told
-    row-count-requires
+    (λ c. search needs)
+    (λ c κs. search needs)
     saved-row-count-requires
-    sub-since
+    (λ c. search needs)
     copy-part-requires
     end-batch-requires
-    same-length-2
+    (λ c. search needs)
     returns-2)

@@ -19,25 +19,10 @@ abbrev μ-loop : tie.MeasureT-loop
 loop-holds : tie.Need-loop-holds Inv-loop μ-loop
 loop-holds c = (search needs, search needs, refl)
 
-put-u64-requires : tie.Need-put-u64-requires Inv-loop μ-loop
-put-u64-requires c κs = search needs
-
-add-at : tie.Need-add-at Inv-loop μ-loop
-add-at c = search needs
-
-sub-standing : tie.Need-sub-standing Inv-loop μ-loop
-sub-standing c = search needs
-
-loop-less : tie.Need-loop-less Inv-loop μ-loop
-loop-less c = search needs
-
 loop-again : tie.Need-loop-again Inv-loop μ-loop
 loop-again c =
     let l = c .before .before .before .before .before .loop in
     (search needs, search needs, l .inv .2 ∙ guarantees-cleared-step _ _ _ (l .standing - 1) (omega arith) ∙ rw (c .before .before .put-u64 .ensures))
-
-same-length : tie.Need-same-length Inv-loop μ-loop
-same-length c = search needs
 
 returns : tie.Need-returns Inv-loop μ-loop
 returns c = sym (c .before .loop .inv .2 ∙ guarantees-cleared-done _ _ _ (omega arith))
@@ -49,10 +34,10 @@ clear-guarantees-spec =
     Inv-loop
     μ-loop
     loop-holds
-    put-u64-requires
-    add-at
-    sub-standing
-    loop-less
+    (λ c κs. search needs)
+    (λ c. search needs)
+    (λ c. search needs)
+    (λ c. search needs)
     loop-again
-    same-length
+    (λ c. search needs)
     returns)

@@ -12,17 +12,11 @@ counts-requires c κs =
     let k = c .before in
     openable _ (bytes-known _ (k .shared-slice-known .given)) (k .before .pre .0) refl .long
 
-operators-offset-requires : tie.Need-operators-offset-requires
-operators-offset-requires c κs = search needs
-
 put-setup-requires : tie.Need-put-setup-requires
 put-setup-requires c κs =
     let k = c .before .before .before .before in
     let o = openable _ (bytes-known _ (k .shared-slice-known .given)) (k .before .pre .0) (c .before .before .counts .ensures) in
     (omega (arith, c .before .operators-offset .ensures), omega arith)
-
-put-u8-requires : tie.Need-put-u8-requires
-put-u8-requires c κs = search needs
 
 put-guarantees-requires : tie.Need-put-guarantees-requires
 put-guarantees-requires c κs =
@@ -31,9 +25,6 @@ put-guarantees-requires c κs =
     let start = found .before .before .before in
     let o = openable _ (bytes-known _ (start .shared-slice-known .given)) (start .before .pre .0) (found .before .counts .ensures) in
     (omega (arith, found .operators-offset .ensures), omega arith)
-
-same-length : tie.Need-same-length
-same-length c = search needs
 
 returns : tie.Need-returns
 returns c =
@@ -50,9 +41,9 @@ fill-spec =
     tie.close
     (tie.spec
     counts-requires
-    operators-offset-requires
+    (λ c κs. search needs)
     put-setup-requires
-    put-u8-requires
+    (λ c κs. search needs)
     put-guarantees-requires
-    same-length
+    (λ c. search needs)
     returns)

@@ -10,27 +10,15 @@ use Rattle.book.proofs.opening.open.Tie as tie
 returns : tie.Need-returns
 returns c = refused-unchanged _ _ _ (other-size _ _ (c .if1 .taken))
 
-fault-requires : tie.Need-fault-requires
-fault-requires c κs = search needs
-
-enum-known-r : tie.Need-enum-known-r
-enum-known-r c = search needs
-
 returns-2 : tie.Need-returns-2
 returns-2 c =
     let f = c .before .before .before in
     refused-unchanged _ _ _ (setup-decides _ _ (f .before .if1 .left) ∙ checked-same _ (some _) (sym (f .fault .ensures) ∙ c .before .r .given .1))
 
-enum-told : tie.Need-enum-told
-enum-told c = search needs
-
 fill-requires : tie.Need-fill-requires
 fill-requires c κs =
     let f = c .before .before .before in
     (checked-same _ none (sym (f .fault .ensures) ∙ c .before .enum-told .given .1), f .before .if1 .left)
-
-same-length : tie.Need-same-length
-same-length c = search needs
 
 returns-3 : tie.Need-returns-3
 returns-3 c =
@@ -43,10 +31,10 @@ open-spec =
     tie.close
     (tie.spec
     returns
-    fault-requires
-    enum-known-r
+    (λ c κs. search needs)
+    (λ c. search needs)
     returns-2
-    enum-told
+    (λ c. search needs)
     fill-requires
-    same-length
+    (λ c. search needs)
     returns-3)

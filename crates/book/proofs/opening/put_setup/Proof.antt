@@ -3,18 +3,6 @@ use borrow.Author.Needs.{needs}
 use Rattle.book.proofs.opening.put_setup.Statement.{statement}
 use Rattle.book.proofs.opening.put_setup.Tie as tie
 
-clear-requires : tie.Need-clear-requires
-clear-requires c κs = search needs
-
-copy-in-requires : tie.Need-copy-in-requires
-copy-in-requires c κs = search needs
-
-clear-guarantees-requires : tie.Need-clear-guarantees-requires
-clear-guarantees-requires c κs = search needs
-
-same-length : tie.Need-same-length
-same-length c = search needs
-
 returns : tie.Need-returns
 returns c =
     let emptied = c .before .before in
@@ -24,4 +12,4 @@ returns c =
 
 pub put-setup-spec : {M : Type 1} → statement M
 put-setup-spec =
-    tie.close (tie.spec clear-requires copy-in-requires clear-guarantees-requires same-length returns)
+    tie.close (tie.spec (λ c κs. search needs) (λ c κs. search needs) (λ c κs. search needs) (λ c. search needs) returns)

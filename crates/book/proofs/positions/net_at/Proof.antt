@@ -21,9 +21,6 @@ returns c =
     net-bought (start .args .book .now) (given .0) (start .args .account) (start .args .hour) (given .1) (given .2) (read .stored-net .result) (read .stored-net .ensures)
     (c .if1 .taken)
 
-minus-u32-requires : tie.Need-minus-u32-requires
-minus-u32-requires c κs = search needs
-
 returns-2 : tie.Need-returns-2
 returns-2 c =
     let sold = c .before in
@@ -34,4 +31,4 @@ returns-2 c =
     (sold .if1 .left) _ (omega arith)
 
 pub net-at-spec : {M : Type 1} → statement M
-net-at-spec = tie.close (tie.spec stored-net-requires returns minus-u32-requires returns-2)
+net-at-spec = tie.close (tie.spec stored-net-requires returns (λ c κs. search needs) returns-2)

@@ -12,9 +12,6 @@ use Rattle.book.proofs.readings.exposure_in.Tie as tie
 counts-requires : tie.Need-counts-requires
 counts-requires c κs = omega (arith, book-length (c .before .args .book .now) (c .before .pre))
 
-outside-requires : tie.Need-outside-requires
-outside-requires c κs = search needs
-
 returns : tie.Need-returns
 returns c =
     let tested = c .before in
@@ -39,4 +36,4 @@ returns-2 c =
 pub exposure-in-spec : {M : Type 1} → statement M
 exposure-in-spec =
     tie.close
-    (tie.spec counts-requires outside-requires returns exposure-with-requires returns-2)
+    (tie.spec counts-requires (λ c κs. search needs) returns exposure-with-requires returns-2)

@@ -11,9 +11,6 @@ use Rattle.book.proofs.readings.net_in.Tie as tie
 counts-requires : tie.Need-counts-requires
 counts-requires c κs = omega (arith, book-length (c .before .args .book .now) (c .before .pre))
 
-outside-requires : tie.Need-outside-requires
-outside-requires c κs = search needs
-
 returns : tie.Need-returns
 returns c =
     let tested = c .before in
@@ -21,9 +18,6 @@ returns c =
     let start = counted .before .before in
     sym (net-no-account (start .args .book .now) (start .pre) (counted .counts .result) (counted .counts .ensures) (start .args .account) (start .args .hour)
     (sym (tested .outside .ensures) ∙ c .if1 .taken))
-
-outside-requires-2 : tie.Need-outside-requires-2
-outside-requires-2 c κs = search needs
 
 returns-2 : tie.Need-returns-2
 returns-2 c =
@@ -47,9 +41,6 @@ stored-net-requires c κs =
           (sym (tested .outside .ensures) ∙ else1 .if1 .left) (sym (tested2 .outside2 .ensures) ∙ c .if2 .left),
     )
 
-position-of-requires : tie.Need-position-of-requires
-position-of-requires c κs = search needs
-
 returns-3 : tie.Need-returns-3
 returns-3 c =
     let read = c .before in
@@ -68,10 +59,10 @@ net-in-spec =
     tie.close
     (tie.spec
     counts-requires
-    outside-requires
+    (λ c κs. search needs)
     returns
-    outside-requires-2
+    (λ c κs. search needs)
     returns-2
     stored-net-requires
-    position-of-requires
+    (λ c κs. search needs)
     returns-3)

@@ -12,11 +12,8 @@ use Rattle.book.proofs.readings.position_of.Tie as tie
 returns : tie.Need-returns
 returns c = rw (lt-ltb (c .before .args .stored) 2147483648 (c .if1 .taken))
 
-minus-u32-requires : tie.Need-minus-u32-requires
-minus-u32-requires c κs = search needs
-
 returns-2 : tie.Need-returns-2
 returns-2 c = rw (le-ltb (c .before .before .args .stored) 2147483648 (c .before .if1 .left)) (ap (λ (n : ℕ). Short (kwh n)) (omega arith))
 
 pub position-of-spec : {M : Type 1} → statement M
-position-of-spec = tie.close (tie.spec returns minus-u32-requires returns-2)
+position-of-spec = tie.close (tie.spec returns (λ c κs. search needs) returns-2)

@@ -6,9 +6,6 @@ use borrow.Author.Needs.{needs}
 use Rattle.book.proofs.waits.account_hour.Statement.{statement}
 use Rattle.book.proofs.waits.account_hour.Tie as tie
 
-net-at-requires : tie.Need-net-at-requires
-net-at-requires c κs = search needs
-
 wait-at-requires : tie.Need-wait-at-requires
 wait-at-requires c κs =
     let pre = c .before .before .before .pre in
@@ -27,4 +24,4 @@ returns c =
     rw (c .before .before .net-at .ensures, sales, purchases)
 
 pub account-hour-spec : {M : Type 1} → statement M
-account-hour-spec = tie.close (tie.spec net-at-requires wait-at-requires wait-at-requires-2 returns)
+account-hour-spec = tie.close (tie.spec (λ c κs. search needs) wait-at-requires wait-at-requires-2 returns)

@@ -24,9 +24,6 @@ returns c =
     let proposer = c .before .get-u8 .ensures ∙ stands .0 in
     (added-of-others _ _ _ _ proposer (c .if1 .taken), others-unlike _ _ (start .args .counterparty) (start .args .code) _ proposer (c .if1 .taken))
 
-add-get-u8 : tie.Need-add-get-u8
-add-get-u8 c = search needs
-
 get-u8-requires-2 : tie.Need-get-u8-requires-2
 get-u8-requires-2 c κs =
     let place = c .before .before in
@@ -58,9 +55,6 @@ add-waiting-requires c κs =
     let tabled = numbered-tabled _ (pre .1) n (pre .2) in
     ((pre .0 .0, λ k l. rw same (omega (arith, pre .0 .1 k l, tabled .quantity-high))), rw same tabled, rw same (sound .side-low), rw same (sound .side-high))
 
-same-length : tie.Need-same-length
-same-length c = search needs
-
 returns-3 : tie.Need-returns-3
 returns-3 c =
     let taken = c .before .before .before .before in
@@ -87,10 +81,10 @@ add-own-spec =
     row-offset-requires
     get-u8-requires
     returns
-    add-get-u8
+    (λ c. search needs)
     get-u8-requires-2
     returns-2
     row-at-requires
     add-waiting-requires
-    same-length
+    (λ c. search needs)
     returns-3)

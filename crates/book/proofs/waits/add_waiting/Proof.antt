@@ -4,24 +4,9 @@ use borrow.Author.Needs.{needs}
 use Rattle.book.proofs.waits.add_waiting.Statement.{statement}
 use Rattle.book.proofs.waits.add_waiting.Tie as tie
 
-wait-cell-requires : tie.Need-wait-cell-requires
-wait-cell-requires c κs = search needs
-
-sub-n : tie.Need-sub-n
-sub-n c = search needs
-
-cast-n : tie.Need-cast-n
-cast-n c = search needs
-
-add-n : tie.Need-add-n
-add-n c = search needs
-
 add-range-requires : tie.Need-add-range-requires
 add-range-requires c κs =
     (search needs, λ k l. c .before .before .before .before .before .pre .0 .1 k (omega arith))
-
-same-length : tie.Need-same-length
-same-length c = search needs
 
 returns : tie.Need-returns
 returns c = rw (← c .before .before .before .before .before .before .wait-cell .ensures) (c .before .before .add-range .ensures)
@@ -29,4 +14,4 @@ returns c = rw (← c .before .before .before .before .before .before .wait-cell
 pub add-waiting-spec : {M : Type 1} → statement M
 add-waiting-spec =
     tie.close
-    (tie.spec wait-cell-requires sub-n cast-n add-n add-range-requires same-length returns)
+    (tie.spec (λ c κs. search needs) (λ c. search needs) (λ c. search needs) (λ c. search needs) add-range-requires (λ c. search needs) returns)

@@ -29,9 +29,6 @@ Inv-loop table₀ book account counterparty code n found₀ number₀ table foun
 abbrev μ-loop : tie.MeasureT-loop
 μ-loop table₀ book account counterparty code n found₀ number₀ table found number = n + 1 - number
 
-row-count-requires : tie.Need-row-count-requires Inv-loop μ-loop
-row-count-requires c κs = search needs
-
 loop-holds : tie.Need-loop-holds Inv-loop μ-loop
 loop-holds c =
     let start = c .before .before .before in
@@ -42,12 +39,6 @@ add-own-requires c κs =
     let l = c .before .before .loop in
     let start = c .before .before .before .before .before .before in
     ((l .inv .4, λ k low. omega (arith, l .inv .5 .bounded k)), start .pre .1, (l .inv .2, omega (arith, l .inv .0)))
-
-add-number : tie.Need-add-number Inv-loop μ-loop
-add-number c = search needs
-
-loop-less : tie.Need-loop-less Inv-loop μ-loop
-loop-less c = search needs
 
 loop-again : tie.Need-loop-again Inv-loop μ-loop
 loop-again c =
@@ -77,11 +68,11 @@ fill-waits-spec =
     (tie.spec
     Inv-loop
     μ-loop
-    row-count-requires
+    (λ c κs. search needs)
     loop-holds
     add-own-requires
-    add-number
-    loop-less
+    (λ c. search needs)
+    (λ c. search needs)
     loop-again
     same-length
     returns)

@@ -8,16 +8,10 @@ use Rattle.book.proofs.worth.account_entries.Tie as tie
 counts-requires : tie.Need-counts-requires
 counts-requires c κs = omega (arith, book-length _ (c .before .pre))
 
-accounts-offset-requires : tie.Need-accounts-offset-requires
-accounts-offset-requires c κs = search needs
-
-account-entry-requires : tie.Need-account-entry-requires
-account-entry-requires c κs = search needs
-
 returns : tie.Need-returns
 returns c =
     rw (c .before .accounts-offset .ensures, c .account-entry .ensures .0, c .before .before .counts .ensures)
 
 pub account-entries-spec : {M : Type 1} → statement M
 account-entries-spec =
-    tie.close (tie.spec counts-requires accounts-offset-requires account-entry-requires returns)
+    tie.close (tie.spec counts-requires (λ c κs. search needs) (λ c κs. search needs) returns)

@@ -55,21 +55,12 @@ price-requires : tie.Need-price-requires Inv-loop μ-loop
 price-requires c κs =
     let l = c .before .before .before .loop in (c .before .before .before .before .before .before .pre .0, (l .inv .2, omega (arith, l .inv .0)))
 
-at-requires : tie.Need-at-requires Inv-loop μ-loop
-at-requires c κs = search needs
-
 plus-requires : tie.Need-plus-requires Inv-loop μ-loop
 plus-requires c κs =
     let l = c .before .before .before .before .before .loop in
     let price = c .before .price in
     let below = c .before .before .short-at in
     omega (arith, l .inv .4, c .at .ensures, short-most (below .result .0) (price .result .0) (below .ensures .1) (price .ensures .1))
-
-add-hour : tie.Need-add-hour Inv-loop μ-loop
-add-hour c = search needs
-
-loop-less : tie.Need-loop-less Inv-loop μ-loop
-loop-less c = search needs
 
 loop-again : tie.Need-loop-again Inv-loop μ-loop
 loop-again c =
@@ -100,9 +91,9 @@ account-short-spec =
     loop-holds
     short-at-requires
     price-requires
-    at-requires
+    (λ c κs. search needs)
     plus-requires
-    add-hour
-    loop-less
+    (λ c. search needs)
+    (λ c. search needs)
     loop-again
     returns)

@@ -7,12 +7,6 @@ use Rattle.rules.proofs.Basics.Searches.{each-at}
 use Rattle.book.proofs.worth.added_sale.Statement.{statement}
 use Rattle.book.proofs.worth.added_sale.Tie as tie
 
-enum-told : tie.Need-enum-told
-enum-told c = search needs
-
-enum-known-added : tie.Need-enum-known-added
-enum-known-added c = search needs
-
 sale-of-requires : tie.Need-sale-of-requires
 sale-of-requires c κs =
     let pre = c .before .before .before .before .before .pre in
@@ -29,4 +23,4 @@ returns-2 c =
 
 pub added-sale-spec : {M : Type 1} → statement M
 added-sale-spec =
-    tie.close (tie.spec enum-told enum-known-added sale-of-requires returns returns-2)
+    tie.close (tie.spec (λ c. search needs) (λ c. search needs) sale-of-requires returns returns-2)

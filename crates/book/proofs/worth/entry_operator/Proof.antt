@@ -7,9 +7,6 @@ use borrow.Author.Needs.{needs}
 use Rattle.book.proofs.worth.entry_operator.Statement.{statement}
 use Rattle.book.proofs.worth.entry_operator.Tie as tie
 
-sub-get-u8 : tie.Need-sub-get-u8
-sub-get-u8 c = search needs
-
 mul-get-u8 : tie.Need-mul-get-u8
 mul-get-u8 c =
     let start = c .before .before in
@@ -35,4 +32,4 @@ returns c =
     c .get-u8 .ensures ∙ entry-operator-is _ (pre .0) (start .args .number) (start .args .entries) (pre .1) (pre .2)
 
 pub entry-operator-spec : {M : Type 1} → statement M
-entry-operator-spec = tie.close (tie.spec sub-get-u8 mul-get-u8 add-get-u8 get-u8-requires returns)
+entry-operator-spec = tie.close (tie.spec (λ c. search needs) mul-get-u8 add-get-u8 get-u8-requires returns)

@@ -24,9 +24,6 @@ abbrev μ-loop : tie.MeasureT-loop
 counts-requires : tie.Need-counts-requires Inv-loop μ-loop
 counts-requires c κs = omega (arith, book-length _ (c .before .before .pre .1))
 
-slice-write-sums : tie.Need-slice-write-sums Inv-loop μ-loop
-slice-write-sums c = search needs
-
 loop-holds : tie.Need-loop-holds Inv-loop μ-loop
 loop-holds c =
     let start = c .before .before .before in
@@ -37,21 +34,12 @@ price-requires : tie.Need-price-requires Inv-loop μ-loop
 price-requires c κs =
     let l = c .before .before .loop in (c .before .before .before .before .before .before .pre .1, (l .inv .2, omega (arith, l .inv .0)))
 
-cast-sums : tie.Need-cast-sums Inv-loop μ-loop
-cast-sums c = search needs
-
-sub-sums : tie.Need-sub-sums Inv-loop μ-loop
-sub-sums c = search needs
-
 mul-sums : tie.Need-mul-sums Inv-loop μ-loop
 mul-sums c = omega arith
 
 slice-read-sums : tie.Need-slice-read-sums Inv-loop μ-loop
 slice-read-sums c =
     let l = c .before .before .before .before .loop in omega (arith, l .inv .4 .whole)
-
-cast-sums-2 : tie.Need-cast-sums-2 Inv-loop μ-loop
-cast-sums-2 c = search needs
 
 add-sums : tie.Need-add-sums Inv-loop μ-loop
 add-sums c =
@@ -61,21 +49,12 @@ add-sums c =
     let most = prices-most (bookIn (start .args .book .now) .setup) (cheap-in _ (start .pre .1)) (l .hour - 1) in
     omega (arith, l .inv .4 .sum (l .hour - 1) (omega arith), most, c .before .before .price .ensures .1)
 
-cast-sums-3 : tie.Need-cast-sums-3 Inv-loop μ-loop
-cast-sums-3 c = search needs
-
 mul-sums-2 : tie.Need-mul-sums-2 Inv-loop μ-loop
 mul-sums-2 c = omega arith
 
 slice-write-sums-2 : tie.Need-slice-write-sums-2 Inv-loop μ-loop
 slice-write-sums-2 c =
     let l = c .before .before .before .before .before .loop in omega (arith, l .inv .4 .whole)
-
-add-hour : tie.Need-add-hour Inv-loop μ-loop
-add-hour c = search needs
-
-loop-less : tie.Need-loop-less Inv-loop μ-loop
-loop-less c = search needs
 
 loop-again : tie.Need-loop-again Inv-loop μ-loop
 loop-again c =
@@ -103,20 +82,20 @@ fill-prices-spec =
     Inv-loop
     μ-loop
     counts-requires
-    slice-write-sums
+    (λ c. search needs)
     loop-holds
     price-requires
-    cast-sums
-    sub-sums
+    (λ c. search needs)
+    (λ c. search needs)
     mul-sums
     slice-read-sums
-    cast-sums-2
+    (λ c. search needs)
     add-sums
-    cast-sums-3
+    (λ c. search needs)
     mul-sums-2
     slice-write-sums-2
-    add-hour
-    loop-less
+    (λ c. search needs)
+    (λ c. search needs)
     loop-again
     same-length
     returns)

@@ -26,9 +26,6 @@ Inv-loop book sums entries operator rows sum₀ number₀ sum number =
 abbrev μ-loop : tie.MeasureT-loop
 μ-loop book sums entries operator rows sum₀ number₀ sum number = rows + 1 - number
 
-row-count-requires : tie.Need-row-count-requires Inv-loop μ-loop
-row-count-requires c κs = search needs
-
 loop-holds : tie.Need-loop-holds Inv-loop μ-loop
 loop-holds c = (c .row-count .ensures .0, c .row-count .ensures .1, omega arith, omega arith, omega arith, zero-add _)
 
@@ -40,12 +37,6 @@ row-sale-requires c κs =
 
 plus-requires : tie.Need-plus-requires Inv-loop μ-loop
 plus-requires c κs = omega arith
-
-add-number : tie.Need-add-number Inv-loop μ-loop
-add-number c = search needs
-
-loop-less : tie.Need-loop-less Inv-loop μ-loop
-loop-less c = search needs
 
 loop-again : tie.Need-loop-again Inv-loop μ-loop
 loop-again c =
@@ -69,11 +60,11 @@ sales-worth-spec =
     (tie.spec
     Inv-loop
     μ-loop
-    row-count-requires
+    (λ c κs. search needs)
     loop-holds
     row-sale-requires
     plus-requires
-    add-number
-    loop-less
+    (λ c. search needs)
+    (λ c. search needs)
     loop-again
     returns)

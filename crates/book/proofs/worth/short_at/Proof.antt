@@ -7,18 +7,6 @@ use Rattle.book.proofs.ShortLaws.{net-small, short-alone, short-one}
 use Rattle.book.proofs.worth.short_at.Statement.{statement}
 use Rattle.book.proofs.worth.short_at.Tie as tie
 
-net-at-requires : tie.Need-net-at-requires
-net-at-requires c κs = search needs
-
-enum-told : tie.Need-enum-told
-enum-told c = search needs
-
-short-requires : tie.Need-short-requires
-short-requires c κs = search needs
-
-enum-known-added : tie.Need-enum-known-added
-enum-known-added c = search needs
-
 short-with-requires : tie.Need-short-with-requires
 short-with-requires c κs =
     let read = c .before .before .before in
@@ -46,10 +34,10 @@ pub short-at-spec : {M : Type 1} → statement M
 short-at-spec =
     tie.close
     (tie.spec
-    net-at-requires
-    enum-told
-    short-requires
-    enum-known-added
+    (λ c κs. search needs)
+    (λ c. search needs)
+    (λ c κs. search needs)
+    (λ c. search needs)
     short-with-requires
     returns
     returns-2)

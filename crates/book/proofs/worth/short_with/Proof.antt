@@ -8,22 +8,13 @@ use Rattle.book.proofs.ShortLaws.{short-still}
 use Rattle.book.proofs.worth.short_with.Statement.{statement}
 use Rattle.book.proofs.worth.short_with.Tie as tie
 
-after-trade-requires : tie.Need-after-trade-requires
-after-trade-requires c κs = search needs
-
-short-requires : tie.Need-short-requires
-short-requires c κs = search needs
-
 returns : tie.Need-returns
 unfolding shortAfter
 returns c = c .short .ensures ∙ ap (λ (x : AccountHour). x .net .sold .0 - x .net .bought .0) (c .before .after-trade .ensures)
-
-short-requires-2 : tie.Need-short-requires-2
-short-requires-2 c κs = search needs
 
 returns-2 : tie.Need-returns-2
 returns-2 c = short-still _ _ _ _ _ (c .before .if1 .left) (c .short2 .ensures)
 
 pub short-with-spec : {M : Type 1} → statement M
 short-with-spec =
-    tie.close (tie.spec after-trade-requires short-requires returns short-requires-2 returns-2)
+    tie.close (tie.spec (λ c κs. search needs) (λ c κs. search needs) returns (λ c κs. search needs) returns-2)

@@ -54,12 +54,6 @@ short-share-requires c κs =
 plus-requires : tie.Need-plus-requires Inv-loop μ-loop
 plus-requires c κs = omega arith
 
-add-account : tie.Need-add-account Inv-loop μ-loop
-add-account c = search needs
-
-loop-less : tie.Need-loop-less Inv-loop μ-loop
-loop-less c = search needs
-
 loop-again : tie.Need-loop-again Inv-loop μ-loop
 loop-again c =
     let l = c .before .before .before .before .loop in
@@ -87,7 +81,7 @@ short-worth-spec =
     loop-holds
     short-share-requires
     plus-requires
-    add-account
-    loop-less
+    (λ c. search needs)
+    (λ c. search needs)
     loop-again
     returns)

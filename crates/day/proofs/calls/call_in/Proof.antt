@@ -19,27 +19,6 @@ says c = sym (c .before .before .read .ensures) ∙ c .said2 .given .1
 bytes : (c : tie.After-said2) → Bytes (now (c .before .before .before .before .before .before .before .before .args .bytes))
 bytes c = bytes-known _ (c .before .before .before .before .before .before .before .shared-slice-known .given)
 
-read-requires : tie.Need-read-requires
-read-requires c κs = search needs
-
-enum-known-said : tie.Need-enum-known-said
-enum-known-said c = search needs
-
-enum-known-said-2 : tie.Need-enum-known-said-2
-enum-known-said-2 c = search needs
-
-settle-requires : tie.Need-settle-requires
-settle-requires c κs = search needs
-
-same-length : tie.Need-same-length
-same-length c = search needs
-
-same-length-2 : tie.Need-same-length-2
-same-length-2 c = search needs
-
-same-length-3 : tie.Need-same-length-3
-same-length-3 c = search needs
-
 returns : tie.Need-returns
 returns c =
     let settled = c .before .before .before .before .before .before in
@@ -57,9 +36,6 @@ returns-2 c =
     let looked = c .before .before .before in
     unread-given _ _ (looked .before .before .before .before .before .before .pre) _ (sym (looked .read .ensures) ∙ c .before .said .given .1)
 
-same-length-4 : tie.Need-same-length-4
-same-length-4 c = search needs
-
 returns-3 : tie.Need-returns-3
 returns-3 c =
     let said = c .before .before .before .before .before .before .before in
@@ -69,15 +45,15 @@ pub call-in-spec : {M : Type 1} → statement M
 call-in-spec =
     tie.close
     (tie.spec
-    read-requires
-    enum-known-said
-    enum-known-said-2
-    settle-requires
-    same-length
-    same-length-2
-    same-length-3
+    (λ c κs. search needs)
+    (λ c. search needs)
+    (λ c. search needs)
+    (λ c κs. search needs)
+    (λ c. search needs)
+    (λ c. search needs)
+    (λ c. search needs)
     returns
     answer-requires
     returns-2
-    same-length-4
+    (λ c. search needs)
     returns-3)

@@ -5,9 +5,6 @@ use Rattle.book.specs.Answers.{exposureAnswer}
 use Rattle.day.proofs.interface.exposure.Statement.{statement}
 use Rattle.day.proofs.interface.exposure.Tie as tie
 
-is-book-requires : tie.Need-is-book-requires
-is-book-requires c κs = search needs
-
 exposure-in-requires : tie.Need-exposure-in-requires
 exposure-in-requires c κs = sym (c .before .is-book .ensures) ∙ c .if1 .taken
 
@@ -20,4 +17,4 @@ unfolding exposureAnswer
 returns-2 c = rw (sym (c .before .is-book .ensures) ∙ c .if1 .left)
 
 pub exposure-spec : {M : Type 1} → statement M
-exposure-spec = tie.close (tie.spec is-book-requires exposure-in-requires returns returns-2)
+exposure-spec = tie.close (tie.spec (λ c κs. search needs) exposure-in-requires returns returns-2)

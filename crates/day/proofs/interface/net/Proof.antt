@@ -5,9 +5,6 @@ use Rattle.book.specs.Answers.{netAnswer}
 use Rattle.day.proofs.interface.net.Statement.{statement}
 use Rattle.day.proofs.interface.net.Tie as tie
 
-is-book-requires : tie.Need-is-book-requires
-is-book-requires c κs = search needs
-
 net-in-requires : tie.Need-net-in-requires
 net-in-requires c κs = sym (c .before .is-book .ensures) ∙ c .if1 .taken
 
@@ -20,4 +17,4 @@ unfolding netAnswer
 returns-2 c = rw (sym (c .before .is-book .ensures) ∙ c .if1 .left)
 
 pub net-spec : {M : Type 1} → statement M
-net-spec = tie.close (tie.spec is-book-requires net-in-requires returns returns-2)
+net-spec = tie.close (tie.spec (λ c κs. search needs) net-in-requires returns returns-2)

@@ -22,31 +22,16 @@ in-range c =
 counts-requires : tie.Need-counts-requires
 counts-requires c κs = let n = book-length _ (c .before .before .pre .0) in omega arith
 
-check-ranges-requires : tie.Need-check-ranges-requires
-check-ranges-requires c κs = search needs
-
-enum-known-r : tie.Need-enum-known-r
-enum-known-r c = search needs
-
-same-length : tie.Need-same-length
-same-length c = search needs
-
 returns : tie.Need-returns
 returns c =
     let pre = c .before .before .before .before .before .before .before .pre in
     let checks = c .before .before .before in
     refused-saying _ _ (pre .0) (pre .1 .0) (pre .1 .1) _ (ranges-found _ (pre .0) _ _ _ (some _) (checks .before .counts .ensures) (checks .check-ranges .ensures) (c .before .r .given .1))
 
-enum-told : tie.Need-enum-told
-enum-told c = search needs
-
 by-kind-requires : tie.Need-by-kind-requires
 by-kind-requires c κs =
     let pre = c .before .before .before .before .before .before .before .pre in
     (pre .0, (pre .1 .0, pre .1 .1, in-range-ready _ _ (pre .1 .0) (pre .1 .1) (pre .1 .2) (in-range (c .before))))
-
-same-length-2 : tie.Need-same-length-2
-same-length-2 c = search needs
 
 returns-2 : tie.Need-returns-2
 returns-2 c =
@@ -59,11 +44,11 @@ answer-spec =
     tie.close
     (tie.spec
     counts-requires
-    check-ranges-requires
-    enum-known-r
-    same-length
+    (λ c κs. search needs)
+    (λ c. search needs)
+    (λ c. search needs)
     returns
-    enum-told
+    (λ c. search needs)
     by-kind-requires
-    same-length-2
+    (λ c. search needs)
     returns-2)

@@ -11,27 +11,15 @@ use borrow.Author.Needs.{needs}
 use Rattle.registration.proofs.confirm.confirm.Statement.{statement}
 use Rattle.registration.proofs.confirm.confirm.Tie as tie
 
-confirmed-number-requires : tie.Need-confirmed-number-requires
-confirmed-number-requires c κs = search needs
-
 confirm-fault-requires : tie.Need-confirm-fault-requires
 confirm-fault-requires c κs =
     let number = c .before in (number .before .before .before .pre .0, number .confirmed-number .ensures .0)
-
-enum-known-r : tie.Need-enum-known-r
-enum-known-r c = search needs
-
-same-length : tie.Need-same-length
-same-length c = search needs
 
 returns : tie.Need-returns
 returns c =
     let fault = c .before .before .before in
     let pre = fault .before .before .before .before .before .pre in
     refused-answered confirm _ _ (pre .0) _ (checked-same _ (some _) (sym (fault .confirm-fault .ensures) ∙ c .before .r .given .1))
-
-enum-told : tie.Need-enum-told
-enum-told c = search needs
 
 numbered-row-requires : tie.Need-numbered-row-requires
 numbered-row-requires c κs =
@@ -55,9 +43,6 @@ put-trade-requires c κs =
     let here = row .numbered-row .ensures in
     (book-length _ (pre .0), within .0, omega (arith, within .1, row-count-high _ (pre .0)), accepted-tabled _ _ _ (pre .0) free same _ here, accepted-energy _ _ _ (pre .0) free same _ here)
 
-same-length-2 : tie.Need-same-length-2
-same-length-2 c = search needs
-
 returns-2 : tie.Need-returns-2
 returns-2 c =
     let trade = c .before .before in
@@ -73,13 +58,13 @@ pub confirm-spec : {M : Type 1} → statement M
 confirm-spec =
     tie.close
     (tie.spec
-    confirmed-number-requires
+    (λ c κs. search needs)
     confirm-fault-requires
-    enum-known-r
-    same-length
+    (λ c. search needs)
+    (λ c. search needs)
     returns
-    enum-told
+    (λ c. search needs)
     numbered-row-requires
     put-trade-requires
-    same-length-2
+    (λ c. search needs)
     returns-2)

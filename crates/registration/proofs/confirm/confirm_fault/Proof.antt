@@ -10,9 +10,6 @@ use borrow.Author.Needs.{needs}
 use Rattle.registration.proofs.confirm.confirm_fault.Statement.{statement}
 use Rattle.registration.proofs.confirm.confirm_fault.Tie as tie
 
-phase-requires : tie.Need-phase-requires
-phase-requires c κs = search needs
-
 returns : tie.Need-returns
 returns c = ap checked (sym (in-wrong-phase _ _ confirm (λ e. c .if1 .taken (c .before .phase .ensures ∙ e))))
 
@@ -28,9 +25,6 @@ numbered-row-requires c κs =
     let pre = start .pre in
     (pre .0, (omega arith, omega (arith, pre .1, confirmed-high (bookIn (start .args .book .now)) (start .args .request))))
 
-is-mirrored-requires : tie.Need-is-mirrored-requires
-is-mirrored-requires c κs = search needs
-
 margin-or-exposure-fault-requires : tie.Need-margin-or-exposure-fault-requires
 margin-or-exposure-fault-requires c κs =
     let row = c .before .before in
@@ -38,9 +32,6 @@ margin-or-exposure-fault-requires c κs =
     let pre = phase .before .before .pre in
     let first = sym (phase .phase .ensures) ∙ row .before .before .if1 .left in
     (pre .0, names-its-terms _ _ _ first (pre .1) _ (row .before .if2 .left) (row .numbered-row .ensures) (sym (c .before .is-mirrored .ensures) ∙ c .if3 .taken))
-
-returns-3 : tie.Need-returns-3
-returns-3 c = search needs
 
 returns-4 : tie.Need-returns-4
 returns-4 c =
@@ -54,11 +45,11 @@ pub confirm-fault-spec : {M : Type 1} → statement M
 confirm-fault-spec =
     tie.close
     (tie.spec
-    phase-requires
+    (λ c κs. search needs)
     returns
     returns-2
     numbered-row-requires
-    is-mirrored-requires
+    (λ c κs. search needs)
     margin-or-exposure-fault-requires
-    returns-3
+    (λ c. search needs)
     returns-4)

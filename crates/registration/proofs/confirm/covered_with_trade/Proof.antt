@@ -12,16 +12,10 @@ returns c =
     let pre = c .before .before .before .pre in
     sale-covered _ _ (pre .0 .0) (pre .1 .0) _ (pre .0 .1) (c .if1 .taken)
 
-operator-of-requires : tie.Need-operator-of-requires
-operator-of-requires c κs = search needs
-
 exposure-with-requires : tie.Need-exposure-with-requires
 exposure-with-requires c κs =
     let pre = c .before .before .before .before .pre in
     (pre .0 .0, cons (trade-in-range _ _ (pre .0 .0) (pre .1 .0) _ (pre .1 .1)) nil)
-
-covered-in-force-requires : tie.Need-covered-in-force-requires
-covered-in-force-requires c κs = search needs
 
 returns-2 : tie.Need-returns-2
 returns-2 c =
@@ -35,7 +29,7 @@ covered-with-trade-spec =
     tie.close
     (tie.spec
     returns
-    operator-of-requires
+    (λ c κs. search needs)
     exposure-with-requires
-    covered-in-force-requires
+    (λ c κs. search needs)
     returns-2)

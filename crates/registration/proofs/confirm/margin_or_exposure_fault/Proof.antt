@@ -6,16 +6,10 @@ use borrow.Author.Needs.{needs}
 use Rattle.registration.proofs.confirm.margin_or_exposure_fault.Statement.{statement}
 use Rattle.registration.proofs.confirm.margin_or_exposure_fault.Tie as tie
 
-confirmed-row-requires : tie.Need-confirmed-row-requires
-confirmed-row-requires c κs = search needs
-
 broken-hour-requires : tie.Need-broken-hour-requires
 broken-hour-requires c κs =
     let pre = c .before .before .pre in
     (pre .0, account-trade _ _ (pre .0) (named-waits _ _ _ (pre .0) (pre .1)) _ (c .confirmed-row .ensures) _ (caller-in-book _ _ _ (pre .0) (pre .1)))
-
-enum-known-hour : tie.Need-enum-known-hour
-enum-known-hour c = search needs
 
 returns : tie.Need-returns
 returns c =
@@ -23,9 +17,6 @@ returns c =
     let trade = hour .before in
     let pre = trade .before .before .pre in
     ap checked (sym (trade-breaks _ _ _ (pre .0) (pre .1) _ (trade .confirmed-row .ensures) _ (sym (c .before .hour .given .1) ∙ hour .broken-hour .ensures)))
-
-enum-told : tie.Need-enum-told
-enum-told c = search needs
 
 covered-with-trade-requires : tie.Need-covered-with-trade-requires
 covered-with-trade-requires c κs =
@@ -55,11 +46,11 @@ pub margin-or-exposure-fault-spec : {M : Type 1} → statement M
 margin-or-exposure-fault-spec =
     tie.close
     (tie.spec
-    confirmed-row-requires
+    (λ c κs. search needs)
     broken-hour-requires
-    enum-known-hour
+    (λ c. search needs)
     returns
-    enum-told
+    (λ c. search needs)
     covered-with-trade-requires
     returns-2
     returns-3)

@@ -22,9 +22,6 @@ available-requires c κs =
     let high = maintenance-high _ (pre .0) (start .args .number) (pre .2) in
     (pre .1, omega arith)
 
-at-most-requires : tie.Need-at-most-requires
-at-most-requires c κs = search needs
-
 returns : tie.Need-returns
 returns c =
     let start = c .before .before .before .before in
@@ -35,4 +32,4 @@ returns c =
 
 pub covered-by-spec : {M : Type 1} → statement M
 covered-by-spec =
-    tie.close (tie.spec operator-requires available-requires at-most-requires returns)
+    tie.close (tie.spec operator-requires available-requires (λ c κs. search needs) returns)

@@ -4,14 +4,8 @@ use borrow.Author.Needs.{needs}
 use Rattle.registration.proofs.cover.covered_in_force.Statement.{statement}
 use Rattle.registration.proofs.cover.covered_in_force.Tie as tie
 
-guarantee-in-force-requires : tie.Need-guarantee-in-force-requires
-guarantee-in-force-requires c κs = search needs
-
-covered-by-requires : tie.Need-covered-by-requires
-covered-by-requires c κs = search needs
-
 returns : tie.Need-returns
 returns c = c .covered-by .ensures ∙ rw (c .before .guarantee-in-force .ensures .0)
 
 pub covered-in-force-spec : {M : Type 1} → statement M
-covered-in-force-spec = tie.close (tie.spec guarantee-in-force-requires covered-by-requires returns)
+covered-in-force-spec = tie.close (tie.spec (λ c κs. search needs) (λ c κs. search needs) returns)

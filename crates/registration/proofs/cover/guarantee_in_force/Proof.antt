@@ -8,15 +8,6 @@ use borrow.Author.Needs.{needs}
 use Rattle.registration.proofs.cover.guarantee_in_force.Statement.{statement}
 use Rattle.registration.proofs.cover.guarantee_in_force.Tie as tie
 
-sub-at : tie.Need-sub-at
-sub-at c = search needs
-
-mul-at : tie.Need-mul-at
-mul-at c = search needs
-
-add-at : tie.Need-add-at
-add-at c = search needs
-
 get-u64-requires : tie.Need-get-u64-requires
 get-u64-requires c κs = let n = book-length _ (c .before .pre .0) in omega arith
 
@@ -29,4 +20,4 @@ returns c =
     (ap cents read, omega (arith, read, stands .1))
 
 pub guarantee-in-force-spec : {M : Type 1} → statement M
-guarantee-in-force-spec = tie.close (tie.spec sub-at mul-at add-at get-u64-requires returns)
+guarantee-in-force-spec = tie.close (tie.spec (λ c. search needs) (λ c. search needs) (λ c. search needs) get-u64-requires returns)

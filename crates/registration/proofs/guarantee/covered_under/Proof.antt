@@ -6,9 +6,6 @@ use borrow.Author.Needs.{needs}
 use Rattle.registration.proofs.guarantee.covered_under.Statement.{statement}
 use Rattle.registration.proofs.guarantee.covered_under.Tie as tie
 
-guarantee-in-force-requires : tie.Need-guarantee-in-force-requires
-guarantee-in-force-requires c κs = search needs
-
 returns : tie.Need-returns
 returns c =
     let in-force = c .before .before .before in
@@ -21,9 +18,6 @@ exposure-with-requires c κs =
     let pre = c .before .before .before .before .before .pre in
     (pre .0, nil)
 
-covered-by-requires : tie.Need-covered-by-requires
-covered-by-requires c κs = search needs
-
 returns-2 : tie.Need-returns-2
 returns-2 c = c .covered-by .ensures ∙ rw (c .before .exposure-with .ensures .0)
 
@@ -31,8 +25,8 @@ pub covered-under-spec : {M : Type 1} → statement M
 covered-under-spec =
     tie.close
     (tie.spec
-    guarantee-in-force-requires
+    (λ c κs. search needs)
     returns
     exposure-with-requires
-    covered-by-requires
+    (λ c κs. search needs)
     returns-2)

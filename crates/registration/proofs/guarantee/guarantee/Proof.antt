@@ -11,26 +11,11 @@ use borrow.Author.Needs.{needs}
 use Rattle.registration.proofs.guarantee.guarantee.Statement.{statement}
 use Rattle.registration.proofs.guarantee.guarantee.Tie as tie
 
-guarantee-fault-requires : tie.Need-guarantee-fault-requires
-guarantee-fault-requires c κs = search needs
-
-enum-known-r : tie.Need-enum-known-r
-enum-known-r c = search needs
-
-same-length : tie.Need-same-length
-same-length c = search needs
-
 returns : tie.Need-returns
 returns c =
     let fault = c .before .before .before in
     refused-answered guarantee _ _ (fault .before .before .before .pre .0) _
     (checked-same _ (some _) (sym (fault .guarantee-fault .ensures) ∙ c .before .r .given .1))
-
-enum-told : tie.Need-enum-told
-enum-told c = search needs
-
-cast-put-u64 : tie.Need-cast-put-u64
-cast-put-u64 c = search needs
 
 sub-put-u64 : tie.Need-sub-put-u64
 sub-put-u64 c =
@@ -39,12 +24,6 @@ sub-put-u64 c =
     let low = ready-guarantee _ _ (pre .1) .0 .0 in
     omega arith
 
-mul-put-u64 : tie.Need-mul-put-u64
-mul-put-u64 c = search needs
-
-add-put-u64 : tie.Need-add-put-u64
-add-put-u64 c = search needs
-
 put-u64-requires : tie.Need-put-u64-requires
 put-u64-requires c κs =
     let clear = c .before .before .before in
@@ -52,9 +31,6 @@ put-u64-requires c κs =
     let n = book-length _ (pre .0) in
     let r = ready-guarantee _ _ (pre .1) in
     omega arith
-
-same-length-2 : tie.Need-same-length-2
-same-length-2 c = search needs
 
 returns-2 : tie.Need-returns-2
 returns-2 c =
@@ -68,15 +44,15 @@ pub guarantee-spec : {M : Type 1} → statement M
 guarantee-spec =
     tie.close
     (tie.spec
-    guarantee-fault-requires
-    enum-known-r
-    same-length
+    (λ c κs. search needs)
+    (λ c. search needs)
+    (λ c. search needs)
     returns
-    enum-told
-    cast-put-u64
+    (λ c. search needs)
+    (λ c. search needs)
     sub-put-u64
-    mul-put-u64
-    add-put-u64
+    (λ c. search needs)
+    (λ c. search needs)
     put-u64-requires
-    same-length-2
+    (λ c. search needs)
     returns-2)

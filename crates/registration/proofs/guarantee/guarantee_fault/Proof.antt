@@ -10,9 +10,6 @@ use borrow.Author.Needs.{needs}
 use Rattle.registration.proofs.guarantee.guarantee_fault.Statement.{statement}
 use Rattle.registration.proofs.guarantee.guarantee_fault.Tie as tie
 
-phase-requires : tie.Need-phase-requires
-phase-requires c κs = search needs
-
 returns : tie.Need-returns
 returns c = ap checked (sym (in-wrong-phase _ _ guarantee (λ e. c .if1 .taken (c .before .phase .ensures ∙ e))))
 
@@ -39,4 +36,4 @@ returns-3 c =
     ap checked (sym (too-little-guarantee-in-force _ _ (sym (phase .phase .ensures) ∙ c .before .before .if1 .left) (r .0 .0) (omega (arith, r .0 .1, all)) _ (c .before .covered-under .ensures) (c .if2 .left)))
 
 pub guarantee-fault-spec : {M : Type 1} → statement M
-guarantee-fault-spec = tie.close (tie.spec phase-requires returns covered-under-requires returns-2 returns-3)
+guarantee-fault-spec = tie.close (tie.spec (λ c κs. search needs) returns covered-under-requires returns-2 returns-3)

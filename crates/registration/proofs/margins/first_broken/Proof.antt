@@ -60,15 +60,6 @@ after-trade-requires c κs =
     let pre = step .before .before .before .before .pre in
     hour-room _ (pre .0 .0) _ _ _ _ _ (pre .1 .account-known) (omega (arith, pre .1 .first-low, l .inv .1), omega (arith, pre .1 .last-high)) (pre .0 .1) (pre .1 .quantity-high) (c .account-hour .ensures)
 
-keeps-margins-requires : tie.Need-keeps-margins-requires Inv-loop μ-loop
-keeps-margins-requires c κs = search needs
-
-add-hour : tie.Need-add-hour Inv-loop μ-loop
-add-hour c = search needs
-
-loop-less : tie.Need-loop-less Inv-loop μ-loop
-loop-less c = search needs
-
 loop-again : tie.Need-loop-again Inv-loop μ-loop
 loop-again c =
     let k = c .before in
@@ -103,9 +94,9 @@ first-broken-spec =
     loop-holds
     account-hour-requires
     after-trade-requires
-    keeps-margins-requires
-    add-hour
-    loop-less
+    (λ c κs. search needs)
+    (λ c. search needs)
+    (λ c. search needs)
     loop-again
     returns
     returns-2)

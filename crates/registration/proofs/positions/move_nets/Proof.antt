@@ -6,44 +6,17 @@ use borrow.Author.Needs.{needs}
 use Rattle.registration.proofs.positions.move_nets.Statement.{statement}
 use Rattle.registration.proofs.positions.move_nets.Tie as tie
 
-sub-n : tie.Need-sub-n
-sub-n c = search needs
-
-cast-n : tie.Need-cast-n
-cast-n c = search needs
-
-add-n : tie.Need-add-n
-add-n c = search needs
-
-seller-requires : tie.Need-seller-requires
-seller-requires c κs = search needs
-
-buyer-requires : tie.Need-buyer-requires
-buyer-requires c κs = search needs
-
 net-offset-requires : tie.Need-net-offset-requires
 net-offset-requires c κs =
     let sold = c .before .before in
     let start = sold .before .before .before .before in
     rw (sold .seller .ensures) (first-hour (start .args .r) _ (start .pre .1) (seller-in (start .args .r) (start .pre .1)))
 
-minus-u32-requires : tie.Need-minus-u32-requires
-minus-u32-requires c κs = search needs
-
-raise-nets-requires : tie.Need-raise-nets-requires
-raise-nets-requires c κs = search needs
-
 net-offset-requires-2 : tie.Need-net-offset-requires-2
 net-offset-requires-2 c κs =
     let bought = c .before .before .before .before .before .before .before in
     let start = bought .before .before .before .before .before in
     rw (bought .buyer .ensures) (first-hour (start .args .r) _ (start .pre .1) (buyer-in (start .args .r) (start .pre .1)))
-
-raise-nets-requires-2 : tie.Need-raise-nets-requires-2
-raise-nets-requires-2 c κs = search needs
-
-same-length : tie.Need-same-length
-same-length c = search needs
 
 returns : tie.Need-returns
 returns c =
@@ -60,15 +33,15 @@ pub move-nets-spec : {M : Type 1} → statement M
 move-nets-spec =
     tie.close
     (tie.spec
-    sub-n
-    cast-n
-    add-n
-    seller-requires
-    buyer-requires
+    (λ c. search needs)
+    (λ c. search needs)
+    (λ c. search needs)
+    (λ c κs. search needs)
+    (λ c κs. search needs)
     net-offset-requires
-    minus-u32-requires
-    raise-nets-requires
+    (λ c κs. search needs)
+    (λ c κs. search needs)
     net-offset-requires-2
-    raise-nets-requires-2
-    same-length
+    (λ c κs. search needs)
+    (λ c. search needs)
     returns)

@@ -6,18 +6,6 @@ use borrow.Author.Needs.{needs}
 use Rattle.registration.proofs.positions.raise_net.Statement.{statement}
 use Rattle.registration.proofs.positions.raise_net.Tie as tie
 
-get-u32-requires : tie.Need-get-u32-requires
-get-u32-requires c κs = search needs
-
-wrapping-add-u32-requires : tie.Need-wrapping-add-u32-requires
-wrapping-add-u32-requires c κs = search needs
-
-put-u32-requires : tie.Need-put-u32-requires
-put-u32-requires c κs = search needs
-
-same-length : tie.Need-same-length
-same-length c = search needs
-
 returns : tie.Need-returns
 returns c =
     let put = c .before .before in
@@ -28,4 +16,4 @@ returns c =
 pub raise-net-spec : {M : Type 1} → statement M
 raise-net-spec =
     tie.close
-    (tie.spec get-u32-requires wrapping-add-u32-requires put-u32-requires same-length returns)
+    (tie.spec (λ c κs. search needs) (λ c κs. search needs) (λ c κs. search needs) (λ c. search needs) returns)

@@ -12,14 +12,8 @@ returns c =
     let pre = c .before .before .before .pre in
     still-covered _ _ _ (pre .0 .0) (pre .0 .1) (purchase-exposes-none _ _ _ _ (pre .1 .1) (c .if1 .taken))
 
-operator-of-requires : tie.Need-operator-of-requires
-operator-of-requires c κs = search needs
-
 exposure-with-requires : tie.Need-exposure-with-requires
 exposure-with-requires c κs = let pre = c .before .before .before .before .pre in (pre .0 .0, cons (pre .1 .0) nil)
-
-covered-in-force-requires : tie.Need-covered-in-force-requires
-covered-in-force-requires c κs = search needs
 
 returns-2 : tie.Need-returns-2
 returns-2 c =
@@ -28,4 +22,4 @@ returns-2 c =
 pub covered-with-row-spec : {M : Type 1} → statement M
 covered-with-row-spec =
     tie.close
-    (tie.spec returns operator-of-requires exposure-with-requires covered-in-force-requires returns-2)
+    (tie.spec returns (λ c κs. search needs) exposure-with-requires (λ c κs. search needs) returns-2)

@@ -8,16 +8,10 @@ use borrow.Author.Needs.{needs}
 use Rattle.registration.proofs.register.margin_or_exposure_fault.Statement.{statement}
 use Rattle.registration.proofs.register.margin_or_exposure_fault.Tie as tie
 
-proposed-row-requires : tie.Need-proposed-row-requires
-proposed-row-requires c κs = search needs
-
 first-broken-requires : tie.Need-first-broken-requires
 first-broken-requires c κs =
     let pre = c .before .before .before .pre in
     (pre .0, rw (c .proposed-row .ensures) (sound-account-trade _ _ (ready-row _ _ (pre .1 .ready))))
-
-enum-known-hour : tie.Need-enum-known-hour
-enum-known-hour c = search needs
 
 returns : tie.Need-returns
 returns c =
@@ -26,9 +20,6 @@ returns c =
     let pre = trade .before .before .before .pre in
     ap checked (sym (margin-breaks _ _ (pre .1) _
     (found-hour _ _ _ _ _ _ (trade .proposed-row .ensures) (sym (c .before .hour .given .1) ∙ hour .first-broken .ensures))))
-
-enum-told : tie.Need-enum-told
-enum-told c = search needs
 
 covered-with-row-requires : tie.Need-covered-with-row-requires
 covered-with-row-requires c κs =
@@ -61,11 +52,11 @@ pub margin-or-exposure-fault-spec : {M : Type 1} → statement M
 margin-or-exposure-fault-spec =
     tie.close
     (tie.spec
-    proposed-row-requires
+    (λ c κs. search needs)
     first-broken-requires
-    enum-known-hour
+    (λ c. search needs)
     returns
-    enum-told
+    (λ c. search needs)
     covered-with-row-requires
     returns-2
     returns-3)

@@ -11,29 +11,11 @@ use borrow.Author.Needs.{needs}
 use Rattle.registration.proofs.register.register.Statement.{statement}
 use Rattle.registration.proofs.register.register.Tie as tie
 
-register-fault-requires : tie.Need-register-fault-requires
-register-fault-requires c κs = search needs
-
-enum-known-r : tie.Need-enum-known-r
-enum-known-r c = search needs
-
-same-length : tie.Need-same-length
-same-length c = search needs
-
 returns : tie.Need-returns
 returns c =
     let fault = c .before .before .before in
     refused-answered register _ _ (fault .before .before .before .pre .0) _
     (checked-same _ (some _) (sym (fault .register-fault .ensures) ∙ c .before .r .given .1))
-
-enum-told : tie.Need-enum-told
-enum-told c = search needs
-
-row-count-requires : tie.Need-row-count-requires
-row-count-requires c κs = search needs
-
-proposed-row-requires : tie.Need-proposed-row-requires
-proposed-row-requires c κs = search needs
 
 append-row-requires : tie.Need-append-row-requires
 append-row-requires c κs =
@@ -42,12 +24,6 @@ append-row-requires c κs =
     let pre = fault .before .before .before .pre in
     let few = few-rows _ _ (checked-same _ none (sym (fault .register-fault .ensures) ∙ told .enum-told .given .1)) in
     (book-length _ (pre .0), omega (arith, few, c .before .before .row-count .ensures .0), ready-fits _ _ _ (pre .0) (pre .1) (c .before .proposed-row .ensures))
-
-add-t15 : tie.Need-add-t15
-add-t15 c = search needs
-
-same-length-2 : tie.Need-same-length-2
-same-length-2 c = search needs
 
 returns-2 : tie.Need-returns-2
 returns-2 c =
@@ -64,14 +40,14 @@ pub register-spec : {M : Type 1} → statement M
 register-spec =
     tie.close
     (tie.spec
-    register-fault-requires
-    enum-known-r
-    same-length
+    (λ c κs. search needs)
+    (λ c. search needs)
+    (λ c. search needs)
     returns
-    enum-told
-    row-count-requires
-    proposed-row-requires
+    (λ c. search needs)
+    (λ c κs. search needs)
+    (λ c κs. search needs)
     append-row-requires
-    add-t15
-    same-length-2
+    (λ c. search needs)
+    (λ c. search needs)
     returns-2)

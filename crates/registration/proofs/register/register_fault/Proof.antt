@@ -9,32 +9,14 @@ use borrow.Author.Needs.{needs}
 use Rattle.registration.proofs.register.register_fault.Statement.{statement}
 use Rattle.registration.proofs.register.register_fault.Tie as tie
 
-phase-requires : tie.Need-phase-requires
-phase-requires c κs = search needs
-
 returns : tie.Need-returns
 returns c = ap checked (sym (in-wrong-phase _ _ register (λ e. c .if1 .taken (c .before .phase .ensures ∙ e))))
-
-no-waits-requires : tie.Need-no-waits-requires
-no-waits-requires c κs = search needs
-
-slice-aggregate-fill-waits : tie.Need-slice-aggregate-fill-waits
-slice-aggregate-fill-waits c = search needs
-
-fill-waits-requires : tie.Need-fill-waits-requires
-fill-waits-requires c κs = search needs
 
 returns-2 : tie.Need-returns-2
 returns-2 c =
     let filled = c .before .before in
     let phase = filled .before .before .before in
     ap checked (sym (twin-pending _ _ (sym (phase .before .phase .ensures) ∙ phase .if1 .left) (sym (filled .fill-waits .ensures .1) ∙ c .if2 .taken)))
-
-row-count-requires : tie.Need-row-count-requires
-row-count-requires c κs = search needs
-
-cast-if3 : tie.Need-cast-if3
-cast-if3 c = search needs
 
 returns-3 : tie.Need-returns-3
 returns-3 c =
@@ -43,9 +25,6 @@ returns-3 c =
     let phase = filled .before .before .before in
     let alone = sym (filled .fill-waits .ensures .1) ∙ none .if2 .left in
     ap checked (sym (no-number-left _ _ (sym (phase .before .phase .ensures) ∙ phase .if1 .left) alone (omega (arith, c .before .row-count .ensures .0))))
-
-slice-aggregate-margin-or-exposure-fault : tie.Need-slice-aggregate-margin-or-exposure-fault
-slice-aggregate-margin-or-exposure-fault c = search needs
 
 margin-or-exposure-fault-requires : tie.Need-margin-or-exposure-fault-requires
 margin-or-exposure-fault-requires c κs =
@@ -59,22 +38,19 @@ margin-or-exposure-fault-requires c κs =
     let room = count .row-count .ensures .0 in
     ((pre .0, filled .fill-waits .ensures .0), record { ready = pre .1; in-registration = first; no-twin = alone; has-room = omega arith })
 
-returns-4 : tie.Need-returns-4
-returns-4 c = search needs
-
 pub register-fault-spec : {M : Type 1} → statement M
 register-fault-spec =
     tie.close
     (tie.spec
-    phase-requires
+    (λ c κs. search needs)
     returns
-    no-waits-requires
-    slice-aggregate-fill-waits
-    fill-waits-requires
+    (λ c κs. search needs)
+    (λ c. search needs)
+    (λ c κs. search needs)
     returns-2
-    row-count-requires
-    cast-if3
+    (λ c κs. search needs)
+    (λ c. search needs)
     returns-3
-    slice-aggregate-margin-or-exposure-fault
+    (λ c. search needs)
     margin-or-exposure-fault-requires
-    returns-4)
+    (λ c. search needs))

@@ -4,29 +4,8 @@ use borrow.Author.Needs.{needs}
 use Rattle.registration.proofs.search.alike_at.Statement.{statement}
 use Rattle.registration.proofs.search.alike_at.Tie as tie
 
-add-get-u64 : tie.Need-add-get-u64
-add-get-u64 c = search needs
-
-get-u64-requires : tie.Need-get-u64-requires
-get-u64-requires c κs = search needs
-
 returns : tie.Need-returns
 returns c = another-code _ _ _ _ _ (c .before .get-u64 .ensures) (c .if1 .taken)
-
-add-get-u8 : tie.Need-add-get-u8
-add-get-u8 c = search needs
-
-get-u8-requires : tie.Need-get-u8-requires
-get-u8-requires c κs = search needs
-
-get-u8-requires-2 : tie.Need-get-u8-requires-2
-get-u8-requires-2 c κs = search needs
-
-add-get-u8-2 : tie.Need-add-get-u8-2
-add-get-u8-2 c = search needs
-
-get-u8-requires-3 : tie.Need-get-u8-requires-3
-get-u8-requires-3 c κs = search needs
 
 returns-2 : tie.Need-returns-2
 returns-2 c =
@@ -39,12 +18,12 @@ pub alike-at-spec : {M : Type 1} → statement M
 alike-at-spec =
     tie.close
     (tie.spec
-    add-get-u64
-    get-u64-requires
+    (λ c. search needs)
+    (λ c κs. search needs)
     returns
-    add-get-u8
-    get-u8-requires
-    get-u8-requires-2
-    add-get-u8-2
-    get-u8-requires-3
+    (λ c. search needs)
+    (λ c κs. search needs)
+    (λ c κs. search needs)
+    (λ c. search needs)
+    (λ c κs. search needs)
     returns-2)

@@ -26,27 +26,12 @@ abbrev μ-loop : tie.MeasureT-loop
 loop-holds : tie.Need-loop-holds Inv-loop μ-loop
 loop-holds c = (search needs, search needs, none-passed _ _ _ _ _ (omega arith))
 
-alike-at-requires : tie.Need-alike-at-requires Inv-loop μ-loop
-alike-at-requires c κs = search needs
-
-add-result : tie.Need-add-result Inv-loop μ-loop
-add-result c = search needs
-
 returns : tie.Need-returns Inv-loop μ-loop
 returns c =
     let l = c .before .before .before .loop in
     let start = c .before .before .before .before .before in
     number-here _ (start .args .book .now) (l .k) (start .args .n - l .passed) _ (l .passed) (l .inv .2) (start .args .n - l .passed - 1) (omega arith)
     (sym (c .before .alike-at .ensures) ∙ c .if1 .taken)
-
-add-k : tie.Need-add-k Inv-loop μ-loop
-add-k c = search needs
-
-add-passed : tie.Need-add-passed Inv-loop μ-loop
-add-passed c = search needs
-
-loop-less : tie.Need-loop-less Inv-loop μ-loop
-loop-less c = search needs
 
 loop-again : tie.Need-loop-again Inv-loop μ-loop
 loop-again c =
@@ -71,11 +56,11 @@ number-among-spec =
     Inv-loop
     μ-loop
     loop-holds
-    alike-at-requires
-    add-result
+    (λ c κs. search needs)
+    (λ c. search needs)
     returns
-    add-k
-    add-passed
-    loop-less
+    (λ c. search needs)
+    (λ c. search needs)
+    (λ c. search needs)
     loop-again
     returns-2)

@@ -17,15 +17,6 @@ use borrow.Author.Needs.{needs}
 use Rattle.registration.proofs.search.pending_number.Statement.{statement}
 use Rattle.registration.proofs.search.pending_number.Tie as tie
 
-row-count-requires : tie.Need-row-count-requires
-row-count-requires c κs = search needs
-
-cast-n : tie.Need-cast-n
-cast-n c = search needs
-
-add-number-among : tie.Need-add-number-among
-add-number-among c = search needs
-
 number-among-requires : tie.Need-number-among-requires
 number-among-requires c κs = rows-summable _ (c .before .before .pre) _ (c .row-count .ensures .0) .0
 
@@ -51,4 +42,4 @@ returns c = found c
 pub pending-number-spec : {M : Type 1} → statement M
 pending-number-spec =
     tie.close
-    (tie.spec row-count-requires cast-n add-number-among number-among-requires cast-result returns)
+    (tie.spec (λ c κs. search needs) (λ c. search needs) (λ c. search needs) number-among-requires cast-result returns)

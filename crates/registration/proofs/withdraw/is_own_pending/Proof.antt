@@ -7,17 +7,8 @@ use borrow.Author.Needs.{needs}
 use Rattle.registration.proofs.withdraw.is_own_pending.Statement.{statement}
 use Rattle.registration.proofs.withdraw.is_own_pending.Tie as tie
 
-row-count-requires : tie.Need-row-count-requires
-row-count-requires c κs = search needs
-
 returns : tie.Need-returns
 returns c = sym (no-such-number _ _ (omega arith))
-
-row-offset-requires : tie.Need-row-offset-requires
-row-offset-requires c κs = search needs
-
-add-get-u8 : tie.Need-add-get-u8
-add-get-u8 c = search needs
 
 get-u8-requires : tie.Need-get-u8-requires
 get-u8-requires c κs = let n = book-length _ (c .before .before .before .before .before .pre .0) in omega arith
@@ -35,10 +26,10 @@ pub is-own-pending-spec : {M : Type 1} → statement M
 is-own-pending-spec =
     tie.close
     (tie.spec
-    row-count-requires
+    (λ c κs. search needs)
     returns
-    row-offset-requires
-    add-get-u8
+    (λ c κs. search needs)
+    (λ c. search needs)
     get-u8-requires
     get-u8-requires-2
     returns-2)

@@ -15,26 +15,14 @@ use Rattle.registration.proofs.withdraw.withdraw.Tie as tie
 withdrawal-fault-requires : tie.Need-withdrawal-fault-requires
 withdrawal-fault-requires c κs = (c .before .before .pre .0, ready-number _ _ (c .before .before .pre .1) .0)
 
-enum-known-r : tie.Need-enum-known-r
-enum-known-r c = search needs
-
-same-length : tie.Need-same-length
-same-length c = search needs
-
 returns : tie.Need-returns
 returns c =
     let fault = c .before .before .before in
     refused-answered withdraw _ _ (fault .before .before .before .pre .0) _
     (checked-same _ (some _) (sym (fault .withdrawal-fault .ensures) ∙ c .before .r .given .1))
 
-enum-told : tie.Need-enum-told
-enum-told c = search needs
-
 row-offset-requires : tie.Need-row-offset-requires
 row-offset-requires c κs = ready-number _ _ (c .before .before .before .before .before .before .pre .1)
-
-add-put-u8 : tie.Need-add-put-u8
-add-put-u8 c = search needs
 
 put-u8-requires : tie.Need-put-u8-requires
 put-u8-requires c κs =
@@ -43,9 +31,6 @@ put-u8-requires c κs =
     let n = book-length _ (pre .0) in
     let r = ready-number _ _ (pre .1) in
     omega arith
-
-same-length-2 : tie.Need-same-length-2
-same-length-2 c = search needs
 
 returns-2 : tie.Need-returns-2
 returns-2 c =
@@ -60,12 +45,12 @@ withdraw-spec =
     tie.close
     (tie.spec
     withdrawal-fault-requires
-    enum-known-r
-    same-length
+    (λ c. search needs)
+    (λ c. search needs)
     returns
-    enum-told
+    (λ c. search needs)
     row-offset-requires
-    add-put-u8
+    (λ c. search needs)
     put-u8-requires
-    same-length-2
+    (λ c. search needs)
     returns-2)

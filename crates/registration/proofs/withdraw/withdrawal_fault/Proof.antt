@@ -8,14 +8,8 @@ use borrow.Author.Needs.{needs}
 use Rattle.registration.proofs.withdraw.withdrawal_fault.Statement.{statement}
 use Rattle.registration.proofs.withdraw.withdrawal_fault.Tie as tie
 
-phase-requires : tie.Need-phase-requires
-phase-requires c κs = search needs
-
 returns : tie.Need-returns
 returns c = ap checked (sym (in-wrong-phase _ _ withdraw (λ e. c .if1 .taken (c .before .phase .ensures ∙ e))))
-
-is-own-pending-requires : tie.Need-is-own-pending-requires
-is-own-pending-requires c κs = search needs
 
 returns-2 : tie.Need-returns-2
 returns-2 c = ap checked (sym (row-to-withdraw _ _ (sym (c .before .before .before .phase .ensures) ∙ c .before .before .if1 .left) (sym (c .before .is-own-pending .ensures) ∙ c .if2 .taken)))
@@ -25,4 +19,4 @@ returns-3 c = ap checked (sym (no-row-to-withdraw _ _ (sym (c .before .before .b
 
 pub withdrawal-fault-spec : {M : Type 1} → statement M
 withdrawal-fault-spec =
-    tie.close (tie.spec phase-requires returns is-own-pending-requires returns-2 returns-3)
+    tie.close (tie.spec (λ c κs. search needs) returns (λ c κs. search needs) returns-2 returns-3)

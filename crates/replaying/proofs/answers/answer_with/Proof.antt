@@ -16,21 +16,6 @@ use Rattle.replaying.proofs.answers.answer_with.Tie as tie
 counts-requires : tie.Need-counts-requires
 counts-requires c κs = let n = book-length _ (c .before .before .before .before .before .before .pre .0) in omega arith
 
-schedule-count-requires : tie.Need-schedule-count-requires
-schedule-count-requires c κs = search needs
-
-cast-standing : tie.Need-cast-standing
-cast-standing c = search needs
-
-call-item-requires : tie.Need-call-item-requires
-call-item-requires c κs = search needs
-
-settles-requires : tie.Need-settles-requires
-settles-requires c κs = search needs
-
-cast-put-answer : tie.Need-cast-put-answer
-cast-put-answer c = search needs
-
 put-answer-requires : tie.Need-put-answer-requires
 put-answer-requires c κs =
     let answered = c .before .before .before .before in
@@ -44,18 +29,6 @@ put-answer-requires c κs =
     let results = ap length (zeros .0) in
     let balances = ap length (zeros .1) in
     ((omega (arith, length-replicate {A = ℕ} mostSchedules 0), few, omega (arith, length-replicate {A = ℕ} (balanceWidth * mostOperators) 0), omega arith), answer-small _ (book-valid _ (pre .0)) _ (called .0 .outcome-given) (answered .settles .ensures) _ (operators-counted _ (pre .0) _ counted) (called .0 .balances-left))
-
-same-length : tie.Need-same-length
-same-length c = search needs
-
-same-length-2 : tie.Need-same-length-2
-same-length-2 c = search needs
-
-same-length-3 : tie.Need-same-length-3
-same-length-3 c = search needs
-
-same-length-4 : tie.Need-same-length-4
-same-length-4 c = search needs
 
 returns : tie.Need-returns
 returns c =
@@ -76,14 +49,14 @@ answer-with-spec =
     tie.close
     (tie.spec
     counts-requires
-    schedule-count-requires
-    cast-standing
-    call-item-requires
-    settles-requires
-    cast-put-answer
+    (λ c κs. search needs)
+    (λ c. search needs)
+    (λ c κs. search needs)
+    (λ c κs. search needs)
+    (λ c. search needs)
     put-answer-requires
-    same-length
-    same-length-2
-    same-length-3
-    same-length-4
+    (λ c. search needs)
+    (λ c. search needs)
+    (λ c. search needs)
+    (λ c. search needs)
     returns)

@@ -7,9 +7,6 @@ use borrow.Author.Needs.{needs}
 use Rattle.replaying.proofs.answers.call_item.Statement.{statement}
 use Rattle.replaying.proofs.answers.call_item.Tie as tie
 
-record-length-requires : tie.Need-record-length-requires
-record-length-requires c κs = search needs
-
 slice-aggregate-call-in : tie.Need-slice-aggregate-call-in
 slice-aggregate-call-in c = rw (c .before .record-length .ensures) (sym (length-take-le _ _ (record-within _)))
 
@@ -18,21 +15,6 @@ sub-call-in c = rw (c .before .before .record-length .ensures) (record-within _)
 
 part-call-in-start : tie.Need-part-call-in-start
 part-call-in-start c = rw (c .before .before .record-length .ensures) (record-within _)
-
-part-call-in-end : tie.Need-part-call-in-end
-part-call-in-end c = search needs
-
-call-in-requires : tie.Need-call-in-requires
-call-in-requires c κs = search needs
-
-same-length : tie.Need-same-length
-same-length c = search needs
-
-same-length-2 : tie.Need-same-length-2
-same-length-2 c = search needs
-
-same-length-3 : tie.Need-same-length-3
-same-length-3 c = search needs
 
 returns : tie.Need-returns
 returns c =
@@ -45,13 +27,13 @@ pub call-item-spec : {M : Type 1} → statement M
 call-item-spec =
     tie.close
     (tie.spec
-    record-length-requires
+    (λ c κs. search needs)
     slice-aggregate-call-in
     sub-call-in
     part-call-in-start
-    part-call-in-end
-    call-in-requires
-    same-length
-    same-length-2
-    same-length-3
+    (λ c. search needs)
+    (λ c κs. search needs)
+    (λ c. search needs)
+    (λ c. search needs)
+    (λ c. search needs)
     returns)

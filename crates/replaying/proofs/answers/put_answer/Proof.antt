@@ -5,20 +5,11 @@ use borrow.Author.Needs.{needs}
 use Rattle.replaying.proofs.answers.put_answer.Statement.{statement}
 use Rattle.replaying.proofs.answers.put_answer.Tie as tie
 
-outcome-numbers-requires : tie.Need-outcome-numbers-requires
-outcome-numbers-requires c κs = search needs
-
-put-answered-requires : tie.Need-put-answered-requires
-put-answered-requires c κs = search needs
-
 put-settled-requires : tie.Need-put-settled-requires
 put-settled-requires c κs =
     let line = c .before .before .before in
     let pre = line .before .before .before .before .before .before .before .pre in
     ((pre .0 .0, pre .0 .1, pre .0 .2, pre .1 (c .before .if1 .taken)), omega arith)
-
-same-length : tie.Need-same-length
-same-length c = search needs
 
 returns : tie.Need-returns
 returns c =
@@ -26,9 +17,6 @@ returns c =
     let line = put .put-answered .ensures in
     let rest = c .before .before .put-settled .ensures in
     (put-settling _ _ _ _ _ _ _ _ (c .before .before .before .before .if1 .taken) (put .before .before .outcome-numbers .ensures) (line .0) (rest .0), omega arith)
-
-same-length-2 : tie.Need-same-length-2
-same-length-2 c = search needs
 
 returns-2 : tie.Need-returns-2
 returns-2 c =
@@ -39,10 +27,10 @@ pub put-answer-spec : {M : Type 1} → statement M
 put-answer-spec =
     tie.close
     (tie.spec
-    outcome-numbers-requires
-    put-answered-requires
+    (λ c κs. search needs)
+    (λ c κs. search needs)
     put-settled-requires
-    same-length
+    (λ c. search needs)
     returns
-    same-length-2
+    (λ c. search needs)
     returns-2)

@@ -21,9 +21,6 @@ Inv-loop stream book₀ out₀ last reached₀ book out reached =
 abbrev μ-loop : tie.MeasureT-loop
 μ-loop stream book₀ out₀ last reached₀ book out reached = length stream + 2 - reached .number
 
-sub-last : tie.Need-sub-last Inv-loop μ-loop
-sub-last c = search needs
-
 loop-holds : tie.Need-loop-holds Inv-loop μ-loop
 loop-holds c = (refl, record { whole = refl; underway = c .before .before .before .pre .1 }, inr refl, refl, refl)
 
@@ -55,12 +52,6 @@ loop-again c =
       omega arith,
     )
 
-same-length : tie.Need-same-length Inv-loop μ-loop
-same-length c = search needs
-
-same-length-2 : tie.Need-same-length-2 Inv-loop μ-loop
-same-length-2 c = search needs
-
 returns : tie.Need-returns Inv-loop μ-loop
 returns c =
     let l = c .before .before .before .loop in (
@@ -74,11 +65,11 @@ gather-spec =
     (tie.spec
     Inv-loop
     μ-loop
-    sub-last
+    (λ c. search needs)
     loop-holds
     gather-item-requires
     loop-less
     loop-again
-    same-length
-    same-length-2
+    (λ c. search needs)
+    (λ c. search needs)
     returns)

@@ -5,12 +5,6 @@ use borrow.Author.Needs.{needs}
 use Rattle.replaying.proofs.gathering.gather_first.Statement.{statement}
 use Rattle.replaying.proofs.gathering.gather_first.Tie as tie
 
-begin-requires : tie.Need-begin-requires
-begin-requires c κs = search needs
-
-same-length : tie.Need-same-length
-same-length c = search needs
-
 same-length-2 : tie.Need-same-length-2
 same-length-2 c = search needs
 
@@ -33,4 +27,4 @@ returns c =
     )
 
 pub gather-first-spec : {M : Type 1} → statement M
-gather-first-spec = tie.close (tie.spec begin-requires same-length same-length-2 returns)
+gather-first-spec = tie.close (tie.spec (λ c κs. search needs) (λ c. search needs) same-length-2 returns)

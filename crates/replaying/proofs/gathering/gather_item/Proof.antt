@@ -8,28 +8,10 @@ use borrow.Author.Needs.{needs}
 use Rattle.replaying.proofs.gathering.gather_item.Statement.{statement}
 use Rattle.replaying.proofs.gathering.gather_item.Tie as tie
 
-sub-replay-item : tie.Need-sub-replay-item
-sub-replay-item c = search needs
-
-part-replay-item-start : tie.Need-part-replay-item-start
-part-replay-item-start c = search needs
-
-part-replay-item-end : tie.Need-part-replay-item-end
-part-replay-item-end c = search needs
-
 replay-item-requires : tie.Need-replay-item-requires
 replay-item-requires c κs =
     let start = c .before .before .before .before .before in
     (start .pre .1 .onward (start .pre .0 .0) .0, simp (length-take, length-drop) (omega arith))
-
-add-t14 : tie.Need-add-t14
-add-t14 c = search needs
-
-add-t11 : tie.Need-add-t11
-add-t11 c = search needs
-
-same-length : tie.Need-same-length
-same-length c = search needs
 
 same-length-2 : tie.Need-same-length-2
 same-length-2 c = search needs
@@ -66,12 +48,12 @@ pub gather-item-spec : {M : Type 1} → statement M
 gather-item-spec =
     tie.close
     (tie.spec
-    sub-replay-item
-    part-replay-item-start
-    part-replay-item-end
+    (λ c. search needs)
+    (λ c. search needs)
+    (λ c. search needs)
     replay-item-requires
-    add-t14
-    add-t11
-    same-length
+    (λ c. search needs)
+    (λ c. search needs)
+    (λ c. search needs)
     same-length-2
     returns)

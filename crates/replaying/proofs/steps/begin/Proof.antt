@@ -11,26 +11,11 @@ use Rattle.replaying.proofs.steps.begin.Tie as tie
 within : (c : tie.After-known-told) → (let (from, past) = c .before .found .given .0 in Within (c .before .before .before .before .before .before .before .before .args .stream .now) 0 from (past .0))
 within c = found-within _ _ _ _ (sym (c .before .before .before .next-item .ensures) ∙ c .before .found .given .1)
 
-put-long-requires : tie.Need-put-long-requires
-put-long-requires c κs = search needs
-
-ended-requires : tie.Need-ended-requires
-ended-requires c κs = search needs
-
-same-length : tie.Need-same-length
-same-length c = search needs
-
 returns : tie.Need-returns
 returns c =
     let line = c .before .before .before .put-long .ensures in
     let ended = c .ended .ensures in
     rw (begin-long _ (c .before .before .before .before .before .if1 .taken)) (does-end _ (one-line _ (line .0)) (omega arith) ended refl (ended-not-on ended, ended-next ended))
-
-next-item-requires : tie.Need-next-item-requires
-next-item-requires c κs = search needs
-
-enum-known-found : tie.Need-enum-known-found
-enum-known-found c = search needs
 
 sub-open-setup : tie.Need-sub-open-setup
 sub-open-setup c = within c .in-order
@@ -40,30 +25,6 @@ part-open-setup-start c = within c .in-order
 
 part-open-setup-end : tie.Need-part-open-setup-end
 part-open-setup-end c = within c .in-stream
-
-open-setup-requires : tie.Need-open-setup-requires
-open-setup-requires c κs = search needs
-
-enum-told : tie.Need-enum-told
-enum-told c = search needs
-
-put-cut-requires : tie.Need-put-cut-requires
-put-cut-requires c κs = search needs
-
-ended-requires-2 : tie.Need-ended-requires-2
-ended-requires-2 c κs = search needs
-
-enum-told-2 : tie.Need-enum-told-2
-enum-told-2 c = search needs
-
-ended-requires-3 : tie.Need-ended-requires-3
-ended-requires-3 c κs = search needs
-
-same-length-2 : tie.Need-same-length-2
-same-length-2 c = search needs
-
-same-length-3 : tie.Need-same-length-3
-same-length-3 c = search needs
 
 returns-2 : tie.Need-returns-2
 returns-2 c =
@@ -76,9 +37,6 @@ returns-2 c =
     let (out, rest) = lines in
     let (bound, opens) = rest in
     rw (begin-whole _ (looked .before .if1 .left) _ _ found) (answer, (book, (out, (bound, (opens, open-next _ _ _ _ answer (w .in-stream))))))
-
-same-length-4 : tie.Need-same-length-4
-same-length-4 c = search needs
 
 returns-3 : tie.Need-returns-3
 returns-3 c =
@@ -97,24 +55,24 @@ pub begin-spec : {M : Type 1} → statement M
 begin-spec =
     tie.close
     (tie.spec
-    put-long-requires
-    ended-requires
-    same-length
+    (λ c κs. search needs)
+    (λ c κs. search needs)
+    (λ c. search needs)
     returns
-    next-item-requires
-    enum-known-found
+    (λ c κs. search needs)
+    (λ c. search needs)
     sub-open-setup
     part-open-setup-start
     part-open-setup-end
-    open-setup-requires
-    enum-told
-    put-cut-requires
-    ended-requires-2
-    enum-told-2
-    ended-requires-3
-    same-length-2
-    same-length-3
+    (λ c κs. search needs)
+    (λ c. search needs)
+    (λ c κs. search needs)
+    (λ c κs. search needs)
+    (λ c. search needs)
+    (λ c κs. search needs)
+    (λ c. search needs)
+    (λ c. search needs)
     returns-2
-    same-length-4
+    (λ c. search needs)
     returns-3
     returns-4)

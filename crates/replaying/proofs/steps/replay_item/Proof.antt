@@ -11,12 +11,6 @@ use Rattle.replaying.proofs.steps.replay_item.Tie as tie
 within : (c : tie.After-known-told) → (let (from, past) = c .before .found .given .0 in Within (c .before .before .before .before .before .before .before .args .stream .now) (c .before .before .before .before .before .before .before .args .at) from (past .0))
 within c = found-within _ _ _ _ (sym (c .before .before .before .next-item .ensures) ∙ c .before .found .given .1)
 
-next-item-requires : tie.Need-next-item-requires
-next-item-requires c κs = search needs
-
-enum-known-found : tie.Need-enum-known-found
-enum-known-found c = search needs
-
 sub-answer-item : tie.Need-sub-answer-item
 sub-answer-item c = within c .in-order
 
@@ -25,30 +19,6 @@ part-answer-item-start c = within c .in-order
 
 part-answer-item-end : tie.Need-part-answer-item-end
 part-answer-item-end c = within c .in-stream
-
-answer-item-requires : tie.Need-answer-item-requires
-answer-item-requires c κs = search needs
-
-enum-told : tie.Need-enum-told
-enum-told c = search needs
-
-put-cut-requires : tie.Need-put-cut-requires
-put-cut-requires c κs = search needs
-
-ended-requires : tie.Need-ended-requires
-ended-requires c κs = search needs
-
-enum-told-2 : tie.Need-enum-told-2
-enum-told-2 c = search needs
-
-ended-requires-2 : tie.Need-ended-requires-2
-ended-requires-2 c κs = search needs
-
-same-length : tie.Need-same-length
-same-length c = search needs
-
-same-length-2 : tie.Need-same-length-2
-same-length-2 c = search needs
 
 returns : tie.Need-returns
 returns c =
@@ -60,9 +30,6 @@ returns c =
     let (bound, rest) = left in
     let (book, still) = rest in
     rw (step-whole _ _ _ _ _ _ found) (does-go-on _ lines bound (looked .before .before .before .before .args .book .now) _ _ book (still, λ e. (omega arith, w .in-stream)))
-
-same-length-3 : tie.Need-same-length-3
-same-length-3 c = search needs
 
 returns-2 : tie.Need-returns-2
 returns-2 c =
@@ -80,20 +47,20 @@ pub replay-item-spec : {M : Type 1} → statement M
 replay-item-spec =
     tie.close
     (tie.spec
-    next-item-requires
-    enum-known-found
+    (λ c κs. search needs)
+    (λ c. search needs)
     sub-answer-item
     part-answer-item-start
     part-answer-item-end
-    answer-item-requires
-    enum-told
-    put-cut-requires
-    ended-requires
-    enum-told-2
-    ended-requires-2
-    same-length
-    same-length-2
+    (λ c κs. search needs)
+    (λ c. search needs)
+    (λ c κs. search needs)
+    (λ c κs. search needs)
+    (λ c. search needs)
+    (λ c κs. search needs)
+    (λ c. search needs)
+    (λ c. search needs)
     returns
-    same-length-3
+    (λ c. search needs)
     returns-2
     returns-3)

@@ -4,21 +4,6 @@ use borrow.Author.Needs.{needs}
 use Rattle.rules.proofs.AccountHour.after_trade.Statement.{statement}
 use Rattle.rules.proofs.AccountHour.after_trade.Tie as tie
 
-moved-net-requires : tie.Need-moved-net-requires
-moved-net-requires c κs = search needs
-
-waiting-requires : tie.Need-waiting-requires
-waiting-requires c κs = search needs
-
-waiting-requires-2 : tie.Need-waiting-requires-2
-waiting-requires-2 c κs = search needs
-
-plus-requires : tie.Need-plus-requires
-plus-requires c κs = search needs
-
-plus-requires-2 : tie.Need-plus-requires-2
-plus-requires-2 c κs = search needs
-
 returns : tie.Need-returns
 unfolding afterTrade
 returns c =
@@ -30,9 +15,9 @@ pub after-trade-spec : {M : Type 1} → statement M
 after-trade-spec =
     tie.close
     (tie.spec
-    moved-net-requires
-    waiting-requires
-    waiting-requires-2
-    plus-requires
-    plus-requires-2
+    (λ c κs. search needs)
+    (λ c κs. search needs)
+    (λ c κs. search needs)
+    (λ c κs. search needs)
+    (λ c κs. search needs)
     returns)

@@ -20,20 +20,11 @@ Inv-loop book prices n used₀ results₀ order all₀ k₀ used results all k =
 abbrev μ-loop : tie.MeasureT-loop
 μ-loop book prices n used₀ results₀ order all₀ k₀ used results all k = n - k
 
-accounts-worth-requires : tie.Need-accounts-worth-requires Inv-loop μ-loop
-accounts-worth-requires c κs = search needs
-
 loop-holds : tie.Need-loop-holds Inv-loop μ-loop
 loop-holds c =
     let start = c .before .before .before .before .before in
     let few = schedule-count-high _ (start .pre .0 .is-book) in
     (search needs, omega (arith, start .pre .1 .0 .all-of, few), tables-begin _ _ _ _ _ (start .pre .1 .1 .nothing-used) (start .pre .1 .1 .no-results) (c .accounts-worth .ensures))
-
-mul-x : tie.Need-mul-x Inv-loop μ-loop
-mul-x c = search needs
-
-array-copy-out-x : tie.Need-array-copy-out-x Inv-loop μ-loop
-array-copy-out-x c = search needs
 
 judge-next-requires : tie.Need-judge-next-requires Inv-loop μ-loop
 judge-next-requires c κs =
@@ -43,18 +34,6 @@ judge-next-requires c κs =
     let here : l .k < start .args .n = omega arith in
     let ready = next-ready _ _ (start .pre .0) (l .k) (omega (arith, here, start .pre .1 .0 .all-of)) _ (in-turn _ _ _ _ here (start .pre .1 .0 .by-priority)) _ _ _ (l .inv .2) in
     ((start .pre .0, ready .0), ready .1)
-
-cast-at : tie.Need-cast-at Inv-loop μ-loop
-cast-at c = search needs
-
-sub-at : tie.Need-sub-at Inv-loop μ-loop
-sub-at c = search needs
-
-mul-so-far : tie.Need-mul-so-far Inv-loop μ-loop
-mul-so-far c = search needs
-
-array-copy-out-so-far : tie.Need-array-copy-out-so-far Inv-loop μ-loop
-array-copy-out-so-far c = search needs
 
 plus-requires : tie.Need-plus-requires Inv-loop μ-loop
 plus-requires c κs =
@@ -67,18 +46,6 @@ plus-requires c κs =
     let held = first-fits _ _ (start .pre .0) (l .k) h _ (l .inv .2 .balances-of) (credit .result .operator - 1) in
     let share = credit .ensures .bounded .share-fits in
     (omega (arith, held .0, share .0), omega (arith, held .1, share .1))
-
-mul-all : tie.Need-mul-all Inv-loop μ-loop
-mul-all c = search needs
-
-array-set-from-all : tie.Need-array-set-from-all Inv-loop μ-loop
-array-set-from-all c = search needs
-
-add-k : tie.Need-add-k Inv-loop μ-loop
-add-k c = search needs
-
-loop-less : tie.Need-loop-less Inv-loop μ-loop
-loop-less c = search needs
 
 loop-again : tie.Need-loop-again Inv-loop μ-loop
 loop-again c =
@@ -117,20 +84,20 @@ judge-all-spec =
     (tie.spec
     Inv-loop
     μ-loop
-    accounts-worth-requires
+    (λ c κs. search needs)
     loop-holds
-    mul-x
-    array-copy-out-x
+    (λ c. search needs)
+    (λ c. search needs)
     judge-next-requires
-    cast-at
-    sub-at
-    mul-so-far
-    array-copy-out-so-far
+    (λ c. search needs)
+    (λ c. search needs)
+    (λ c. search needs)
+    (λ c. search needs)
     plus-requires
-    mul-all
-    array-set-from-all
-    add-k
-    loop-less
+    (λ c. search needs)
+    (λ c. search needs)
+    (λ c. search needs)
+    (λ c. search needs)
     loop-again
     same-length
     same-length-2

@@ -26,26 +26,11 @@ use-up-requires c κs =
     let on = on-point _ h _ ok _ (read .point .ensures) in
     ((point-in-cells _ h _ ok, account-read-in-cells _ h _ ok _ (on .its-point)), (pre .1 .0, pre .1 .1))
 
-cast-results : tie.Need-cast-results
-cast-results c = search needs
-
-sub-results : tie.Need-sub-results
-sub-results c = search needs
-
-slice-write-results : tie.Need-slice-write-results
-slice-write-results c = search needs
-
 credit-of-requires : tie.Need-credit-of-requires
 credit-of-requires c κs =
     let read = c .before .before .before .before .before .before .before in
     let pre = read .before .before .before .before .before .before .pre in
     (pre .0 .0, on-point _ (pre .0 .0 .is-book) _ (pre .0 .1 .in-range) _ (read .point .ensures))
-
-same-length : tie.Need-same-length
-same-length c = search needs
-
-same-length-2 : tie.Need-same-length-2
-same-length-2 c = search needs
 
 returns : tie.Need-returns
 returns c =
@@ -70,10 +55,10 @@ judge-next-spec =
     point-requires
     result-of-requires
     use-up-requires
-    cast-results
-    sub-results
-    slice-write-results
+    (λ c. search needs)
+    (λ c. search needs)
+    (λ c. search needs)
     credit-of-requires
-    same-length
-    same-length-2
+    (λ c. search needs)
+    (λ c. search needs)
     returns)

@@ -8,19 +8,10 @@ use borrow.Author.Needs.{needs}
 use Rattle.settlement.proofs.judging.judge_schedules.Statement.{statement}
 use Rattle.settlement.proofs.judging.judge_schedules.Tie as tie
 
-placed-in-requires : tie.Need-placed-in-requires
-placed-in-requires c κs = search needs
-
 in-order-requires : tie.Need-in-order-requires
 in-order-requires c κs =
     let pre = c .before .before .before .before .pre in
     omega (arith, pre .1, schedule-count-high _ (pre .0 .is-book))
-
-nothing-used-requires : tie.Need-nothing-used-requires
-nothing-used-requires c κs = search needs
-
-slice-aggregate-judge-all : tie.Need-slice-aggregate-judge-all
-slice-aggregate-judge-all c = search needs
 
 judge-all-requires : tie.Need-judge-all-requires
 judge-all-requires c κs =
@@ -35,9 +26,6 @@ judge-all-requires c κs =
       ),
     )
 
-same-length : tie.Need-same-length
-same-length c = search needs
-
 returns : tie.Need-returns
 returns c =
     let all = c .before .before .before in
@@ -49,10 +37,10 @@ pub judge-schedules-spec : {M : Type 1} → statement M
 judge-schedules-spec =
     tie.close
     (tie.spec
-    placed-in-requires
+    (λ c κs. search needs)
     in-order-requires
-    nothing-used-requires
-    slice-aggregate-judge-all
+    (λ c κs. search needs)
+    (λ c. search needs)
     judge-all-requires
-    same-length
+    (λ c. search needs)
     returns)

@@ -19,38 +19,11 @@ Inv-loop book n all₀ k₀ all k = (k ≤ n) × (n ≤ mostSchedules) × (lengt
 abbrev μ-loop : tie.MeasureT-loop
 μ-loop book n all₀ k₀ all k = n - k
 
-no-schedules-requires : tie.Need-no-schedules-requires Inv-loop μ-loop
-no-schedules-requires c κs = search needs
-
 loop-holds : tie.Need-loop-holds Inv-loop μ-loop
 loop-holds c = (search needs, omega (arith, c .before .before .pre .1, schedule-count-high _ (c .before .before .pre .0)), none-placed _ (c .no-schedules .ensures), refl)
 
-mul-schedule-at : tie.Need-mul-schedule-at Inv-loop μ-loop
-mul-schedule-at c = search needs
-
-add-schedule-at : tie.Need-add-schedule-at Inv-loop μ-loop
-add-schedule-at c = search needs
-
 schedule-at-requires : tie.Need-schedule-at-requires Inv-loop μ-loop
 schedule-at-requires c κs = omega (arith, book-length _ (c .before .before .before .before .pre .0))
-
-cast-place : tie.Need-cast-place Inv-loop μ-loop
-cast-place c = search needs
-
-add-place : tie.Need-add-place Inv-loop μ-loop
-add-place c = search needs
-
-mul-all : tie.Need-mul-all Inv-loop μ-loop
-mul-all c = search needs
-
-array-set-from-all : tie.Need-array-set-from-all Inv-loop μ-loop
-array-set-from-all c = search needs
-
-add-k : tie.Need-add-k Inv-loop μ-loop
-add-k c = search needs
-
-loop-less : tie.Need-loop-less Inv-loop μ-loop
-loop-less c = search needs
 
 loop-again : tie.Need-loop-again Inv-loop μ-loop
 loop-again c =
@@ -71,16 +44,16 @@ placed-in-spec =
     (tie.spec
     Inv-loop
     μ-loop
-    no-schedules-requires
+    (λ c κs. search needs)
     loop-holds
-    mul-schedule-at
-    add-schedule-at
+    (λ c. search needs)
+    (λ c. search needs)
     schedule-at-requires
-    cast-place
-    add-place
-    mul-all
-    array-set-from-all
-    add-k
-    loop-less
+    (λ c. search needs)
+    (λ c. search needs)
+    (λ c. search needs)
+    (λ c. search needs)
+    (λ c. search needs)
+    (λ c. search needs)
     loop-again
     returns)

@@ -13,27 +13,9 @@ use borrow.Author.Needs.{needs}
 use Rattle.settlement.proofs.schedule.schedule.Statement.{statement}
 use Rattle.settlement.proofs.schedule.schedule.Tie as tie
 
-schedule-fault-requires : tie.Need-schedule-fault-requires
-schedule-fault-requires c κs = search needs
-
-enum-known-r : tie.Need-enum-known-r
-enum-known-r c = search needs
-
-same-length : tie.Need-same-length
-same-length c = search needs
-
 returns : tie.Need-returns
 returns c =
     refused-answered schedule _ _ (c .before .before .before .before .before .before .pre .0) _ (checked-same _ (some _) (sym (c .before .before .before .schedule-fault .ensures _) ∙ c .before .r .given .1))
-
-enum-told : tie.Need-enum-told
-enum-told c = search needs
-
-schedule-count-requires : tie.Need-schedule-count-requires
-schedule-count-requires c κs = search needs
-
-handed-in-requires : tie.Need-handed-in-requires
-handed-in-requires c κs = search needs
 
 append-schedule-requires : tie.Need-append-schedule-requires
 append-schedule-requires c κs =
@@ -42,12 +24,6 @@ append-schedule-requires c κs =
     let pre = fault .before .before .before .pre in
     let few = few-schedules _ _ (checked-same _ none (sym (fault .schedule-fault .ensures (fault .before .before .before .args .request)) ∙ told .enum-told .given .1)) in
     (book-length _ (pre .0), omega (arith, few, c .before .before .schedule-count .ensures .0), ready-fits _ _ _ (pre .0) (pre .1) (c .before .handed-in .ensures))
-
-add-t15 : tie.Need-add-t15
-add-t15 c = search needs
-
-same-length-2 : tie.Need-same-length-2
-same-length-2 c = search needs
 
 returns-2 : tie.Need-returns-2
 returns-2 c =
@@ -63,14 +39,14 @@ pub schedule-spec : {M : Type 1} → statement M
 schedule-spec =
     tie.close
     (tie.spec
-    schedule-fault-requires
-    enum-known-r
-    same-length
+    (λ c κs. search needs)
+    (λ c. search needs)
+    (λ c. search needs)
     returns
-    enum-told
-    schedule-count-requires
-    handed-in-requires
+    (λ c. search needs)
+    (λ c κs. search needs)
+    (λ c κs. search needs)
     append-schedule-requires
-    add-t15
-    same-length-2
+    (λ c. search needs)
+    (λ c. search needs)
     returns-2)

@@ -9,17 +9,8 @@ use borrow.Author.Needs.{needs}
 use Rattle.settlement.proofs.schedule.schedule_fault.Statement.{statement}
 use Rattle.settlement.proofs.schedule.schedule_fault.Tie as tie
 
-phase-requires : tie.Need-phase-requires
-phase-requires c κs = search needs
-
 returns : tie.Need-returns
 returns c = λ q. ap checked (sym (in-wrong-phase _ q schedule (λ e. c .if1 .taken (c .before .phase .ensures ∙ e))))
-
-schedule-count-requires : tie.Need-schedule-count-requires
-schedule-count-requires c κs = search needs
-
-cast-if2 : tie.Need-cast-if2
-cast-if2 c = search needs
 
 returns-2 : tie.Need-returns-2
 returns-2 c =
@@ -34,4 +25,4 @@ returns-3 c =
 pub schedule-fault-spec : {M : Type 1} → statement M
 schedule-fault-spec =
     tie.close
-    (tie.spec phase-requires returns schedule-count-requires cast-if2 returns-2 returns-3)
+    (tie.spec (λ c κs. search needs) returns (λ c κs. search needs) (λ c. search needs) returns-2 returns-3)

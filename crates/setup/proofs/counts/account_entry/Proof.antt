@@ -6,12 +6,9 @@ use borrow.Author.Needs.{needs}
 use Rattle.setup.proofs.counts.account_entry.Statement.{statement}
 use Rattle.setup.proofs.counts.account_entry.Tie as tie
 
-add-result : tie.Need-add-result
-add-result c = search needs
-
 returns : tie.Need-returns
 unfolding accountEntry
 returns c = (refl, omega arith)
 
 pub account-entry-spec : {M : Type 1} → statement M
-account-entry-spec = tie.close (tie.spec add-result returns)
+account-entry-spec = tie.close (tie.spec (λ c. search needs) returns)

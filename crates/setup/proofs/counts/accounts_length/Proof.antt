@@ -6,9 +6,6 @@ use borrow.Author.Needs.{needs}
 use Rattle.setup.proofs.counts.accounts_length.Statement.{statement}
 use Rattle.setup.proofs.counts.accounts_length.Tie as tie
 
-account-entry-requires : tie.Need-account-entry-requires
-account-entry-requires c κs = search needs
-
 mul-result : tie.Need-mul-result
 mul-result c = omega (arith, no-longer (c .account-entry .result) (2 ^ 12) (c .before .args .count) 255 (c .account-entry .ensures .1) (omega arith))
 
@@ -17,4 +14,4 @@ returns c =
     (rw (c .account-entry .ensures .0), omega (arith, no-longer (c .account-entry .result) (2 ^ 12) (c .before .args .count) 255 (c .account-entry .ensures .1) (omega arith)))
 
 pub accounts-length-spec : {M : Type 1} → statement M
-accounts-length-spec = tie.close (tie.spec account-entry-requires mul-result returns)
+accounts-length-spec = tie.close (tie.spec (λ c κs. search needs) mul-result returns)

@@ -8,12 +8,6 @@ use borrow.Author.Needs.{needs}
 use Rattle.setup.proofs.entries.account.Statement.{statement}
 use Rattle.setup.proofs.entries.account.Tie as tie
 
-counts-requires : tie.Need-counts-requires
-counts-requires c κs = search needs
-
-account-offset-requires : tie.Need-account-offset-requires
-account-offset-requires c κs = search needs
-
 account-at-requires : tie.Need-account-at-requires
 account-at-requires c κs =
     let start = c .before .before .before in
@@ -30,4 +24,4 @@ returns c =
 
 pub account-spec : {M : Type 1} → statement M
 account-spec =
-    tie.close (tie.spec counts-requires account-offset-requires account-at-requires returns)
+    tie.close (tie.spec (λ c κs. search needs) (λ c κs. search needs) account-at-requires returns)

@@ -8,9 +8,6 @@ use Rattle.setup.proofs.entries.account_at.Tie as tie
 get-u8-requires : tie.Need-get-u8-requires
 get-u8-requires c κs = omega (arith, account-wide (c .before .args .n))
 
-add-get-u8 : tie.Need-add-get-u8
-add-get-u8 c = search needs
-
 get-u8-requires-2 : tie.Need-get-u8-requires-2
 get-u8-requires-2 c κs = omega (arith, account-wide (c .before .before .args .n))
 
@@ -35,7 +32,7 @@ account-at-spec =
     tie.close
     (tie.spec
     get-u8-requires
-    add-get-u8
+    (λ c. search needs)
     get-u8-requires-2
     add-get-u32
     get-u32-requires

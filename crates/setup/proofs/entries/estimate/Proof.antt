@@ -6,22 +6,10 @@ use borrow.Author.Needs.{needs}
 use Rattle.setup.proofs.entries.estimate.Statement.{statement}
 use Rattle.setup.proofs.entries.estimate.Tie as tie
 
-sub-price-at : tie.Need-sub-price-at
-sub-price-at c = search needs
-
-mul-price-at : tie.Need-mul-price-at
-mul-price-at c = search needs
-
-add-price-at : tie.Need-add-price-at
-add-price-at c = search needs
-
-price-at-requires : tie.Need-price-at-requires
-price-at-requires c κs = search needs
-
 returns : tie.Need-returns
 unfolding estimatesIn
 returns c = let start = c .before .before in entry-by-number priceWidth _ _ _ _ _ _ _ refl (start .pre .1) (start .pre .2) (c .price-at .ensures)
 
 pub estimate-spec : {M : Type 1} → statement M
 estimate-spec =
-    tie.close (tie.spec sub-price-at mul-price-at add-price-at price-at-requires returns)
+    tie.close (tie.spec (λ c. search needs) (λ c. search needs) (λ c. search needs) (λ c κs. search needs) returns)

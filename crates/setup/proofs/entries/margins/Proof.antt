@@ -5,11 +5,8 @@ use Rattle.rules.specs.Books.{marginsOf}
 use Rattle.setup.proofs.entries.margins.Statement.{statement}
 use Rattle.setup.proofs.entries.margins.Tie as tie
 
-account-requires : tie.Need-account-requires
-account-requires c κs = search needs
-
 returns : tie.Need-returns
 returns c = ap marginsOf (c .before .before .account .ensures)
 
 pub margins-spec : {M : Type 1} → statement M
-margins-spec = tie.close (tie.spec account-requires returns)
+margins-spec = tie.close (tie.spec (λ c κs. search needs) returns)

@@ -7,21 +7,6 @@ use borrow.Author.Needs.{needs}
 use Rattle.setup.proofs.entries.operator.Statement.{statement}
 use Rattle.setup.proofs.entries.operator.Tie as tie
 
-counts-requires : tie.Need-counts-requires
-counts-requires c κs = search needs
-
-operators-offset-requires : tie.Need-operators-offset-requires
-operators-offset-requires c κs = search needs
-
-sub-operator-at : tie.Need-sub-operator-at
-sub-operator-at c = search needs
-
-mul-operator-at : tie.Need-mul-operator-at
-mul-operator-at c = search needs
-
-add-operator-at : tie.Need-add-operator-at
-add-operator-at c = search needs
-
 operator-at-requires : tie.Need-operator-at-requires
 operator-at-requires c κs = omega (arith, c .operators-offset .ensures ∙ ap operatorsOffset (c .before .counts .ensures))
 
@@ -33,10 +18,10 @@ pub operator-spec : {M : Type 1} → statement M
 operator-spec =
     tie.close
     (tie.spec
-    counts-requires
-    operators-offset-requires
-    sub-operator-at
-    mul-operator-at
-    add-operator-at
+    (λ c κs. search needs)
+    (λ c κs. search needs)
+    (λ c. search needs)
+    (λ c. search needs)
+    (λ c. search needs)
     operator-at-requires
     returns)

@@ -7,21 +7,6 @@ use borrow.Author.Needs.{needs}
 use Rattle.setup.proofs.entries.point.Statement.{statement}
 use Rattle.setup.proofs.entries.point.Tie as tie
 
-counts-requires : tie.Need-counts-requires
-counts-requires c κs = search needs
-
-points-offset-requires : tie.Need-points-offset-requires
-points-offset-requires c κs = search needs
-
-sub-point-at : tie.Need-sub-point-at
-sub-point-at c = search needs
-
-mul-point-at : tie.Need-mul-point-at
-mul-point-at c = search needs
-
-add-point-at : tie.Need-add-point-at
-add-point-at c = search needs
-
 point-at-requires : tie.Need-point-at-requires
 point-at-requires c κs = omega (arith, c .points-offset .ensures .0 ∙ ap pointsOffset (c .before .counts .ensures))
 
@@ -33,10 +18,10 @@ pub point-spec : {M : Type 1} → statement M
 point-spec =
     tie.close
     (tie.spec
-    counts-requires
-    points-offset-requires
-    sub-point-at
-    mul-point-at
-    add-point-at
+    (λ c κs. search needs)
+    (λ c κs. search needs)
+    (λ c. search needs)
+    (λ c. search needs)
+    (λ c. search needs)
     point-at-requires
     returns)

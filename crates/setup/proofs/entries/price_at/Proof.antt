@@ -4,11 +4,8 @@ use borrow.Author.Needs.{needs}
 use Rattle.setup.proofs.entries.price_at.Statement.{statement}
 use Rattle.setup.proofs.entries.price_at.Tie as tie
 
-get-u32-requires : tie.Need-get-u32-requires
-get-u32-requires c κs = search needs
-
 returns : tie.Need-returns
 returns c = rw price-at (cc)
 
 pub price-at-spec : {M : Type 1} → statement M
-price-at-spec = tie.close (tie.spec get-u32-requires returns)
+price-at-spec = tie.close (tie.spec (λ c κs. search needs) returns)

@@ -18,12 +18,6 @@ Inv-loop setup n entry at₀ left₀ at left =
 abbrev μ-loop : tie.MeasureT-loop
 μ-loop setup n entry at₀ left₀ at left = left
 
-account-entry-requires : tie.Need-account-entry-requires Inv-loop μ-loop
-account-entry-requires c κs = search needs
-
-accounts-offset-requires : tie.Need-accounts-offset-requires Inv-loop μ-loop
-accounts-offset-requires c κs = search needs
-
 loop-holds : tie.Need-loop-holds Inv-loop μ-loop
 unfolding accountFaults accountsIn
 loop-holds c =
@@ -43,9 +37,6 @@ account-fault-requires c κs =
     let start = c .before .before .before .before .before .before in
     omega (arith, first-inside (l .inv) (l .left - 1) (omega arith), start .pre .short)
 
-enum-known-r : tie.Need-enum-known-r Inv-loop μ-loop
-enum-known-r c = search needs
-
 returns : tie.Need-returns Inv-loop μ-loop
 returns c =
     let fault = c .before .before .before in
@@ -53,20 +44,11 @@ returns c =
     let l = read .before .before .loop in
     first-fails (l .inv) (l .left - 1) (omega arith) (read .account-at .ensures) (fault .account-fault .ensures) (c .before .r .given .1)
 
-enum-told : tie.Need-enum-told Inv-loop μ-loop
-enum-told c = search needs
-
 add-at : tie.Need-add-at Inv-loop μ-loop
 add-at c =
     let looped = c .before .before .before .before .before in
     let sized = looped .before .before in
     record { fits = omega (arith, looped .loop .inv .inside, sized .account-entry .ensures .1, sized .before .before .pre .short) }
-
-sub-left : tie.Need-sub-left Inv-loop μ-loop
-sub-left c = search needs
-
-loop-less : tie.Need-loop-less Inv-loop μ-loop
-loop-less c = search needs
 
 loop-again : tie.Need-loop-again Inv-loop μ-loop
 loop-again c =
@@ -86,16 +68,16 @@ account-faults-spec =
     (tie.spec
     Inv-loop
     μ-loop
-    account-entry-requires
-    accounts-offset-requires
+    (λ c κs. search needs)
+    (λ c κs. search needs)
     loop-holds
     account-at-requires
     account-fault-requires
-    enum-known-r
+    (λ c. search needs)
     returns
-    enum-told
+    (λ c. search needs)
     add-at
-    sub-left
-    loop-less
+    (λ c. search needs)
+    (λ c. search needs)
     loop-again
     returns-2)

@@ -27,33 +27,12 @@ loop-holds c =
       come-to = ap (λ (n : Counts). firstFault (valuesOf priceWidth estimateValues estimatesOffset (entries priceWidth priceIn (n .hours) (drop estimatesOffset s)))) (c .before .pre .counted);
     }
 
-price-at-requires : tie.Need-price-at-requires Inv-loop μ-loop
-price-at-requires c κs = search needs
-
-estimate-fault-requires : tie.Need-estimate-fault-requires Inv-loop μ-loop
-estimate-fault-requires c κs = search needs
-
-enum-known-r : tie.Need-enum-known-r Inv-loop μ-loop
-enum-known-r c = search needs
-
 returns : tie.Need-returns Inv-loop μ-loop
 returns c =
     let fault = c .before .before .before in
     let read = fault .before in
     let l = read .before .before .loop in
     first-fails (l .inv) (l .left - 1) (omega arith) (read .price-at .ensures) (fault .estimate-fault .ensures) (c .before .r .given .1)
-
-enum-told : tie.Need-enum-told Inv-loop μ-loop
-enum-told c = search needs
-
-add-at : tie.Need-add-at Inv-loop μ-loop
-add-at c = search needs
-
-sub-left : tie.Need-sub-left Inv-loop μ-loop
-sub-left c = search needs
-
-loop-less : tie.Need-loop-less Inv-loop μ-loop
-loop-less c = search needs
 
 loop-again : tie.Need-loop-again Inv-loop μ-loop
 loop-again c =
@@ -72,13 +51,13 @@ estimate-faults-spec =
     Inv-loop
     μ-loop
     loop-holds
-    price-at-requires
-    estimate-fault-requires
-    enum-known-r
+    (λ c κs. search needs)
+    (λ c κs. search needs)
+    (λ c. search needs)
     returns
-    enum-told
-    add-at
-    sub-left
-    loop-less
+    (λ c. search needs)
+    (λ c. search needs)
+    (λ c. search needs)
+    (λ c. search needs)
     loop-again
     returns-2)

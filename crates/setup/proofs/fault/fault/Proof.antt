@@ -6,9 +6,6 @@ use borrow.Author.Needs.{needs}
 use Rattle.setup.proofs.fault.fault.Statement.{statement}
 use Rattle.setup.proofs.fault.fault.Tie as tie
 
-misshapen-requires : tie.Need-misshapen-requires
-misshapen-requires c κs = search needs
-
 returns : tie.Need-returns
 returns c = sym (refused-shape _ (sym (c .before .misshapen .ensures) ∙ c .if1 .taken))
 
@@ -23,4 +20,4 @@ returns-2 c = c .value-fault .ensures ∙ sym (refused-value _ (sym (c .before .
 
 pub fault-spec : {M : Type 1} → statement M
 fault-spec =
-    tie.close (tie.spec misshapen-requires returns counts-requires value-fault-requires returns-2)
+    tie.close (tie.spec (λ c κs. search needs) returns counts-requires value-fault-requires returns-2)

@@ -17,9 +17,6 @@ Inv-loop setup n at₀ left₀ at left = EntriesLeft pointEntry pointIn (pointVa
 abbrev μ-loop : tie.MeasureT-loop
 μ-loop setup n at₀ left₀ at left = left
 
-points-offset-requires : tie.Need-points-offset-requires Inv-loop μ-loop
-points-offset-requires c κs = search needs
-
 loop-holds : tie.Need-loop-holds Inv-loop μ-loop
 unfolding pointFaults pointsIn
 loop-holds c =
@@ -29,33 +26,12 @@ loop-holds c =
       come-to = at-counts (λ (n : Counts) (at : ℕ). firstFault (valuesOf pointEntry (pointValues (accountsIn s) (n .zones)) at (entries pointEntry pointIn (n .points) (drop at s)))) pointsOffset (c .before .before .pre .counted) (c .points-offset .ensures .0);
     }
 
-point-at-requires : tie.Need-point-at-requires Inv-loop μ-loop
-point-at-requires c κs = search needs
-
-point-fault-requires : tie.Need-point-fault-requires Inv-loop μ-loop
-point-fault-requires c κs = search needs
-
-enum-known-r : tie.Need-enum-known-r Inv-loop μ-loop
-enum-known-r c = search needs
-
 returns : tie.Need-returns Inv-loop μ-loop
 returns c =
     let fault = c .before .before .before in
     let read = fault .before in
     let l = read .before .before .loop in
     first-fails (l .inv) (l .left - 1) (omega arith) (read .point-at .ensures) (fault .point-fault .ensures) (c .before .r .given .1)
-
-enum-told : tie.Need-enum-told Inv-loop μ-loop
-enum-told c = search needs
-
-add-at : tie.Need-add-at Inv-loop μ-loop
-add-at c = search needs
-
-sub-left : tie.Need-sub-left Inv-loop μ-loop
-sub-left c = search needs
-
-loop-less : tie.Need-loop-less Inv-loop μ-loop
-loop-less c = search needs
 
 loop-again : tie.Need-loop-again Inv-loop μ-loop
 loop-again c =
@@ -73,15 +49,15 @@ point-faults-spec =
     (tie.spec
     Inv-loop
     μ-loop
-    points-offset-requires
+    (λ c κs. search needs)
     loop-holds
-    point-at-requires
-    point-fault-requires
-    enum-known-r
+    (λ c κs. search needs)
+    (λ c κs. search needs)
+    (λ c. search needs)
     returns
-    enum-told
-    add-at
-    sub-left
-    loop-less
+    (λ c. search needs)
+    (λ c. search needs)
+    (λ c. search needs)
+    (λ c. search needs)
     loop-again
     returns-2)

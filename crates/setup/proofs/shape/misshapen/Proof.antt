@@ -9,19 +9,10 @@ returns : tie.Need-returns
 unfolding misshapen
 returns c = simp (lt-ltb _ _ (c .if1 .taken))
 
-counts-requires : tie.Need-counts-requires
-counts-requires c κs = search needs
-
-bad-counts-requires : tie.Need-bad-counts-requires
-bad-counts-requires c κs = search needs
-
-length-of-requires : tie.Need-length-of-requires
-length-of-requires c κs = search needs
-
 returns-2 : tie.Need-returns-2
 unfolding misshapen
 returns-2 c = simp (le-ltb _ _ (c .before .before .before .if1 .left), c .length-of .ensures, c .before .bad-counts .ensures, c .before .before .counts .ensures)
 
 pub misshapen-spec : {M : Type 1} → statement M
 misshapen-spec =
-    tie.close (tie.spec returns counts-requires bad-counts-requires length-of-requires returns-2)
+    tie.close (tie.spec returns (λ c κs. search needs) (λ c κs. search needs) (λ c κs. search needs) returns-2)

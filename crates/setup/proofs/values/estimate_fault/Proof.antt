@@ -5,12 +5,9 @@ use borrow.Author.Needs.{needs}
 use Rattle.setup.proofs.values.estimate_fault.Statement.{statement}
 use Rattle.setup.proofs.values.estimate_fault.Tie as tie
 
-or-fault-requires : tie.Need-or-fault-requires
-or-fault-requires c κs = search needs
-
 returns : tie.Need-returns
 unfolding estimateValues firstFaultFrom
 returns c = c .or-fault .ensures
 
 pub estimate-fault-spec : {M : Type 1} → statement M
-estimate-fault-spec = tie.close (tie.spec or-fault-requires returns)
+estimate-fault-spec = tie.close (tie.spec (λ c κs. search needs) returns)

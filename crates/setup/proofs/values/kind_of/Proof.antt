@@ -14,9 +14,6 @@ returns-2 : tie.Need-returns-2
 returns-2 c =
     let start = c .before .before .before .before in ap (λ (x : Account). x .kind) (sym (no-account-past _ _ (start .pre .counted) _ (c .if2 .taken)))
 
-account-offset-requires : tie.Need-account-offset-requires
-account-offset-requires c κs = search needs
-
 account-at-requires : tie.Need-account-at-requires
 account-at-requires c κs =
     let start = c .before .before .before .before .before in
@@ -29,4 +26,4 @@ returns-3 c =
 
 pub kind-of-spec : {M : Type 1} → statement M
 kind-of-spec =
-    tie.close (tie.spec returns returns-2 account-offset-requires account-at-requires returns-3)
+    tie.close (tie.spec returns returns-2 (λ c κs. search needs) account-at-requires returns-3)

@@ -4,12 +4,6 @@ use borrow.Author.Needs.{needs}
 use Rattle.setup.proofs.values.or_else.Statement.{statement}
 use Rattle.setup.proofs.values.or_else.Tie as tie
 
-enum-told : tie.Need-enum-told
-enum-told c = search needs
-
-enum-known-first : tie.Need-enum-known-first
-enum-known-first c = search needs
-
 returns : tie.Need-returns
 unfolding orElse
 returns c = rw (c .enum-told .given .1)
@@ -19,4 +13,4 @@ unfolding orElse
 returns-2 c = rw (c .before .first .given .1)
 
 pub or-else-spec : {M : Type 1} → statement M
-or-else-spec = tie.close (tie.spec enum-told enum-known-first returns returns-2)
+or-else-spec = tie.close (tie.spec (λ c. search needs) (λ c. search needs) returns returns-2)

@@ -7,14 +7,8 @@ use Rattle.setup.proofs.values.or_fault.Tie as tie
 returns : tie.Need-returns
 returns c = in-range _ _ (c .if1 .taken)
 
-cast-offset : tie.Need-cast-offset
-cast-offset c = search needs
-
-or-else-requires : tie.Need-or-else-requires
-or-else-requires c κs = search needs
-
 returns-2 : tie.Need-returns-2
 returns-2 c = out-of-range _ _ (c .before .if1 .left) (c .or-else .ensures)
 
 pub or-fault-spec : {M : Type 1} → statement M
-or-fault-spec = tie.close (tie.spec returns cast-offset or-else-requires returns-2)
+or-fault-spec = tie.close (tie.spec returns (λ c. search needs) (λ c κs. search needs) returns-2)

@@ -9,9 +9,6 @@ use borrow.Author.Needs.{needs}
 use Rattle.setup.proofs.values.point_fault.Statement.{statement}
 use Rattle.setup.proofs.values.point_fault.Tie as tie
 
-kind-of-requires : tie.Need-kind-of-requires
-kind-of-requires c κs = search needs
-
 or-fault-requires : tie.Need-or-fault-requires
 or-fault-requires c κs = omega (arith, c .before .before .before .before .before .pre .1)
 
@@ -55,7 +52,7 @@ pub point-fault-spec : {M : Type 1} → statement M
 point-fault-spec =
     tie.close
     (tie.spec
-    kind-of-requires
+    (λ c κs. search needs)
     or-fault-requires
     add-or-fault
     or-fault-requires-2

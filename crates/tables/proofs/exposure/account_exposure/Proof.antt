@@ -28,9 +28,6 @@ Inv-loop book table top number n sum₀ hour₀ sum hour =
 abbrev μ-loop : tie.MeasureT-loop
 μ-loop book table top number n sum₀ hour₀ sum hour = countsIn book .hours + 1 - hour
 
-counts-requires : tie.Need-counts-requires Inv-loop μ-loop
-counts-requires c κs = search needs
-
 loop-holds : tie.Need-loop-holds Inv-loop μ-loop
 loop-holds c = (
   ap (λ (n : Counts). n .hours) (c .counts .ensures),
@@ -40,25 +37,10 @@ loop-holds c = (
   λ rows sums. sum-begins _ _ _ _ (omega arith),
 )
 
-account-hour-requires : tie.Need-account-hour-requires Inv-loop μ-loop
-account-hour-requires c κs = search needs
-
-estimate-requires : tie.Need-estimate-requires Inv-loop μ-loop
-estimate-requires c κs = search needs
-
 hour-exposure-requires : tie.Need-hour-exposure-requires Inv-loop μ-loop
 hour-exposure-requires c κs =
     let start = c .before .before .before .before .before .before .before .before in
     rw (c .estimate .ensures) (estimate-small (start .args .book .now) (c .before .before .before .before .loop .hour) (start .pre .1) (omega arith) (omega arith))
-
-plus-requires : tie.Need-plus-requires Inv-loop μ-loop
-plus-requires c κs = search needs
-
-add-hour : tie.Need-add-hour Inv-loop μ-loop
-add-hour c = search needs
-
-loop-less : tie.Need-loop-less Inv-loop μ-loop
-loop-less c = search needs
 
 loop-again : tie.Need-loop-again Inv-loop μ-loop
 loop-again c =
@@ -85,13 +67,13 @@ account-exposure-spec =
     (tie.spec
     Inv-loop
     μ-loop
-    counts-requires
+    (λ c κs. search needs)
     loop-holds
-    account-hour-requires
-    estimate-requires
+    (λ c κs. search needs)
+    (λ c κs. search needs)
     hour-exposure-requires
-    plus-requires
-    add-hour
-    loop-less
+    (λ c κs. search needs)
+    (λ c. search needs)
+    (λ c. search needs)
     loop-again
     returns)

@@ -29,9 +29,6 @@ Inv-loop book table top operator n sum₀ number₀ sum number =
 abbrev μ-loop : tie.MeasureT-loop
 μ-loop book table top operator n sum₀ number₀ sum number = countsIn book .accounts + 1 - number
 
-counts-requires : tie.Need-counts-requires Inv-loop μ-loop
-counts-requires c κs = search needs
-
 loop-holds : tie.Need-loop-holds Inv-loop μ-loop
 loop-holds c = (
   ap (λ (n : Counts). n .accounts) (c .counts .ensures),
@@ -40,18 +37,6 @@ loop-holds c = (
   search needs,
   λ rows sums. sum-begins _ _ _ _ (omega arith),
 )
-
-exposure-share-requires : tie.Need-exposure-share-requires Inv-loop μ-loop
-exposure-share-requires c κs = search needs
-
-plus-requires : tie.Need-plus-requires Inv-loop μ-loop
-plus-requires c κs = search needs
-
-add-number : tie.Need-add-number Inv-loop μ-loop
-add-number c = search needs
-
-loop-less : tie.Need-loop-less Inv-loop μ-loop
-loop-less c = search needs
 
 loop-again : tie.Need-loop-again Inv-loop μ-loop
 loop-again c =
@@ -75,11 +60,11 @@ exposure-of-spec =
     (tie.spec
     Inv-loop
     μ-loop
-    counts-requires
+    (λ c κs. search needs)
     loop-holds
-    exposure-share-requires
-    plus-requires
-    add-number
-    loop-less
+    (λ c κs. search needs)
+    (λ c κs. search needs)
+    (λ c. search needs)
+    (λ c. search needs)
     loop-again
     returns)

@@ -5,12 +5,6 @@ use borrow.Author.Needs.{needs}
 use Rattle.tables.proofs.exposure.exposure_share.Statement.{statement}
 use Rattle.tables.proofs.exposure.exposure_share.Tie as tie
 
-account-requires : tie.Need-account-requires
-account-requires c κs = search needs
-
-account-exposure-requires : tie.Need-account-exposure-requires
-account-exposure-requires c κs = search needs
-
 returns : tie.Need-returns
 returns c =
     let read = c .before .before .before .account .ensures in
@@ -22,4 +16,4 @@ returns-2 c =
     ((λ rows sums. sym (share-of-others _ rows _ _ _ read (c .if1 .left))), search needs)
 
 pub exposure-share-spec : {M : Type 1} → statement M
-exposure-share-spec = tie.close (tie.spec account-requires account-exposure-requires returns returns-2)
+exposure-share-spec = tie.close (tie.spec (λ c κs. search needs) (λ c κs. search needs) returns returns-2)

@@ -6,15 +6,6 @@ use borrow.Author.Needs.{needs}
 use Rattle.tables.proofs.exposure.hour_exposure.Statement.{statement}
 use Rattle.tables.proofs.exposure.hour_exposure.Tie as tie
 
-short-requires : tie.Need-short-requires
-short-requires c κs = search needs
-
-at-requires : tie.Need-at-requires
-at-requires c κs = search needs
-
-at-requires-2 : tie.Need-at-requires-2
-at-requires-2 c κs = search needs
-
 plus-requires : tie.Need-plus-requires
 plus-requires c κs =
     let start = c .before .before .before in
@@ -34,4 +25,4 @@ returns c =
     (rw (← c .before .before .before .short .ensures) (omega (arith, price-joined price short sales)), omega arith)
 
 pub hour-exposure-spec : {M : Type 1} → statement M
-hour-exposure-spec = tie.close (tie.spec short-requires at-requires at-requires-2 plus-requires returns)
+hour-exposure-spec = tie.close (tie.spec (λ c κs. search needs) (λ c κs. search needs) (λ c κs. search needs) plus-requires returns)

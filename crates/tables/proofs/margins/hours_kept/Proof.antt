@@ -26,18 +26,6 @@ abbrev μ-loop : tie.MeasureT-loop
 loop-holds : tie.Need-loop-holds Inv-loop μ-loop
 loop-holds c = (search needs, search needs, λ rows sums. every-same _ _ _ _ (omega arith))
 
-account-hour-requires : tie.Need-account-hour-requires Inv-loop μ-loop
-account-hour-requires c κs = search needs
-
-keeps-margins-requires : tie.Need-keeps-margins-requires Inv-loop μ-loop
-keeps-margins-requires c κs = search needs
-
-add-hour : tie.Need-add-hour Inv-loop μ-loop
-add-hour c = search needs
-
-loop-less : tie.Need-loop-less Inv-loop μ-loop
-loop-less c = search needs
-
 loop-again : tie.Need-loop-again Inv-loop μ-loop
 loop-again c =
     let l = c .before .before .before .before .loop in (
@@ -64,10 +52,10 @@ hours-kept-spec =
     Inv-loop
     μ-loop
     loop-holds
-    account-hour-requires
-    keeps-margins-requires
-    add-hour
-    loop-less
+    (λ c κs. search needs)
+    (λ c κs. search needs)
+    (λ c. search needs)
+    (λ c. search needs)
     loop-again
     returns
     returns-2)

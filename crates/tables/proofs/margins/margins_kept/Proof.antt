@@ -29,9 +29,6 @@ Inv-loop book table top n number₀ number =
 abbrev μ-loop : tie.MeasureT-loop
 μ-loop book table top n number₀ number = countsIn book .accounts + 1 - number
 
-counts-requires : tie.Need-counts-requires Inv-loop μ-loop
-counts-requires c κs = search needs
-
 loop-holds : tie.Need-loop-holds Inv-loop μ-loop
 loop-holds c =
     let read = c .counts .ensures in (
@@ -41,18 +38,6 @@ loop-holds c =
       search needs,
       λ rows sums. margins-by-account _ rows ∙ every-same _ _ _ _ (omega arith),
     )
-
-margins-requires : tie.Need-margins-requires Inv-loop μ-loop
-margins-requires c κs = search needs
-
-hours-kept-requires : tie.Need-hours-kept-requires Inv-loop μ-loop
-hours-kept-requires c κs = search needs
-
-add-number : tie.Need-add-number Inv-loop μ-loop
-add-number c = search needs
-
-loop-less : tie.Need-loop-less Inv-loop μ-loop
-loop-less c = search needs
 
 loop-again : tie.Need-loop-again Inv-loop μ-loop
 loop-again c =
@@ -85,12 +70,12 @@ margins-kept-spec =
     (tie.spec
     Inv-loop
     μ-loop
-    counts-requires
+    (λ c κs. search needs)
     loop-holds
-    margins-requires
-    hours-kept-requires
-    add-number
-    loop-less
+    (λ c κs. search needs)
+    (λ c κs. search needs)
+    (λ c. search needs)
+    (λ c. search needs)
     loop-again
     returns
     returns-2)

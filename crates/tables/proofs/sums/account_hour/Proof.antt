@@ -4,18 +4,6 @@ use borrow.Author.Needs.{needs}
 use Rattle.tables.proofs.sums.account_hour.Statement.{statement}
 use Rattle.tables.proofs.sums.account_hour.Tie as tie
 
-sum-at-requires : tie.Need-sum-at-requires
-sum-at-requires c κs = search needs
-
-sum-at-requires-2 : tie.Need-sum-at-requires-2
-sum-at-requires-2 c κs = search needs
-
-sum-at-requires-3 : tie.Need-sum-at-requires-3
-sum-at-requires-3 c κs = search needs
-
-sum-at-requires-4 : tie.Need-sum-at-requires-4
-sum-at-requires-4 c κs = search needs
-
 returns : tie.Need-returns
 returns c rows sums =
     let i = c .before .before .before .before .before .pre .1 in
@@ -28,4 +16,4 @@ returns c rows sums =
 pub account-hour-spec : {M : Type 1} → statement M
 account-hour-spec =
     tie.close
-    (tie.spec sum-at-requires sum-at-requires-2 sum-at-requires-3 sum-at-requires-4 returns)
+    (tie.spec (λ c κs. search needs) (λ c κs. search needs) (λ c κs. search needs) (λ c κs. search needs) returns)

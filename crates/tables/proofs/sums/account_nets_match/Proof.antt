@@ -21,18 +21,6 @@ abbrev μ-loop : tie.MeasureT-loop
 loop-holds : tie.Need-loop-holds Inv-loop μ-loop
 loop-holds c = (search needs, search needs, every-same _ _ _ _ (omega arith))
 
-cast-loop : tie.Need-cast-loop Inv-loop μ-loop
-cast-loop c = search needs
-
-net-matches-requires : tie.Need-net-matches-requires Inv-loop μ-loop
-net-matches-requires c κs = search needs
-
-add-hour : tie.Need-add-hour Inv-loop μ-loop
-add-hour c = search needs
-
-loop-less : tie.Need-loop-less Inv-loop μ-loop
-loop-less c = search needs
-
 loop-again : tie.Need-loop-again Inv-loop μ-loop
 loop-again c =
     let l = c .before .before .before .loop in
@@ -53,10 +41,10 @@ account-nets-match-spec =
     Inv-loop
     μ-loop
     loop-holds
-    cast-loop
-    net-matches-requires
-    add-hour
-    loop-less
+    (λ c. search needs)
+    (λ c κs. search needs)
+    (λ c. search needs)
+    (λ c. search needs)
     loop-again
     returns
     returns-2)

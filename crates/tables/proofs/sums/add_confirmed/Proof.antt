@@ -10,12 +10,6 @@ use borrow.Author.Needs.{needs}
 use Rattle.tables.proofs.sums.add_confirmed.Statement.{statement}
 use Rattle.tables.proofs.sums.add_confirmed.Tie as tie
 
-buyer-requires : tie.Need-buyer-requires
-buyer-requires c κs = search needs
-
-seller-requires : tie.Need-seller-requires
-seller-requires c κs = search needs
-
 add-hours-requires : tie.Need-add-hours-requires
 add-hours-requires c κs =
     let start = c .before .before .before .before in
@@ -33,9 +27,6 @@ add-hours-requires-2 c κs =
     let f = first .before .before .before .buyer .ensures in
     ((search needs, search needs, (rw e (sells .0), rw e (sells .1))), (start .pre .1 .tabled, room-past _ _ _ _ _ _ (first .add-hours .ensures) (omega (arith, stride (start .args .top) (slotOf 0 (first .before .before .before .buyer .result)) mostAccounts (omega arith))) (start .pre .1 .room)))
 
-same-length : tie.Need-same-length
-same-length c = search needs
-
 returns : tie.Need-returns
 returns c =
     let second = c .before .before in
@@ -49,9 +40,9 @@ pub add-confirmed-spec : {M : Type 1} → statement M
 add-confirmed-spec =
     tie.close
     (tie.spec
-    buyer-requires
-    seller-requires
+    (λ c κs. search needs)
+    (λ c κs. search needs)
     add-hours-requires
     add-hours-requires-2
-    same-length
+    (λ c. search needs)
     returns)

@@ -15,16 +15,10 @@ add-hours-requires-2 c κs =
     let start = c .before .before .before .before .before .before in
     (search needs, (start .pre .1 .tabled, λ k l. start .pre .1 .room k (omega arith)))
 
-same-length : tie.Need-same-length
-same-length c = search needs
-
 returns : tie.Need-returns
 returns c =
     let start = c .before .before .before .before .before .before .before in
     added-sale _ _ _ (start .pre .1 .tabled) (start .pre .2) (c .before .before .before .before .if1 .taken) (c .before .before .add-hours .ensures)
-
-same-length-2 : tie.Need-same-length-2
-same-length-2 c = search needs
 
 returns-2 : tie.Need-returns-2
 returns-2 c =
@@ -43,8 +37,8 @@ add-pending-spec =
     (tie.spec
     add-hours-requires
     add-hours-requires-2
-    same-length
+    (λ c. search needs)
     returns
-    same-length-2
+    (λ c. search needs)
     returns-2
     returns-3)

@@ -5,20 +5,8 @@ use borrow.Author.Needs.{needs}
 use Rattle.tables.proofs.sums.cell.Statement.{statement}
 use Rattle.tables.proofs.sums.cell.Tie as tie
 
-mul-result : tie.Need-mul-result
-mul-result c = search needs
-
-sub-result : tie.Need-sub-result
-sub-result c = search needs
-
-add-result : tie.Need-add-result
-add-result c = search needs
-
 mul-result-2 : tie.Need-mul-result-2
 mul-result-2 c = omega (arith, cell-fits _ _ _ _ (c .pre .0) (c .pre .1))
-
-sub-result-2 : tie.Need-sub-result-2
-sub-result-2 c = search needs
 
 add-result-2 : tie.Need-add-result-2
 add-result-2 c = omega (arith, cell-fits _ _ _ _ (c .pre .0) (c .pre .1))
@@ -29,4 +17,4 @@ returns c = omega (arith, cell-fits _ _ _ _ (c .pre .0) (c .pre .1))
 pub cell-spec : {M : Type 1} → statement M
 cell-spec =
     tie.close
-    (tie.spec mul-result sub-result add-result mul-result-2 sub-result-2 add-result-2 returns)
+    (tie.spec (λ c. search needs) (λ c. search needs) (λ c. search needs) mul-result-2 (λ c. search needs) add-result-2 returns)

@@ -30,9 +30,6 @@ loop-holds c =
     let start = c .before .before in
     (search needs, search needs, search needs, start .pre .2 .tabled, filling-none _ _ _ (start .pre .0))
 
-row-at-requires : tie.Need-row-at-requires Inv-loop μ-loop
-row-at-requires c κs = search needs
-
 add-row-requires : tie.Need-add-row-requires Inv-loop μ-loop
 add-row-requires c κs =
     let l = c .before .before .before .loop in
@@ -41,15 +38,6 @@ add-row-requires c κs =
     let first = rw step at (l .inv .3) in
     let r : Tabled (c .before .before .before .before .before .before .args .top) (c .before .row-at .result) = rw (c .before .row-at .ensures) (each-first first) in
     (search needs, record { tabled = r; room = filling-room _ _ _ _ _ (l .inv .4) r (omega arith) })
-
-add-place : tie.Need-add-place Inv-loop μ-loop
-add-place c = search needs
-
-sub-left : tie.Need-sub-left Inv-loop μ-loop
-sub-left c = search needs
-
-loop-less : tie.Need-loop-less Inv-loop μ-loop
-loop-less c = search needs
 
 loop-again : tie.Need-loop-again Inv-loop μ-loop
 loop-again c =
@@ -65,9 +53,6 @@ loop-again c =
       filling-next _ _ _ _ _ _ _ _ step (omega arith) (each-first rows) (rw (t .before .before .row-at .ensures) at (t .add-row .ensures)) (l .inv .4),
     )
 
-same-length : tie.Need-same-length Inv-loop μ-loop
-same-length c = search needs
-
 returns : tie.Need-returns Inv-loop μ-loop
 returns c = let l = c .before .loop in filling-done _ _ _ _ (rows-done _ _ _ (c .loop-test .left)) (omega (arith, c .before .before .before .before .pre .0 .whole)) (omega arith) (l .inv .4)
 
@@ -78,11 +63,11 @@ fill-spec =
     Inv-loop
     μ-loop
     loop-holds
-    row-at-requires
+    (λ c κs. search needs)
     add-row-requires
-    add-place
-    sub-left
-    loop-less
+    (λ c. search needs)
+    (λ c. search needs)
+    (λ c. search needs)
     loop-again
-    same-length
+    (λ c. search needs)
     returns)

@@ -23,15 +23,6 @@ loop-holds : tie.Need-loop-holds Inv-loop μ-loop
 unfolding netsStored
 loop-holds c = (search needs, search needs, refl)
 
-account-nets-match-requires : tie.Need-account-nets-match-requires Inv-loop μ-loop
-account-nets-match-requires c κs = search needs
-
-add-account : tie.Need-add-account Inv-loop μ-loop
-add-account c = search needs
-
-loop-less : tie.Need-loop-less Inv-loop μ-loop
-loop-less c = search needs
-
 loop-again : tie.Need-loop-again Inv-loop μ-loop
 loop-again c =
     let l = c .before .before .before .loop in
@@ -52,9 +43,9 @@ nets-match-spec =
     Inv-loop
     μ-loop
     loop-holds
-    account-nets-match-requires
-    add-account
-    loop-less
+    (λ c κs. search needs)
+    (λ c. search needs)
+    (λ c. search needs)
     loop-again
     returns
     returns-2)

@@ -5,14 +5,8 @@ use borrow.Author.Needs.{needs}
 use Rattle.tables.proofs.sums.place.Statement.{statement}
 use Rattle.tables.proofs.sums.place.Tie as tie
 
-sub-result : tie.Need-sub-result
-sub-result c = search needs
-
 mul-result : tie.Need-mul-result
 mul-result c = omega (arith, place-fits _ _ _ (c .pre .0))
-
-sub-result-2 : tie.Need-sub-result-2
-sub-result-2 c = search needs
 
 add-result : tie.Need-add-result
 add-result c = omega (arith, place-fits _ _ _ (c .pre .0))
@@ -21,4 +15,4 @@ returns : tie.Need-returns
 returns c = omega (arith, place-fits _ _ _ (c .pre .0))
 
 pub place-spec : {M : Type 1} → statement M
-place-spec = tie.close (tie.spec sub-result mul-result sub-result-2 add-result returns)
+place-spec = tie.close (tie.spec (λ c. search needs) mul-result (λ c. search needs) add-result returns)

@@ -3,17 +3,8 @@ use borrow.Author.Needs.{needs}
 use Rattle.tables.proofs.sums.sum_at.Statement.{statement}
 use Rattle.tables.proofs.sums.sum_at.Tie as tie
 
-cell-requires : tie.Need-cell-requires
-cell-requires c κs = search needs
-
-mul-result : tie.Need-mul-result
-mul-result c = search needs
-
-shared-slice-read-result : tie.Need-shared-slice-read-result
-shared-slice-read-result c = search needs
-
 returns : tie.Need-returns
 returns c = rw (c .before .cell .ensures .is)
 
 pub sum-at-spec : {M : Type 1} → statement M
-sum-at-spec = tie.close (tie.spec cell-requires mul-result shared-slice-read-result returns)
+sum-at-spec = tie.close (tie.spec (λ c κs. search needs) (λ c. search needs) (λ c. search needs) returns)

@@ -3,17 +3,8 @@ use borrow.Author.Needs.{needs}
 use Rattle.valuation.proofs.congruity.is_taken.Statement.{statement}
 use Rattle.valuation.proofs.congruity.is_taken.Tie as tie
 
-price-number-requires : tie.Need-price-number-requires
-price-number-requires c κs = search needs
-
-price-requires : tie.Need-price-requires
-price-requires c κs = search needs
-
-taken-at-requires : tie.Need-taken-at-requires
-taken-at-requires c κs = search needs
-
 returns : tie.Need-returns
 returns c = rw (← c .before .before .price-number .ensures, ← c .before .price .ensures) (c .taken-at .ensures)
 
 pub is-taken-spec : {M : Type 1} → statement M
-is-taken-spec = tie.close (tie.spec price-number-requires price-requires taken-at-requires returns)
+is-taken-spec = tie.close (tie.spec (λ c κs. search needs) (λ c κs. search needs) (λ c κs. search needs) returns)

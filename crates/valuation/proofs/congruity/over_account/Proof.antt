@@ -12,20 +12,11 @@ cell-for-requires c κs =
     let cell = account-read-in-cells _ (pre .0) _ (pre .1 .in-range) _ (pre .1 .its-point) in
     search needs
 
-add-k : tie.Need-add-k
-add-k c = search needs
-
 net-at-requires : tie.Need-net-at-requires
 net-at-requires c κs =
     let pre = c .before .before .before .pre in
     let at = account-hour-stands _ (pre .0) _ (pre .1 .in-range) _ (pre .1 .its-point) in
     (pre .0, at .0, at .1)
-
-account-limit-requires : tie.Need-account-limit-requires
-account-limit-requires c κs = search needs
-
-mul-passes : tie.Need-mul-passes
-mul-passes c = search needs
 
 shared-slice-read-passes : tie.Need-shared-slice-read-passes
 shared-slice-read-passes c =
@@ -33,9 +24,6 @@ shared-slice-read-passes c =
     let pre = placed .before .before .before .pre in
     let cell = account-read-in-cells _ (pre .0) _ (pre .1 .in-range) _ (pre .1 .its-point) in
     omega (arith, placed .cell-for .ensures, pre .2, cell)
-
-passes-requires : tie.Need-passes-requires
-passes-requires c κs = search needs
 
 returns : tie.Need-returns
 returns c =
@@ -47,10 +35,10 @@ over-account-spec =
     tie.close
     (tie.spec
     cell-for-requires
-    add-k
+    (λ c. search needs)
     net-at-requires
-    account-limit-requires
-    mul-passes
+    (λ c κs. search needs)
+    (λ c. search needs)
     shared-slice-read-passes
-    passes-requires
+    (λ c κs. search needs)
     returns)

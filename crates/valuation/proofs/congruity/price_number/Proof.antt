@@ -5,14 +5,8 @@ use borrow.Author.Needs.{needs}
 use Rattle.valuation.proofs.congruity.price_number.Statement.{statement}
 use Rattle.valuation.proofs.congruity.price_number.Tie as tie
 
-cast-result : tie.Need-cast-result
-cast-result c = search needs
-
 mul-result : tie.Need-mul-result
 mul-result c = record { fits = product-fits 32 (search needs) (search needs) }
-
-cast-result-2 : tie.Need-cast-result-2
-cast-result-2 c = search needs
 
 add-result : tie.Need-add-result
 add-result c =
@@ -22,13 +16,10 @@ add-result c =
 returns : tie.Need-returns
 returns c = rw (c .before .before .if1 .taken)
 
-cast-result-3 : tie.Need-cast-result-3
-cast-result-3 c = search needs
-
 returns-2 : tie.Need-returns-2
 returns-2 c = rw (c .before .if1 .left)
 
 pub price-number-spec : {M : Type 1} → statement M
 price-number-spec =
     tie.close
-    (tie.spec cast-result mul-result cast-result-2 add-result returns cast-result-3 returns-2)
+    (tie.spec (λ c. search needs) mul-result (λ c. search needs) add-result returns (λ c. search needs) returns-2)

@@ -26,9 +26,6 @@ is-taken-requires c κs =
     let pre = read .before .before .before .before .pre in
     price-stands _ (pre .0 .is-book) _ (pre .1 .0 .in-range) _ (pre .0) _ _ (read .counts .ensures) (pre .1 .0 .its-point)
 
-ranked-result-requires : tie.Need-ranked-result-requires
-ranked-result-requires c κs = search needs
-
 returns : tie.Need-returns
 returns c =
     let tested = c .before in
@@ -46,5 +43,5 @@ result-of-spec =
     over-point-requires
     over-account-requires
     is-taken-requires
-    ranked-result-requires
+    (λ c κs. search needs)
     returns)

@@ -4,17 +4,11 @@ use borrow.Author.Needs.{needs}
 use Rattle.valuation.proofs.congruity.taken_at.Statement.{statement}
 use Rattle.valuation.proofs.congruity.taken_at.Tie as tie
 
-at-most-requires : tie.Need-at-most-requires
-at-most-requires c κs = search needs
-
 returns : tie.Need-returns
 returns c = rw (eq-eqb _ 1 (c .before .if1 .taken)) (c .at-most .ensures)
-
-at-most-requires-2 : tie.Need-at-most-requires-2
-at-most-requires-2 c κs = search needs
 
 returns-2 : tie.Need-returns-2
 returns-2 c = rw (ne-eqb _ 1 (c .before .if1 .left)) (c .at-most2 .ensures)
 
 pub taken-at-spec : {M : Type 1} → statement M
-taken-at-spec = tie.close (tie.spec at-most-requires returns at-most-requires-2 returns-2)
+taken-at-spec = tie.close (tie.spec (λ c κs. search needs) returns (λ c κs. search needs) returns-2)

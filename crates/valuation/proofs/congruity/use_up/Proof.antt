@@ -5,18 +5,6 @@ use borrow.Author.Needs.{needs}
 use Rattle.valuation.proofs.congruity.use_up.Statement.{statement}
 use Rattle.valuation.proofs.congruity.use_up.Tie as tie
 
-share-requires : tie.Need-share-requires
-share-requires c κs = search needs
-
-cell-for-requires : tie.Need-cell-for-requires
-cell-for-requires c κs = search needs
-
-cell-for-requires-2 : tie.Need-cell-for-requires-2
-cell-for-requires-2 c κs = search needs
-
-add-at-account : tie.Need-add-at-account
-add-at-account c = search needs
-
 add-to-requires : tie.Need-add-to-requires
 add-to-requires c κs =
     let cells = c .before .before in
@@ -35,9 +23,6 @@ add-to-requires-2 c κs =
     (start .pre .1 .0)
     (omega (arith, cells .cell-for2 .ensures))
 
-same-length : tie.Need-same-length
-same-length c = search needs
-
 returns : tie.Need-returns
 returns c u net t before place e by =
     let second = c .before .before in
@@ -51,11 +36,11 @@ pub use-up-spec : {M : Type 1} → statement M
 use-up-spec =
     tie.close
     (tie.spec
-    share-requires
-    cell-for-requires
-    cell-for-requires-2
-    add-at-account
+    (λ c κs. search needs)
+    (λ c κs. search needs)
+    (λ c κs. search needs)
+    (λ c. search needs)
     add-to-requires
     add-to-requires-2
-    same-length
+    (λ c. search needs)
     returns)
