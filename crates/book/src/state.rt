@@ -45,8 +45,8 @@ pub fn batch_open(book: &[u8]) -> bool
 // How many rows there are, withdrawn ones too.
 pub fn row_count(book: &[u8]) -> u16
     requires { ⌜ isBook (now book) ≡ true ⌝ }
-    ensures { λ r. ⌜ r ≡ length (bookIn (now (book .entry)) .part .rows) ⌝ }
-    ensures bound { λ r. ⌜ r ≤ mostRows ⌝ }
+    ensures meaning { λ r. ⌜ r ≡ length (bookIn (now (book .entry)) .part .rows) ⌝ }
+    ensures bounded { λ r. ⌜ r ≤ mostRows ⌝ }
 {
     get_u16(book, PRESENT_OFFSET + ROW_COUNT_OFFSET)
 }
@@ -54,8 +54,8 @@ pub fn row_count(book: &[u8]) -> u16
 // How many schedules there are.
 pub fn schedule_count(book: &[u8]) -> u16
     requires { ⌜ isBook (now book) ≡ true ⌝ }
-    ensures { λ r. ⌜ r ≡ length (bookIn (now (book .entry)) .schedules) ⌝ }
-    ensures bound { λ r. ⌜ r ≤ mostSchedules ⌝ }
+    ensures meaning { λ r. ⌜ r ≡ length (bookIn (now (book .entry)) .schedules) ⌝ }
+    ensures bounded { λ r. ⌜ r ≤ mostSchedules ⌝ }
 {
     get_u16(book, SCHEDULE_COUNT_OFFSET)
 }
@@ -64,8 +64,8 @@ pub fn schedule_count(book: &[u8]) -> u16
 pub fn saved_row_count(book: &[u8]) -> u16
     requires { ⌜ isBook (now book) ≡ true ⌝ }
     requires { ⌜ isSome (bookIn (now book) .saved) ≡ true ⌝ }
-    ensures { λ r. ⌜ (let b = bookIn (now (book .entry)) in r ≡ length (restored (b .saved) (b .part) .rows)) ⌝ }
-    ensures bound { λ r. ⌜ r ≤ length (bookIn (now (book .entry)) .part .rows) ⌝ }
+    ensures meaning { λ r. ⌜ (let b = bookIn (now (book .entry)) in r ≡ length (restored (b .saved) (b .part) .rows)) ⌝ }
+    ensures bounded { λ r. ⌜ r ≤ length (bookIn (now (book .entry)) .part .rows) ⌝ }
 {
     get_u16(book, SAVED_OFFSET + ROW_COUNT_OFFSET)
 }
@@ -92,7 +92,7 @@ pub fn operator_of(book: &[u8], number: u8) -> u8
     requires { ⌜ (isBook (now book) ≡ true) × IsAccount (bookIn (now book)) number ⌝ }
     ensures meaning { λ r. ⌜ r ≡ operatorOf (bookIn (now (book .entry)) .setup) number ⌝ }
     ensures inside { λ r. ⌜ IsOperator (bookIn (now (book .entry))) r ⌝ }
-    ensures bound { λ r. ⌜ r ≤ mostOperators ⌝ }
+    ensures bounded { λ r. ⌜ r ≤ mostOperators ⌝ }
 {
     let entry = account(book, number);
     entry.operator

@@ -13,7 +13,7 @@ use borrow.Author.Tests.{ne-eqb}
 use Rattle.rules.specs.declared.Row.{Row}
 use Rattle.rules.specs.declared.Request.{Request}
 use Rattle.rules.specs.declared.Refusal.the-variants.{NoSuchRow, NotMirrored, MarginBroken, Uncovered}
-use Rattle.rules.specs.Basics.{indexOf, nth, counting}
+use Rattle.rules.specs.Basics.{nth, counting}
 use Rattle.rules.specs.Limits.{mostHours}
 use Rattle.rules.specs.Verdicts.{accepted}
 use Rattle.rules.specs.Books.{Setup, Book, noRow, operatorOf, periods, marginsAt}
@@ -35,7 +35,7 @@ use Rattle.book.proofs.StateLaws.{book-is-sound}
 use Rattle.book.proofs.BookRows.{sound-tabled, numbered-sound}
 use Rattle.book.proofs.WorthLaws.{with-confirmed}
 use Rattle.book.proofs.Answers.{decided-clear, Answered}
-use Rattle.registration.specs.Confirming.{Confirming, WaitsIn}
+use Rattle.registration.specs.Confirming.{numberAlike, Confirming, WaitsIn}
 use Rattle.registration.specs.Margins.{AccountTrade, broken}
 use Rattle.registration.specs.Cover.{exposureWithTrade, coveredWithTrade}
 use Rattle.registration.specs.Positions.{netsMoved, markedConfirmed}
@@ -85,7 +85,7 @@ module _ (b : Book) (q : Request) (number : ℕ) (first : b .phase ≡ 1) (same 
         record { in-registration = first; named = omega (arith, same); row = row ∙ ap (λ (n : ℕ). nth (b .part .rows) n noRow) same; terms = w }
 
 -- the number that is found is that of the row which confirm names
-pub confirmed-found : (b : Book) (q : Request) → numberFrom (indexOf (alike (q .other) (q .account) (q .code)) (b .part .rows)) ≡ confirmedNumber b q
+pub confirmed-found : (b : Book) (q : Request) → numberAlike (q .other) (q .account) (q .code) (b .part .rows) ≡ confirmedNumber b q
 unfolding confirms
 confirmed-found b q = refl
 

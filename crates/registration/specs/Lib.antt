@@ -1,7 +1,7 @@
 -- What the contracts of `registration` say.
 -- Proposing: the row that a register proposes, and what is written of it.
 pub mod Proposing
--- Confirming: the row that a confirm names, and a pending row.
+-- Confirming: the pending row that a confirm names.
 pub mod Confirming
 -- Margins: what the search for a broken margin is asked and finds.
 pub mod Margins

@@ -42,8 +42,8 @@ use wire::numbers::put_u8;
 // The number of the row that the request confirms, or 0.
 fn confirmed_number(book: &[u8], request: Request) -> u16
     requires { ⌜ isBook (now book) ≡ true ⌝ }
-    ensures { λ r. ⌜ r ≡ confirmedNumber (bookIn (now (book .entry))) request ⌝ }
-    ensures bound { λ r. ⌜ r ≤ length (bookIn (now (book .entry)) .part .rows) ⌝ }
+    ensures meaning { λ r. ⌜ r ≡ confirmedNumber (bookIn (now (book .entry))) request ⌝ }
+    ensures bounded { λ r. ⌜ r ≤ length (bookIn (now (book .entry)) .part .rows) ⌝ }
 {
     pending_number(book, request.other, request.account, request.code)
 }

@@ -3,13 +3,12 @@ ghost use mathlib.Core.Path.{_≡_};
 ghost use mathlib.Core.Bool.{true};
 ghost use Prim.Native.Nat.{_+_, _*_, _≤_};
 ghost use lib.ListN.{length, take, drop};
-ghost use Rattle.rules.specs.Basics.{indexOf};
 ghost use Rattle.rules.specs.Registration.{alike};
-ghost use Rattle.rules.specs.Calls.{numberFrom};
 ghost use Rattle.image.specs.Image.{rowIn};
 ghost use Rattle.image.specs.Valid.{isBook, bookIn};
 ghost use Rattle.image.specs.Cells.{rowsFrom};
 ghost use Rattle.image.specs.Layout.{rowWidth};
+ghost use Rattle.registration.specs.Confirming.{numberAlike};
 use book::state::row_count;
 use image::layout::PRESENT_OFFSET;
 use image::layout::ROW_WIDTH;
@@ -21,7 +20,7 @@ use rules::statuses::PENDING;
 use wire::numbers::get_u8;
 use wire::numbers::get_u64;
 
-// The row from `at` on is pending with this proposer, counterparty and code. Codes mostly differ, so that the code is looked at first.
+// Whether the row from `at` on is pending with this proposer, counterparty and code. Codes mostly differ, so that the code is tested first.
 fn alike_at(book: &[u8], at: usize, proposer: u8, counterparty: u8, code: u64) -> bool
     requires { ⌜ at + rowWidth ≤ length (now book) ⌝ }
     ensures { λ b. ⌜ b ≡ alike proposer counterparty code (rowIn (take rowWidth (drop at (now (book .entry))))) ⌝ }
@@ -35,7 +34,7 @@ fn alike_at(book: &[u8], at: usize, proposer: u8, counterparty: u8, code: u64) -
     (status == PENDING) & (first == proposer) & (second == counterparty)
 }
 
-// Of the `n` rows from `at` on, the number of the first that is so; 0 where there is none.
+// Of the `n` rows from `at` on, the number of the first pending one with this proposer, counterparty and code; 0 where there is none.
 fn number_among(
     book: &[u8],
     at: usize,
@@ -45,7 +44,7 @@ fn number_among(
     code: u64,
 ) -> usize
     requires { ⌜ at + rowWidth * n ≤ length (now book) ⌝ }
-    ensures { λ r. ⌜ r ≡ numberFrom (indexOf (alike proposer counterparty code) (rowsFrom (now (book .entry)) at n)) ⌝ }
+    ensures { λ r. ⌜ r ≡ numberAlike proposer counterparty code (rowsFrom (now (book .entry)) at n) ⌝ }
 {
     let mut k = at;
     let mut passed = 0;
@@ -59,11 +58,11 @@ fn number_among(
     0
 }
 
-// The number of the book's first row that is so, or 0.
+// The number of the book's first such row, or 0.
 pub fn pending_number(book: &[u8], proposer: u8, counterparty: u8, code: u64) -> u16
     requires { ⌜ isBook (now book) ≡ true ⌝ }
-    ensures { λ r. ⌜ r ≡ numberFrom (indexOf (alike proposer counterparty code) (bookIn (now (book .entry)) .part .rows)) ⌝ }
-    ensures bound { λ r. ⌜ r ≤ length (bookIn (now (book .entry)) .part .rows) ⌝ }
+    ensures meaning { λ r. ⌜ r ≡ numberAlike proposer counterparty code (bookIn (now (book .entry)) .part .rows) ⌝ }
+    ensures bounded { λ r. ⌜ r ≤ length (bookIn (now (book .entry)) .part .rows) ⌝ }
 {
     let n = row_count(book) as usize;
     number_among(

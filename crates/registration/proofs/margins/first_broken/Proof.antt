@@ -64,13 +64,13 @@ loop-again : tie.Need-loop-again Inv-loop μ-loop
 loop-again c =
     let k = c .before in
     let x = k .before .before in
-    let l = x .before .before .before .loop in
-    let test = breaks-tested _ _ _ _ _ _ _ _ _ (l .inv .0) (x .account-hour .ensures) (k .before .after-trade .ensures) (k .keeps-margins .ensures) in (
+    let l = x .before .before .before .loop in (
       l .inv .0,
       omega arith,
       omega arith,
       l .inv .3,
-      l .inv .4 ∙ find-next _ _ _ _ (omega arith) (test ∙ ap not (c .if2 .taken)),
+      l .inv .4 ∙ find-next _ _ _ _ (omega arith) (breaks-tested _ _ _ _ _ _ _ _ _ (l .inv .0) (x .account-hour .ensures) (k .before .after-trade .ensures) (k .keeps-margins .ensures)
+          ∙ ap not (c .if2 .taken)),
     )
 
 returns : tie.Need-returns Inv-loop μ-loop
