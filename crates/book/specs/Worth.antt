@@ -18,6 +18,8 @@ use Rattle.book.specs.declared.worth.AccountEntries.{AccountEntries}
 use Rattle.book.specs.declared.worth.Added.{Added}
 use Rattle.book.specs.declared.worth.Added.the-variants.{Nothing, One}
 
+-- ---- the accounts' entries, and the rows that are to be added
+
 -- where these bytes have the entries of the accounts
 abbrev pub entriesIn : List ℕ → AccountEntries
 entriesIn s = record { from = accountsOffset (countsIn s); width = accountEntry (countsIn s) }

@@ -38,9 +38,9 @@ pub enum Added {
 }
 
 // Where the entries of the accounts are: the first begins at `from`, and each is `width` bytes long.
-pub struct AccountEntries {
-    pub from: usize,
-    pub width: usize,
+struct AccountEntries {
+    from: usize,
+    width: usize,
 }
 
 // How many sums of prices there are: one for each hour that a day can have, and one for no hour.
