@@ -4,7 +4,7 @@ mod cases;
 
 use test_lines::case_end;
 
-fn walk(input: &[u8], room: &mut [u8]) {
+fn run_cases(input: &[u8], room: &mut [u8]) {
     let mut at = 0;
     while at < input.len() {
         let end = case_end(input, at);
@@ -17,5 +17,5 @@ fn main() {
     let mut space = io::large_buffer();
     let mut room = io::large_buffer();
     let n = io::read_full(libc::STDIN_FILENO, &mut space);
-    walk(&space[..n], &mut room);
+    run_cases(&space[..n], &mut room);
 }

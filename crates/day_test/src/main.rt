@@ -37,7 +37,7 @@ fn run_next(
     true
 }
 
-fn walk(
+fn run_cases(
     head: &mut [u8],
     body: &mut [u8],
     book: &mut [u8],
@@ -63,7 +63,7 @@ fn main() {
     let n = io::count(BOOK_SIZE, &book);
     let m = io::count(BOOK_SIZE, &remembered);
     let k = io::count(BOOK_SIZE, &before);
-    walk(
+    run_cases(
         &mut head,
         &mut body,
         &mut book[..n],

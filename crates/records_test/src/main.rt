@@ -5,7 +5,7 @@ mod cases;
 use rules::Counts;
 use test_lines::case_end;
 
-fn walk(input: &[u8]) {
+fn run_cases(input: &[u8]) {
     let mut counts = Counts {
         hours: 0,
         operators: 0,
@@ -24,5 +24,5 @@ fn walk(input: &[u8]) {
 fn main() {
     let mut space = io::large_buffer();
     let n = io::read_full(libc::STDIN_FILENO, &mut space);
-    walk(&space[..n]);
+    run_cases(&space[..n]);
 }

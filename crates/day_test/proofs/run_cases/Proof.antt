@@ -2,8 +2,8 @@
 use mathlib.Core.Path.{_≡_}
 use lib.ListN.{length}
 use borrow.Author.Needs.{needs}
-use Rattle.day_test.proofs.walk.Statement.{statement}
-use Rattle.day_test.proofs.walk.Tie as tie
+use Rattle.day_test.proofs.run_cases.Statement.{statement}
+use Rattle.day_test.proofs.run_cases.Tie as tie
 
 abbrev Inv-loop : tie.InvT-loop
 Inv-loop head₀ body₀ book₀ remembered₀ before₀ left₀ head body book remembered before left =
@@ -16,8 +16,8 @@ Inv-loop head₀ body₀ book₀ remembered₀ before₀ left₀ head body book 
 abbrev μ-loop : tie.MeasureT-loop
 μ-loop head₀ body₀ book₀ remembered₀ before₀ left₀ head body book remembered before left = left
 
-pub walk-spec : {M : Type 1} → statement M
-walk-spec =
+pub run-cases-spec : {M : Type 1} → statement M
+run-cases-spec =
     tie.close
     (tie.spec
     Inv-loop

@@ -1,9 +1,9 @@
--- The walk stays within the input, and the measure is what is left of it: every case has an end past its start.
+-- The loop stays within the input, and the measure is what is left of it: every case has an end past its start.
 use Prim.Native.Nat.{_≤_, _-_}
 use lib.ListN.{length}
 use borrow.Author.Needs.{needs}
-use Rattle.records_test.proofs.walk.Statement.{statement}
-use Rattle.records_test.proofs.walk.Tie as tie
+use Rattle.records_test.proofs.run_cases.Statement.{statement}
+use Rattle.records_test.proofs.run_cases.Tie as tie
 
 abbrev Inv-loop : tie.InvT-loop
 Inv-loop input counts₀ at₀ counts at = at ≤ length input
@@ -11,8 +11,8 @@ Inv-loop input counts₀ at₀ counts at = at ≤ length input
 abbrev μ-loop : tie.MeasureT-loop
 μ-loop input counts₀ at₀ counts at = length input - at
 
-pub walk-spec : {M : Type 1} → statement M
-walk-spec =
+pub run-cases-spec : {M : Type 1} → statement M
+run-cases-spec =
     tie.close
     (tie.spec
     Inv-loop
