@@ -158,13 +158,17 @@ unfolding signed
 length-signed w (pos n) = length-le w n
 length-signed w (negsuc n) = length-le w _
 
--- whole turns change no byte
-turn : (w x y n : ℕ) → y ≡ x + 256 ^ w * n → le w x ≡ le w y
-turn w x y n e = le-same w x y (sym (ap (λ (v : ℕ). v % 256 ^ w) e ∙ add-mul-mod-self-left x (256 ^ w) n))
+-- multiples of 256^w change no byte
+pub le-wraps : (w x y m n : ℕ) → x + 256 ^ w * m ≡ y + 256 ^ w * n → le w x ≡ le w y
+le-wraps w x y m n e =
+    le-same w x y (sym (add-mul-mod-self-left x (256 ^ w) m) ∙ ap (λ (v : ℕ). v % 256 ^ w) e ∙ add-mul-mod-self-left y (256 ^ w) n)
 
--- all ones and one are a whole turn
-ones : (m n : ℕ) → 1 ≤ m → (m - 1) * n + n ≡ m * n
-ones m n h = let e : m ≡ suc (m - 1) = omega arith in sym (ap (λ (k : ℕ). k * n) e ∙ suc-mul (m - 1) n)
+-- all ones and one are 256^w
+pub ones : (w n : ℕ) → (256 ^ w - 1) * n + n ≡ 256 ^ w * n
+ones w n =
+    let h : 1 ≤ 256 ^ w = one-le-pow w 256 (omega arith) in
+    let e : 256 ^ w ≡ suc (256 ^ w - 1) = omega arith in
+    sym (ap (λ (k : ℕ). k * n) e ∙ suc-mul (256 ^ w - 1) n)
 
 -- a difference is what is added, and all ones for each that is taken away
 pub signed-sub : (w b s : ℕ) → signed w (subℕ b s) ≡ le w (b + (256 ^ w - 1) * s)
@@ -177,26 +181,24 @@ signed-sub w b s = go (ltb b s) refl
         let k : ℕ = 256 ^ w - 1 in
         let p : s ≡ suc (s - suc b) + b = omega arith in
         let q : k * s ≡ k * suc (s - suc b) + k * b = ap (λ (x : ℕ). k * x) p ∙ mul-add k (suc (s - suc b)) b in
-        turn w (k * suc (s - suc b)) (b + k * s) b (omega (arith, ones (256 ^ w) b (one-le-pow w 256 (omega arith))))
+        le-wraps w (k * suc (s - suc b)) (b + k * s) b 0 (omega (arith, ones w b))
     go false e =
         let h = ltb-false b s e in
-        turn w (b - s) (b + (256 ^ w - 1) * s) s (omega (arith, ones (256 ^ w) s (one-le-pow w 256 (omega arith))))
+        le-wraps w (b - s) (b + (256 ^ w - 1) * s) s 0 (omega (arith, ones w s))
 
--- the same, of a word to which the second number adds up to the first, but for whole turns
+-- the same, of a word to which the second number adds up to the first, but for a multiple of 256^w
 pub signed-difference : (w b s r : ℕ) → (r + s) % 256 ^ w ≡ b → le w r ≡ signed w (subℕ b s)
 signed-difference w b s r e =
     let m : ℕ = 256 ^ w in
     let q : ℕ = (r + s) / m in
     let split : b + m * q ≡ r + s = ap (λ (x : ℕ). x + m * q) (sym e) ∙ mod-add-div (r + s) m in
-    turn w r (r + m * s) s refl
-    ∙ sym (turn w (b + (m - 1) * s) (r + m * s) q (omega (arith, ones m s (one-le-pow w 256 (omega arith)))))
-    ∙ sym (signed-sub w b s)
+    le-wraps w r (b + (m - 1) * s) s q (omega (arith, ones w s)) ∙ sym (signed-sub w b s)
 
 -- two's complement
 pub signed-minus : (w n : ℕ) → n < 256 ^ w → signed w (negsuc n) ≡ le w (256 ^ w - suc n)
 unfolding signed
 signed-minus w n h =
-    sym (turn w (256 ^ w - suc n) ((256 ^ w - 1) * suc n) n (omega (arith, ones (256 ^ w) (suc n) (omega arith))))
+    sym (le-wraps w (256 ^ w - suc n) ((256 ^ w - 1) * suc n) n 0 (omega (arith, ones w (suc n))))
 
 -- minus a number, as a word, is its signed number
 pub minus-signed : (w v : ℕ) → v ≤ 256 ^ w → le w (minusWord w v) ≡ signed w (negℤ (pos v))
@@ -216,7 +218,7 @@ minus-back n h =
     let lacks : 2 ^ 64 - suc m ≡ n = omega arith in
     rw (signed-minus 8 n (omega arith), back, le-ltb m (2 ^ 63) (omega arith), lt-ltb m (2 ^ 64) (omega arith), lacks)
 
--- a signed number less than half a turn from zero reads back from its 8 bytes
+-- a signed number less than 2^63 from zero reads back from its 8 bytes
 pub figure-back : (z : ℤ) → natAbs z < 2 ^ 63 → figureIn (signed 8 z) ≡ z
 figure-back (pos n) h = plus-back n h
 figure-back (negsuc n) h = minus-back n (omega arith)

@@ -72,7 +72,7 @@ module _ (s : List ℕ) (at w : ℕ) (h : at + w ≤ length s) where
 
 -- ---- the steps
 
--- a number raised: v is written, which is so much more but for whole turns
+-- a number raised: v is written, which is so much more but for a multiple of 256^w
 pub raised-step : (w : ℕ) (s : List ℕ) (at more v : ℕ) → v % 256 ^ w ≡ (numberAt s at w + more) % 256 ^ w
     → splice s at (raised w more (take w (drop at s))) ≡ splice s at (le w v)
 unfolding raised numberAt

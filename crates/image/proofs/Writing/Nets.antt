@@ -5,7 +5,7 @@ use mathlib.Core.Path.{_≡_, refl, sym, ap, _∙_}
 use mathlib.Core.Logic.{_⊎_, inl, inr, ⊎-elim}
 use mathlib.Core.List.{List, [], map}
 use mathlib.Core.Bool.{true, and-false}
-use native.Mathlib.Nat.{add-zero, add-mul-mod-self-left, mod-add-div, mul-add, suc-mul, one-le-pow, mul-le-mul-left}
+use native.Mathlib.Nat.{add-zero, mod-add-div, mul-add, mul-le-mul-left}
 use native.Mathlib.Omega.{arith}
 use lib.ListN.{length, getD, set, length-map, length-set}
 use lib.Seq.{ext-getD, getD-set-same, getD-set-other}
@@ -14,7 +14,7 @@ use lib.IntN.{subℕ}
 use borrow.Author.Tests.{le-leb, lt-leb, eq-eqb, ne-eqb}
 use Rattle.wire.specs.Numbers.{number, le, signed}
 use Rattle.wire.specs.Parts.{flat, sweep, over}
-use Rattle.wire.proofs.NumberLaws.{length-le, length-signed, number-le-rest, le-same, signed-sub}
+use Rattle.wire.proofs.NumberLaws.{length-le, length-signed, number-le-rest, le-wraps, ones, signed-sub}
 use Rattle.wire.proofs.PartLaws.{before}
 use Rattle.wire.proofs.SlotLaws.{Uniform, uniform-map, before-uniform, length-uniform, map-get}
 use Rattle.wire.proofs.SweepLaws.{sweep-flat, sweep-cells, length-over, over-in, over-out}
@@ -39,18 +39,13 @@ module _ (w : ℕ) where
   unfolding raised
   length-raised more c h = length-le w (number c + more)
 
-  -- whole turns change no byte
-  turned : (x y m n : ℕ) → x + 256 ^ w * m ≡ y + 256 ^ w * n → le w x ≡ le w y
-  turned x y m n e =
-      le-same w x y (sym (add-mul-mod-self-left x (256 ^ w) m) ∙ ap (λ (v : ℕ). v % 256 ^ w) e ∙ add-mul-mod-self-left y (256 ^ w) n)
-
   pub raised-le : (v more : ℕ) → raised w more (le w v) ≡ le w (v + more)
   unfolding raised
   raised-le v more =
       let m : ℕ = 256 ^ w in
       let q : ℕ = v / m in
       let split : v % m + m * q ≡ v = mod-add-div v m in
-      rw (number-le-rest w v) (turned (v % m + more) (v + more) q 0 (omega arith))
+      rw (number-le-rest w v) (le-wraps w (v % m + more) (v + more) q 0 (omega arith))
 
   -- so much more bought
   pub raised-bought : (b s q : ℕ) → raised w q (signed w (subℕ b s)) ≡ signed w (subℕ (b + q) s)
@@ -64,13 +59,10 @@ module _ (w : ℕ) where
   raised-sold b s q h =
       let m : ℕ = 256 ^ w in
       let k : ℕ = m - 1 in
-      let l : 1 ≤ m = one-le-pow w 256 (omega arith) in
-      let p : m ≡ suc k = omega arith in
-      let d : m * q ≡ k * q + q = ap (λ (x : ℕ). x * q) p ∙ suc-mul k q in
       let a : k * (s + q) ≡ k * s + k * q = mul-add k s q in
       ap (raised w (m - q)) (signed-sub w b s)
       ∙ raised-le (b + k * s) (m - q)
-      ∙ turned (b + k * s + (m - q)) (b + k * (s + q)) q 1 (omega arith)
+      ∙ le-wraps w (b + k * s + (m - q)) (b + k * (s + q)) q 1 (omega (arith, ones w q))
       ∙ sym (signed-sub w b (s + q))
 
 -- ---- nets by account and hour

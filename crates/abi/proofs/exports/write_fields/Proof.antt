@@ -12,7 +12,10 @@ returns c = rw (ne-eqb _ _ (c .if1 .taken)) (refl, refl)
 
 returns-2 : tie.Need-returns-2
 unfolding fieldsOutcome fieldsWritten
-returns-2 c = rw (eq-eqb _ _ (c .before .before .before .before .before .if1 .left), ← c .before .before .before .before .request-in .ensures) (c .before .before .write .ensures)
+returns-2 c =
+    let written = c .before .before in
+    let read = written .before .before in
+    rw (eq-eqb _ _ (read .before .if1 .left), ← read .request-in .ensures) (written .write .ensures)
 
 pub write-fields-spec : {M : Type 1} → statement M
 write-fields-spec =

@@ -9,7 +9,11 @@ returns : tie.Need-returns
 returns c = no-room _ _ (c .if1 .taken)
 
 returns-2 : tie.Need-returns-2
-returns-2 c = let w = room (c .before .before .before .before .before .before .before .args .said .now) (c .before .before .before .before .before .before .before .args .buffer .now) (search needs) in (w .0, c .before .before .copy-in .ensures ∙ w .1)
+returns-2 c =
+    let copied = c .before .before in
+    let start = copied .before .before .before .before .before in
+    let fits = room (start .args .said .now) (start .args .buffer .now) (search needs) in
+    (fits .0, copied .copy-in .ensures ∙ fits .1)
 
 pub lend-spec : {M : Type 1} → statement M
 lend-spec = tie.close (tie.spec returns (λ c κs. search needs) (λ c. search needs) returns-2)

@@ -42,15 +42,8 @@ pub check-ranges-spec : {M : Type 1} → statement M
 check-ranges-spec =
     tie.close
     (tie.spec
-    withdrawal-fields-requires
-    guarantee-fields-requires
-    schedule-fields-requires
-    trade-fields-requires
-    (λ c. search needs)
-    (λ c. search needs)
-    (λ c. search needs)
+    withdrawal-fields-requires guarantee-fields-requires schedule-fields-requires trade-fields-requires
+    (λ c. search needs) (λ c. search needs) (λ c. search needs)
     returns-4
     (λ c. search needs)
-    returns-6
-    returns-7
-    returns-8)
+    returns-6 returns-7 returns-8)

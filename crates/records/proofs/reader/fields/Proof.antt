@@ -58,16 +58,10 @@ pub fields-spec : {M : Type 1} → statement M
 fields-spec =
     tie.close
     (tie.spec
-    Inv-loop
-    μ-loop
-    get-u16-requires
-    loop-holds
+    Inv-loop μ-loop get-u16-requires loop-holds
     (λ c κs. search needs)
     number-at-requires
-    (λ c. search needs)
-    (λ c. search needs)
+    (λ c. search needs) (λ c. search needs)
     add-at
-    (λ c. search needs)
-    (λ c. search needs)
-    loop-again
-    returns)
+    (λ c. search needs) (λ c. search needs)
+    loop-again returns)

@@ -53,15 +53,10 @@ pub number-at-spec : {M : Type 1} → statement M
 number-at-spec =
     tie.close
     (tie.spec
-    Inv-loop
-    μ-loop
+    Inv-loop μ-loop
     (λ c. search needs)
     loop-holds
+    (λ c. search needs) (λ c. search needs)
+    cast-v mul-v add-v
     (λ c. search needs)
-    (λ c. search needs)
-    cast-v
-    mul-v
-    add-v
-    (λ c. search needs)
-    loop-again
-    returns)
+    loop-again returns)

@@ -30,9 +30,7 @@ read-spec =
     tie.close
     (tie.spec
     (λ c κs. search needs)
-    returns
-    get-u8-requires
+    returns get-u8-requires
     (λ c κs. search needs)
-    returns-2
-    read-as-requires
+    returns-2 read-as-requires
     (λ c. search needs))

@@ -55,15 +55,10 @@ pub put-fields-spec : {M : Type 1} → statement M
 put-fields-spec =
     tie.close
     (tie.spec
-    Inv-loop
-    μ-loop
-    loop-holds
-    (λ c κs. search needs)
-    (λ c κs. search needs)
-    put-number-requires
-    add-at
-    (λ c. search needs)
-    (λ c. search needs)
+    Inv-loop μ-loop loop-holds
+    (λ c κs. search needs) (λ c κs. search needs)
+    put-number-requires add-at
+    (λ c. search needs) (λ c. search needs)
     loop-again
     (λ c. search needs)
     returns)

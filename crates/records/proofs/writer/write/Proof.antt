@@ -37,11 +37,4 @@ returns-3 c =
 pub write-spec : {M : Type 1} → statement M
 write-spec =
     tie.close
-    (tie.spec
-    (λ c κs. search needs)
-    returns
-    wanted-length-requires
-    returns-2
-    put-record-requires
-    (λ c. search needs)
-    returns-3)
+    (tie.spec (λ c κs. search needs) returns wanted-length-requires returns-2 put-record-requires (λ c. search needs) returns-3)
