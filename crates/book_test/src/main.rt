@@ -1,4 +1,4 @@
-// Walks the cases on standard input: puts bytes into a room and prints what opening, the check of a book and the readings say of
+// Runs the cases on standard input: puts bytes into a room and prints what opening, the check of a book and the readings say of
 // them. tests/README.md has the form of a case; tests/paper.py makes the input and what is to be printed.
 mod cases;
 

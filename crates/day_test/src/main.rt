@@ -1,4 +1,4 @@
-// Walks the cases on standard input: opens books, calls, reads, and prints what the public functions answer and whether a refused call
+// Runs the cases on standard input: opens books, calls, reads, and prints what the public functions answer and whether a refused call
 // changed a byte. tests/README.md has the form of a case; tests/days makes the input and what is to be printed.
 mod cases;
 
