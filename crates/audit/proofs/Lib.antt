@@ -7,7 +7,7 @@ pub mod PartTests
 pub mod SetupTests
 -- Local: bytes are a book by tests that each look at one place.
 pub mod Local
--- CheckLaws: the tests of a row and of a schedule as code joins them.
+-- CheckLaws: the tests of a row and of a schedule as code joins them, and a loop that tests entry after entry.
 pub mod CheckLaws
 -- FollowLaws: saved rows followed by present ones.
 pub mod FollowLaws

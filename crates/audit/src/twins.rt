@@ -75,7 +75,7 @@ fn key_after(codes: &[u64], pairs: &[u64], i: usize, n: usize) -> bool
     found
 }
 
-// The same, where what was `seen` at the key's mark is 0 only if there is none: then nothing is searched.
+// The same, with what was `seen` at the key's mark: where that is 0 the key does not repeat, and nothing is searched.
 fn key_again(codes: &[u64], pairs: &[u64], i: usize, n: usize, seen: u8) -> bool
     requires { ⌜ KeyPlaces (now codes) (now pairs) × (i < n) × (n ≤ mostRows) × (seen ≡ 0 → keyRepeats (now codes) (now pairs) i n ≡ false) ⌝ }
     ensures { λ b. ⌜ b ≡ keyRepeats (now (codes .entry)) (now (pairs .entry)) i n ⌝ }

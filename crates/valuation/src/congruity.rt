@@ -175,7 +175,7 @@ fn add_to(table: &mut [u32], k: usize, q: u32)
     table[k] = table[k] + q;
 }
 
-// A schedule of that result more: a congruous one uses up its quantity of its point's and its account's limits.
+// Counts a schedule of that result: a congruous one uses up its quantity of its point's and its account's limits.
 pub fn use_up(used: &mut [u32], account: u8, x: Schedule, result: u8)
     requires { ⌜ InCells mostPoints (x .point) x × InCells mostAccounts account x ⌝ }
     requires { ⌜ (length (now used) ≡ usedCells) × Room (now used) 0 (x .quantity .0) ⌝ }

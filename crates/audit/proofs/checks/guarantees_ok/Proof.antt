@@ -1,7 +1,7 @@
 -- After each guarantee, what was tested so far and the test of those that are left together are the test of all.
 use Prim.Native.Nat.{_+_, _-_, _*_, _≤_}
-use mathlib.Core.Path.{_≡_, refl, ap}
-use mathlib.Core.Bool.{Bool, _&&_}
+use mathlib.Core.Path.{refl, ap}
+use mathlib.Core.Bool.{Bool}
 use native.Mathlib.Omega.{arith}
 use lib.ListN.{length}
 use lib.Dec.{leb}
@@ -13,7 +13,7 @@ use Rattle.rules.specs.Basics.{every}
 use Rattle.rules.specs.Limits.{mostGuarantee}
 use Rattle.rules.specs.Opening.{guaranteeWidth}
 use Rattle.image.specs.Cells.{guaranteesFrom}
-use Rattle.image.proofs.Reading.RowsFrom.{every-done, every-step}
+use Rattle.audit.proofs.CheckLaws.{TestsLeft, tested-next, tested-all}
 use Rattle.audit.proofs.checks.guarantees_ok.Statement.{statement}
 use Rattle.audit.proofs.checks.guarantees_ok.Tie as tie
 
@@ -23,28 +23,23 @@ small g = leb (g .0) mostGuarantee
 abbrev Inv-loop : tie.InvT-loop
 Inv-loop s at n ok₀ k₀ left₀ ok k left =
     (k + guaranteeWidth * left ≤ length s)
-    × (every small (guaranteesFrom s at n) ≡ (ok && every small (guaranteesFrom s k left)))
+    × TestsLeft (λ x. cents (number x)) guaranteeWidth small s (every small (guaranteesFrom s at n)) ok k left
 
 abbrev μ-loop : tie.MeasureT-loop
 μ-loop s at n ok₀ k₀ left₀ ok k left = left
 
 loop-holds : tie.Need-loop-holds Inv-loop μ-loop
-loop-holds c = (search needs, refl)
+unfolding guaranteesFrom
+loop-holds c = (search needs, record { together = refl })
 
 loop-again : tie.Need-loop-again Inv-loop μ-loop
-unfolding guaranteesFrom numberAt
+unfolding numberAt
 loop-again c =
-    let b = c .before .before in
-    let l = b .loop in (
-      search needs,
-      every-step (λ x. cents (number x)) guaranteeWidth (l .ok) small (b .before .before .args .s .now) (l .k) (l .left) (l .left - 1) (omega arith) (ap cents (c .get-u64 .ensures)) refl (l .inv .1),
-    )
+    let l = c .before .before .loop in
+    (search needs, tested-next (l .inv .1) (l .left - 1) (omega arith) (ap cents (c .get-u64 .ensures)) refl)
 
 returns : tie.Need-returns Inv-loop μ-loop
-unfolding guaranteesFrom
-returns c =
-    let l = c .before .loop in
-    every-done (λ x. cents (number x)) guaranteeWidth (l .ok) small (c .before .before .before .args .s .now) (l .k) (l .left) (omega arith) (l .inv .1)
+returns c = tested-all (c .before .loop .inv .1) (omega arith)
 
 pub guarantees-ok-spec : {M : Type 1} → statement M
 guarantees-ok-spec =

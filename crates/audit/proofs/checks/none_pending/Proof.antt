@@ -1,45 +1,40 @@
 -- No row is pending where each is not; after each row, what was tested so far and the test of the rows that are left together are the test
 -- of all.
 use Prim.Native.Nat.{_+_, _-_, _*_, _≤_}
-use mathlib.Core.Path.{_≡_, refl}
-use mathlib.Core.Bool.{not, _&&_}
+use mathlib.Core.Path.{refl}
+use mathlib.Core.Bool.{not}
 use native.Mathlib.Omega.{arith}
 use lib.ListN.{length}
 use borrow.Author.Needs.{needs}
-use Rattle.rules.specs.Basics.{anyPasses, every}
+use Rattle.rules.specs.Basics.{anyPasses}
 use Rattle.rules.specs.Registration.{pending}
 use Rattle.image.specs.Image.{rowIn}
 use Rattle.image.specs.Cells.{rowsFrom}
 use Rattle.image.specs.Layout.{rowWidth}
-use Rattle.image.proofs.Reading.RowsFrom.{every-done, every-step, not-any}
+use Rattle.image.proofs.Reading.RowsFrom.{not-any}
+use Rattle.audit.proofs.CheckLaws.{TestsLeft, tested-next, tested-all}
 use Rattle.audit.proofs.checks.none_pending.Statement.{statement}
 use Rattle.audit.proofs.checks.none_pending.Tie as tie
 
 abbrev Inv-loop : tie.InvT-loop
 Inv-loop s at n ok₀ k₀ left₀ ok k left =
     (k + rowWidth * left ≤ length s)
-    × (not (anyPasses pending (rowsFrom s at n)) ≡ (ok && every (λ r. not (pending r)) (rowsFrom s k left)))
+    × TestsLeft rowIn rowWidth (λ r. not (pending r)) s (not (anyPasses pending (rowsFrom s at n))) ok k left
 
 abbrev μ-loop : tie.MeasureT-loop
 μ-loop s at n ok₀ k₀ left₀ ok k left = left
 
 loop-holds : tie.Need-loop-holds Inv-loop μ-loop
-loop-holds c = (search needs, not-any pending _)
+unfolding rowsFrom
+loop-holds c = (search needs, record { together = not-any pending _ })
 
 loop-again : tie.Need-loop-again Inv-loop μ-loop
-unfolding rowsFrom
 loop-again c =
-    let b = c .before .before .before in
-    let l = b .loop in (
-      search needs,
-      every-step rowIn rowWidth (l .ok) (λ r. not (pending r)) (b .before .before .args .s .now) (l .k) (l .left) (l .left - 1) (omega arith) (c .before .row-at .ensures) refl (l .inv .1),
-    )
+    let l = c .before .before .before .loop in
+    (search needs, tested-next (l .inv .1) (l .left - 1) (omega arith) (c .before .row-at .ensures) refl)
 
 returns : tie.Need-returns Inv-loop μ-loop
-unfolding rowsFrom
-returns c =
-    let l = c .before .loop in
-    every-done rowIn rowWidth (l .ok) (λ r. not (pending r)) (c .before .before .before .args .s .now) (l .k) (l .left) (omega arith) (l .inv .1)
+returns c = tested-all (c .before .loop .inv .1) (omega arith)
 
 pub none-pending-spec : {M : Type 1} → statement M
 none-pending-spec =

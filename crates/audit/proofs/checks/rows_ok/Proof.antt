@@ -1,7 +1,6 @@
 -- After each row, what was tested so far and the test of the rows that are left together are the test of all.
 use Prim.Native.Nat.{_+_, _-_, _*_, _≤_}
 use mathlib.Core.Path.{_≡_, refl}
-use mathlib.Core.Bool.{_&&_}
 use native.Mathlib.Omega.{arith}
 use lib.ListN.{length}
 use borrow.Author.Needs.{needs}
@@ -11,35 +10,29 @@ use Rattle.image.specs.Image.{rowIn}
 use Rattle.image.specs.Valid.{rowOk}
 use Rattle.image.specs.Cells.{rowsFrom}
 use Rattle.image.specs.Layout.{rowWidth}
-use Rattle.image.proofs.Reading.RowsFrom.{every-done, every-step}
+use Rattle.audit.proofs.CheckLaws.{TestsLeft, tested-next, tested-all}
 use Rattle.audit.proofs.checks.rows_ok.Statement.{statement}
 use Rattle.audit.proofs.checks.rows_ok.Tie as tie
 
 abbrev Inv-loop : tie.InvT-loop
 Inv-loop s at n accounts hours ok₀ k₀ left₀ ok k left =
     (k + rowWidth * left ≤ length s)
-    × ((u : Setup) → accountCount u ≡ accounts → periods u ≡ hours → every (rowOk u) (rowsFrom s at n) ≡ (ok && every (rowOk u) (rowsFrom s k left)))
+    × ((u : Setup) → accountCount u ≡ accounts → periods u ≡ hours → TestsLeft rowIn rowWidth (rowOk u) s (every (rowOk u) (rowsFrom s at n)) ok k left)
 
 abbrev μ-loop : tie.MeasureT-loop
 μ-loop s at n accounts hours ok₀ k₀ left₀ ok k left = left
 
 loop-holds : tie.Need-loop-holds Inv-loop μ-loop
-loop-holds c = (search needs, λ u n h. refl)
+unfolding rowsFrom
+loop-holds c = (search needs, λ u n h. record { together = refl })
 
 loop-again : tie.Need-loop-again Inv-loop μ-loop
-unfolding rowsFrom
 loop-again c =
-    let b = c .before .before .before in
-    let l = b .loop in (
-      search needs,
-      λ u n h. every-step rowIn rowWidth (l .ok) (rowOk u) (b .before .before .args .s .now) (l .k) (l .left) (l .left - 1) (omega arith) (c .before .row-at .ensures) (c .row-ok .ensures u n h) (l .inv .1 u n h),
-    )
+    let l = c .before .before .before .loop in
+    (search needs, λ u n h. tested-next (l .inv .1 u n h) (l .left - 1) (omega arith) (c .before .row-at .ensures) (c .row-ok .ensures u n h))
 
 returns : tie.Need-returns Inv-loop μ-loop
-unfolding rowsFrom
-returns c u n h =
-    let l = c .before .loop in
-    every-done rowIn rowWidth (l .ok) (rowOk u) (c .before .before .before .args .s .now) (l .k) (l .left) (omega arith) (l .inv .1 u n h)
+returns c u n h = tested-all (c .before .loop .inv .1 u n h) (omega arith)
 
 pub rows-ok-spec : {M : Type 1} → statement M
 rows-ok-spec =

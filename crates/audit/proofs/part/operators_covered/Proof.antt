@@ -1,18 +1,16 @@
 -- The first operator that is not covered decides; where none was found, all are covered if those that are left are.
 use Prim.Native.Nat.{_+_, _-_, _≤_}
 use mathlib.Core.Path.{_≡_, _∙_, sym, ap}
-use mathlib.Core.List.{List}
 use native.Mathlib.Omega.{arith}
 use borrow.Author.Needs.{needs}
 use Rattle.rules.specs.declared.Counts.{Counts}
-use Rattle.rules.specs.declared.Row.{Row}
 use Rattle.rules.specs.Basics.{every, counting}
 use Rattle.rules.specs.Opening.{countsIn, setupOf}
 use Rattle.rules.specs.Registration.{covered}
 use Rattle.rules.proofs.Setups.SetupEntries.{counts-of-setup}
 use Rattle.rules.proofs.Basics.CountingLaws.{every-done, every-next, every-fails, every-same}
 use Rattle.image.specs.Valid.{operatorsCovered}
-use Rattle.tables.specs.Sums.{SumsOf}
+use Rattle.tables.specs.Sums.{ForRowsSummedIn}
 use Rattle.audit.specs.Validity.{partWith}
 use Rattle.audit.proofs.part.operators_covered.Statement.{statement}
 use Rattle.audit.proofs.part.operators_covered.Tie as tie
@@ -22,8 +20,8 @@ Inv-loop book at table top n number₀ number =
     (n .operators ≡ countsIn book .operators)
     × (1 ≤ number)
     × (number ≤ countsIn book .operators + 1)
-    × ((rows : List Row) → SumsOf top rows table
-    → operatorsCovered (setupOf book) (partWith book at rows)
+    × ForRowsSummedIn top table (λ rows.
+    operatorsCovered (setupOf book) (partWith book at rows)
     ≡ every (covered (setupOf book) (partWith book at rows)) (counting (countsIn book .operators + 1 - number) number))
 
 abbrev μ-loop : tie.MeasureT-loop

@@ -1,16 +1,13 @@
 -- After each hour, the sum so far and the exposure of the hours that are left together are that of all hours.
-use Prim.Native.Nat.{ℕ, _+_, _-_, _*_, _^_, _≤_}
+use Prim.Native.Nat.{ℕ, _+_, _-_, _*_, _≤_}
 use mathlib.Core.Path.{_≡_, _∙_, sym, ap}
-use mathlib.Core.List.{List}
 use native.Mathlib.Omega.{arith}
 use borrow.Author.Needs.{needs}
 use Rattle.rules.specs.declared.Counts.{Counts}
-use Rattle.rules.specs.declared.Row.{Row}
 use Rattle.rules.specs.Basics.{total, counting}
-use Rattle.rules.specs.Limits.{mostPrice}
 use Rattle.rules.specs.Opening.{countsIn}
 use Rattle.rules.proofs.Basics.CountingLaws.{sum-begins, sum-next, sum-done}
-use Rattle.tables.specs.Sums.{SumsOf}
+use Rattle.tables.specs.Sums.{ForRowsSummedIn, mostHourExposure}
 use Rattle.tables.proofs.ExposureLaws.{hourExposure, hour-exposure-read, exposure-by-hour, estimate-small}
 use Rattle.tables.proofs.exposure.account_exposure.Statement.{statement}
 use Rattle.tables.proofs.exposure.account_exposure.Tie as tie
@@ -20,9 +17,9 @@ Inv-loop book table top number n sum₀ hour₀ sum hour =
     (n .hours ≡ countsIn book .hours)
     × (1 ≤ hour)
     × (hour ≤ countsIn book .hours + 1)
-    × (sum .0 ≤ (hour - 1) * (mostPrice * 2 ^ 33))
-    × ((rows : List Row) → SumsOf top rows table
-    → sum .0 + total (hourExposure book rows number) (counting (countsIn book .hours + 1 - hour) hour)
+    × (sum .0 ≤ (hour - 1) * mostHourExposure)
+    × ForRowsSummedIn top table (λ rows.
+    sum .0 + total (hourExposure book rows number) (counting (countsIn book .hours + 1 - hour) hour)
     ≡ total (hourExposure book rows number) (counting (countsIn book .hours) 1))
 
 abbrev μ-loop : tie.MeasureT-loop

@@ -1,17 +1,13 @@
 -- After each account, the sum so far and what the accounts that are left add together are the operator's exposure.
-use Prim.Native.Nat.{ℕ, _+_, _-_, _*_, _^_, _≤_}
+use Prim.Native.Nat.{ℕ, _+_, _-_, _*_, _≤_}
 use mathlib.Core.Path.{_≡_, _∙_, sym, ap}
-use mathlib.Core.List.{List}
 use native.Mathlib.Omega.{arith}
 use borrow.Author.Needs.{needs}
 use Rattle.rules.specs.declared.Counts.{Counts}
-use Rattle.rules.specs.declared.Row.{Row}
 use Rattle.rules.specs.Basics.{total, counting}
-use Rattle.rules.specs.Limits.{mostPrice}
 use Rattle.rules.specs.Opening.{countsIn, setupOf}
-use Rattle.image.specs.Layout.{mostPeriods}
 use Rattle.rules.proofs.Basics.CountingLaws.{sum-begins, sum-next, sum-done}
-use Rattle.tables.specs.Sums.{SumsOf, exposureShare}
+use Rattle.tables.specs.Sums.{ForRowsSummedIn, exposureShare, mostAccountExposure}
 use Rattle.tables.proofs.ExposureLaws.{exposure-by-account}
 use Rattle.tables.proofs.exposure.exposure_of.Statement.{statement}
 use Rattle.tables.proofs.exposure.exposure_of.Tie as tie
@@ -21,9 +17,9 @@ Inv-loop book table top operator n sum₀ number₀ sum number =
     (n .accounts ≡ countsIn book .accounts)
     × (1 ≤ number)
     × (number ≤ countsIn book .accounts + 1)
-    × (sum .0 ≤ (number - 1) * (mostPeriods * (mostPrice * 2 ^ 33)))
-    × ((rows : List Row) → SumsOf top rows table
-    → sum .0 + total (exposureShare (setupOf book) rows operator) (counting (countsIn book .accounts + 1 - number) number)
+    × (sum .0 ≤ (number - 1) * mostAccountExposure)
+    × ForRowsSummedIn top table (λ rows.
+    sum .0 + total (exposureShare (setupOf book) rows operator) (counting (countsIn book .accounts + 1 - number) number)
     ≡ total (exposureShare (setupOf book) rows operator) (counting (countsIn book .accounts) 1))
 
 abbrev μ-loop : tie.MeasureT-loop

@@ -1,14 +1,12 @@
 -- The first hour that breaks a margin decides; where none was found, all keep them if those that are left do.
 use Prim.Native.Nat.{_+_, _-_, _≤_}
 use mathlib.Core.Path.{_≡_, _∙_, sym, ap}
-use mathlib.Core.List.{List}
 use native.Mathlib.Omega.{arith}
 use borrow.Author.Needs.{needs}
-use Rattle.rules.specs.declared.Row.{Row}
 use Rattle.rules.specs.Basics.{every, counting}
 use Rattle.rules.specs.Registration.{accountHour, keepsMargins}
 use Rattle.rules.proofs.Basics.CountingLaws.{every-done, every-next, every-fails, every-same}
-use Rattle.tables.specs.Sums.{SumsOf}
+use Rattle.tables.specs.Sums.{ForRowsSummedIn}
 use Rattle.tables.proofs.margins.hours_kept.Statement.{statement}
 use Rattle.tables.proofs.margins.hours_kept.Tie as tie
 
@@ -16,8 +14,8 @@ abbrev Inv-loop : tie.InvT-loop
 Inv-loop table top margins number hours hour₀ hour =
     (1 ≤ hour)
     × (hour ≤ hours + 1)
-    × ((rows : List Row) → SumsOf top rows table
-    → every (λ h. keepsMargins margins (accountHour rows number h)) (counting hours 1)
+    × ForRowsSummedIn top table (λ rows.
+    every (λ h. keepsMargins margins (accountHour rows number h)) (counting hours 1)
     ≡ every (λ h. keepsMargins margins (accountHour rows number h)) (counting (hours + 1 - hour) hour))
 
 abbrev μ-loop : tie.MeasureT-loop

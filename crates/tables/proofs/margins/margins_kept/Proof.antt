@@ -1,17 +1,15 @@
 -- The first account that breaks a margin decides; where none was found, all keep them if those that are left do.
 use Prim.Native.Nat.{_+_, _-_, _≤_}
 use mathlib.Core.Path.{_≡_, _∙_, sym, ap}
-use mathlib.Core.List.{List}
 use native.Mathlib.Omega.{arith}
 use borrow.Author.Needs.{needs}
 use Rattle.rules.specs.declared.Counts.{Counts}
-use Rattle.rules.specs.declared.Row.{Row}
 use Rattle.rules.specs.Basics.{every, nth, counting}
 use Rattle.rules.specs.Books.{noAccount, marginsOf}
 use Rattle.rules.specs.Opening.{countsIn, setupOf, accountsIn}
 use Rattle.rules.proofs.Basics.CountingLaws.{every-done, every-next, every-fails, every-same}
 use Rattle.image.specs.Valid.{marginsKept}
-use Rattle.tables.specs.Sums.{SumsOf}
+use Rattle.tables.specs.Sums.{ForRowsSummedIn}
 use Rattle.tables.proofs.MarginLaws.{accountKeeps, margins-by-account, account-kept}
 use Rattle.tables.proofs.margins.margins_kept.Statement.{statement}
 use Rattle.tables.proofs.margins.margins_kept.Tie as tie
@@ -22,8 +20,8 @@ Inv-loop book table top n number₀ number =
     × (n .hours ≡ countsIn book .hours)
     × (1 ≤ number)
     × (number ≤ countsIn book .accounts + 1)
-    × ((rows : List Row) → SumsOf top rows table
-    → marginsKept (setupOf book) rows
+    × ForRowsSummedIn top table (λ rows.
+    marginsKept (setupOf book) rows
     ≡ every (λ a. accountKeeps rows (marginsOf (nth (accountsIn book) a noAccount)) (countsIn book .hours) a) (counting (countsIn book .accounts + 1 - number) number))
 
 abbrev μ-loop : tie.MeasureT-loop
