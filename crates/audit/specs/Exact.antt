@@ -28,6 +28,7 @@ netMatches rows a h stored = eqb ((stored + sold rows a h) % 256 ^ netWidth) (bo
 unfoldable pub netsMatch : ℕ → List Row → List ℕ → ℕ → Bool
 netsMatch top rows s at = every (λ a. every (λ h. netMatches rows a h (numberAt s (at + netOffset top a h) netWidth)) (upTo top)) (upTo mostAccounts)
 
+-- the tests of a part: zeros past its guarantees and past its rows, and the nets of its rows
 abbrev pub partExactTests : ℕ → ℕ → List ℕ → ℕ → List Bool
 partExactTests top operators s at =
     zerosFrom s (at + guaranteeWidth * operators) (guaranteeWidth * mostOperators - guaranteeWidth * operators)
@@ -44,6 +45,7 @@ unfoldable pub savedExact : ℕ → ℕ → ℕ → List ℕ → Bool
 savedExact zero top operators s = zerosFrom s (savedOffset top) (partSize top)
 savedExact (suc flag) top operators s = partExact top operators s (savedOffset top)
 
+-- the tests of a book, in the order of its sections
 abbrev pub bookExactTests : ℕ → ℕ → List ℕ → List Bool
 bookExactTests top size s =
     zerosFrom s (setupLength (countsIn s)) (setupRoom - setupLength (countsIn s))
@@ -55,5 +57,6 @@ bookExactTests top size s =
     ∷ zerosFrom s (usedSize top) (size - usedSize top)
     ∷ []
 
+-- all of these hold
 unfoldable pub bookExact : ℕ → ℕ → List ℕ → Bool
 bookExact top size s = allOf (bookExactTests top size s)

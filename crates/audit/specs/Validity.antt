@@ -31,6 +31,7 @@ setupValidTests s =
     ∷ zerosFrom s (setupLength (countsIn s)) (setupRoom - setupLength (countsIn s))
     ∷ []
 
+-- all of these hold
 unfoldable pub setupValid : List ℕ → Bool
 setupValid s = allOf (setupValidTests s)
 
@@ -44,10 +45,11 @@ pub record SetupKnown (top : ℕ) (s : List ℕ) : Type 0 where
 
 -- ---- a part, the present and the saved one alike
 
--- how many rows the part that begins at `at` says that it has, and those rows
+-- how many rows the part that begins at `at` says that it has
 abbrev pub rowCount : List ℕ → ℕ → ℕ
 rowCount s at = numberAt s (at + rowCountOffset) 2
 
+-- those rows
 abbrev pub rowsOf : List ℕ → ℕ → List Row
 rowsOf s at = rowsFrom s (at + rowsOffset) (rowCount s at)
 
@@ -73,6 +75,7 @@ guaranteesValidTests s at operators =
     ∷ zerosFrom s (at + guaranteeWidth * operators) (guaranteeWidth * mostOperators - guaranteeWidth * operators)
     ∷ []
 
+-- both hold
 unfoldable pub guaranteesValid : List ℕ → ℕ → ℕ → Bool
 guaranteesValid s at operators = allOf (guaranteesValidTests s at operators)
 
@@ -84,6 +87,7 @@ rowsValidTests s at n =
     ∷ noTwins (rowsFrom s (at + rowsOffset) n)
     ∷ []
 
+-- all of these hold
 unfoldable pub rowsValid : List ℕ → ℕ → ℕ → Bool
 rowsValid s at n = allOf (rowsValidTests s at n)
 
@@ -95,6 +99,7 @@ sumsValidTests top s at rows =
     ∷ operatorsCovered (setupOf s) (partWith s at rows)
     ∷ []
 
+-- all of these hold
 unfoldable pub sumsValid : ℕ → List ℕ → ℕ → List Row → Bool
 sumsValid top s at rows = allOf (sumsValidTests top s at rows)
 
@@ -120,6 +125,7 @@ schedulesValidTests s =
     ∷ zerosFrom s (schedulesOffset + scheduleWidth * n) (scheduleWidth * mostSchedules - scheduleWidth * n)
     ∷ []
 
+-- all of these hold
 unfoldable pub schedulesValid : List ℕ → Bool
 schedulesValid s = allOf (schedulesValidTests s)
 
@@ -135,5 +141,6 @@ phaseValidTests s =
     ∷ (eqb phase registrationPhase || eqb flag 0)
     ∷ []
 
+-- all of these hold
 unfoldable pub phaseValid : List ℕ → Bool
 phaseValid s = allOf (phaseValidTests s)

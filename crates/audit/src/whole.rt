@@ -32,6 +32,7 @@ use rules::limits::MOST_SCHEDULES;
 use rules::limits::PERIODS;
 use rules::phases::REGISTRATION;
 use rules::phases::SETTLED;
+use setup::counts::GUARANTEE_WIDTH;
 use setup::counts::OPERATOR_ENTRY;
 use setup::counts::counts;
 use setup::counts::length_of;
@@ -60,7 +61,7 @@ fn no_guarantees(s: &[u8], at: usize, n: usize) -> bool
     let mut k = at;
     let mut left = n;
     while 0 < left {
-        ok = ok & all_zero(s, k, 8);
+        ok = ok & all_zero(s, k, GUARANTEE_WIDTH);
         k = k + OPERATOR_ENTRY;
         left = left - 1;
     }

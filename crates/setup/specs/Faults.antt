@@ -38,17 +38,20 @@ firstFaultFrom found (v ∷ vs) = firstFaultFrom (orFault found v) vs
 abbrev pub firstFault : List Value → Checked
 firstFault vs = firstFaultFrom Clear vs
 
--- the first fault among the estimates, the operators, the accounts and the points of set-up bytes
+-- the first fault among the estimates of set-up bytes
 unfoldable pub estimateFaults : List ℕ → Checked
 estimateFaults s = firstFault (valuesOf priceWidth estimateValues estimatesOffset (estimatesIn s))
 
+-- among the operators
 unfoldable pub operatorFaults : List ℕ → Checked
 operatorFaults s = firstFault (valuesOf operatorEntry operatorValues (operatorsOffset (countsIn s)) (operatorsIn s))
 
+-- among the accounts
 unfoldable pub accountFaults : List ℕ → Checked
 accountFaults s =
     firstFault (valuesOf (accountEntry (countsIn s)) (accountValues (countsIn s .operators)) (accountsOffset (countsIn s)) (accountsIn s))
 
+-- among the points
 unfoldable pub pointFaults : List ℕ → Checked
 pointFaults s = firstFault (valuesOf pointEntry (pointValues (accountsIn s) (countsIn s .zones)) (pointsOffset (countsIn s)) (pointsIn s))
 

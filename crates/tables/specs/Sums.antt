@@ -90,6 +90,7 @@ netStored top s at table a h =
     ((numberAt s (at + netWidth * placeOf top a h) netWidth + getD table (cellOf top 1 a h) 0) % 2 ^ 32)
     (getD table (cellOf top 0 a h) 0 % 2 ^ 32)
 
+-- so are those of all accounts and hours
 unfoldable pub netsStored : ℕ → List ℕ → ℕ → List ℕ → Bool
 netsStored top s at table = every (λ a. every (netStored top s at table a) (upTo top)) (upTo mostAccounts)
 
@@ -99,10 +100,11 @@ netsStored top s at table = every (λ a. every (netStored top s at table a) (upT
 abbrev pub EstimatesInRange : List ℕ → Type 0
 EstimatesInRange s = Each (λ p. p .0 ≤ mostPrice) (estimatesIn s)
 
--- no hour's and no account's exposure is higher: two amounts of energy of 32 bits at the highest price, in each hour
+-- no exposure of an hour is higher: two amounts of energy of 32 bits at the highest price
 abbrev pub mostHourExposure : ℕ
 mostHourExposure = mostPrice * 2 ^ 33
 
+-- no exposure of an account is higher: that in each hour
 abbrev pub mostAccountExposure : ℕ
 mostAccountExposure = mostPeriods * mostHourExposure
 
