@@ -18,7 +18,7 @@ use Rattle.wire.proofs.NumberLaws.{length-signed, number-le-rest, le-same, le-n
 use Rattle.wire.proofs.PartLaws.{inner}
 use Rattle.wire.proofs.SlotLaws.{uniform-map, read-cell, flat-by-cells}
 use Rattle.rules.specs.declared.Row.{Row}
-use Rattle.rules.specs.Basics.{upTo}
+use Rattle.rules.specs.Basics.{upTo, joined}
 use Rattle.rules.specs.Limits.{mostAccounts}
 use Rattle.rules.specs.Registration.{bought, sold, netOf, figure}
 use Rattle.rules.proofs.Basics.Searches.{counting-length}
@@ -107,7 +107,7 @@ module _ (top : ℕ) (rows : List Row) (s : List ℕ) (at : ℕ) (b : Bytes s) (
       (length-take-le 4 (drop (at + netOffset top a h) s) (omega (arith, length-drop (at + netOffset top a h) s)))
 
   pub nets-match : netsBytes top rows ≡ stored → netsMatch top rows s at ≡ true
-  unfolding netsBytes accountNets netsMatch
+  unfolding netsBytes accountNets joined netsMatch
   nets-match e =
       upTo-every _ mostAccounts (λ a al ah.
       let g = cells-at (accountWidth top) mostAccounts (accountNets top rows) (length-account top rows) stored length-nets-stored e a al ah in
@@ -116,7 +116,7 @@ module _ (top : ℕ) (rows : List Row) (s : List ℕ) (at : ℕ) (b : Bytes s) (
       (cells-at netWidth top (λ x. signed netWidth (figure (netOf rows a x))) (λ x. length-signed netWidth (figure (netOf rows a x))) (hours a al ah) (length-hours a al ah) g h hl hh ∙ word-at a al ah h hl hh)))
 
   pub held-nets : netsMatch top rows s at ≡ true → netsBytes top rows ≡ stored
-  unfolding netsBytes accountNets netsMatch
+  unfolding netsBytes accountNets joined netsMatch
   held-nets t =
       at-cells (accountWidth top) mostAccounts (accountNets top rows) (length-account top rows) stored length-nets-stored (λ a al ah.
       at-cells netWidth top (λ x. signed netWidth (figure (netOf rows a x))) (λ x. length-signed netWidth (figure (netOf rows a x))) (hours a al ah) (length-hours a al ah) (λ h hl hh.

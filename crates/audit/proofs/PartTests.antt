@@ -16,6 +16,7 @@ use Rattle.wire.proofs.PartLaws.{cut-flat, flat-cut, cut-at, cut-rest, wide-at,
 use Rattle.wire.proofs.SlotLaws.{length-chunks, slots-rest, slots-again}
 use Rattle.units.specs.declared.Cents.{Cents}
 use Rattle.units.specs.Units.{cents}
+use Rattle.rules.specs.Basics.{entries}
 use Rattle.rules.specs.Limits.{mostOperators, mostAccounts, mostRows}
 use Rattle.rules.specs.Books.{Part}
 use Rattle.rules.proofs.Basics.Tests.{Holds, _and_, no-more, all-holds, holds-all}
@@ -83,14 +84,14 @@ module _ (top ops : ℕ) (s : List ℕ) (at : ℕ) (b : Bytes s) (l : at + partS
   count = ap number (cut-at ws x rowCountSection ∙ inner 2 rowCountOffset (partSize top) at s (omega arith))
 
   length-rows : length (p .rows) ≡ numberAt s (at + rowCountOffset) 2
-  unfolding partIn partOf
+  unfolding partIn partOf entries
   length-rows = length-map (chunks rowWidth (number (getD c 1 [])) (getD c 2 [])) rowIn ∙ length-chunks rowWidth (number (getD c 1 [])) (getD c 2 []) ∙ count
 
   few : numberAt s (at + rowCountOffset) 2 ≤ mostRows
   few = omega (arith, length-rows)
 
   part-fits : PartFits p
-  unfolding partIn partOf
+  unfolding partIn partOf entries
   part-fits =
       let g : length (p .guarantees) ≡ ops = length-map (chunks guaranteeWidth ops (getD c 0 [])) (λ y. cents (number y)) ∙ length-chunks guaranteeWidth ops (getD c 0 []) in
       record { guarantees-fit = omega arith; rows-fit = r }
@@ -108,7 +109,7 @@ module _ (top ops : ℕ) (s : List ℕ) (at : ℕ) (b : Bytes s) (l : at + partS
   dec y = cents (number y)
 
   pub part-exact : partBytes top p ≡ x → partExact top ops s at ≡ true
-  unfolding partExact partBytes partSections partIn partOf
+  unfolding partExact partBytes partSections partIn partOf entries
   part-exact e =
       let n : ℕ = numberAt s (at + rowCountOffset) 2 in
       let m = few in
@@ -122,7 +123,7 @@ module _ (top ops : ℕ) (s : List ℕ) (at : ℕ) (b : Bytes s) (l : at + partS
       holds-all (partExactTests top ops s at) (t0 and t2 and t3 and no-more)
 
   exact-by : Holds (partExactTests top ops s at) → partBytes top p ≡ x
-  unfolding partBytes partSections partIn partOf cut
+  unfolding partBytes partSections partIn partOf entries cut
   exact-by (guarantees and rows and nets and _) =
       let n : ℕ = numberAt s (at + rowCountOffset) 2 in
       let m = few in

@@ -16,7 +16,7 @@ use Rattle.units.specs.declared.Cents.{Cents}
 use Rattle.units.specs.Units.{cents}
 use Rattle.rules.specs.declared.Counts.{Counts}
 use Rattle.rules.specs.declared.Row.{Row}
-use Rattle.rules.specs.Basics.{every, allOf, upTo, Each}
+use Rattle.rules.specs.Basics.{every, allOf, upTo, Each, entries}
 use Rattle.rules.specs.Limits.{mostAccounts, mostGuarantee, mostOperators, mostRows}
 use Rattle.rules.specs.Books.{Setup, Part, operatorCount}
 use Rattle.rules.specs.Opening.{countsIn, setupOf, guaranteeWidth}
@@ -77,7 +77,7 @@ module _ (top : ℕ) (s : List ℕ) (at operators : ℕ) where
   count = ap number (cut-at ws x rowCountSection ∙ inner 2 rowCountOffset (partSize top) at s (omega arith))
 
   pub length-part-rows : length (partAt top operators s at .rows) ≡ rowCount s at
-  unfolding partIn partOf
+  unfolding partIn partOf entries
   length-part-rows =
       length-map (chunks rowWidth (number (getD (cut ws x) rowCountSection [])) (getD (cut ws x) rowsSection [])) rowIn
       ∙ length-chunks rowWidth (number (getD (cut ws x) rowCountSection [])) (getD (cut ws x) rowsSection [])
@@ -85,7 +85,7 @@ module _ (top : ℕ) (s : List ℕ) (at operators : ℕ) where
 
   pub part-places : operators ≤ mostOperators → rowCount s at ≤ mostRows
       → partAt top operators s at ≡ record { guarantees = guaranteesFrom s at operators; rows = rowsOf s at }
-  unfolding partIn partOf guaranteesFrom rowsFrom
+  unfolding partIn partOf entries guaranteesFrom rowsFrom
   part-places o n =
       let z : at + 0 ≡ at = omega arith in
       let c0 : getD (cut ws x) guaranteesSection [] ≡ take rowCountOffset (drop at s) =

@@ -15,7 +15,7 @@ use Rattle.rules.specs.declared.Account.{Account}
 use Rattle.rules.specs.declared.Margins.{Margins}
 use Rattle.rules.specs.declared.Counts.{Counts}
 use Rattle.rules.specs.declared.Row.{Row}
-use Rattle.rules.specs.Basics.{nth, Each}
+use Rattle.rules.specs.Basics.{nth, Each, entries}
 use Rattle.rules.specs.Limits.{mostPrice, mostRows, mostHours, mostAccounts, bookSize}
 use Rattle.rules.specs.Books.{Setup, Book, noAccount, noRow, accountAt, operatorOf, countsOf, operatorCount, accountCount, periods, marginsOf}
 use Rattle.rules.specs.Opening.{countsIn, accountsIn, accountOffset, estimatesIn, setupOf, operatorsOf}
@@ -40,7 +40,7 @@ use Rattle.book.proofs.StateLaws.{book-length, book-is-sound, row-count
 -- the rows of a part lie side by side
 pub part-rows : (top operators : ℕ) (s : List ℕ) (at n : ℕ) → n ≡ numberAt s (at + rowCountOffset) 2 → n ≤ mostRows
     → partAt top operators s at .rows ≡ rowsFrom s (at + rowsOffset) n
-unfolding partIn partOf rowsFrom numberAt
+unfolding partIn partOf entries rowsFrom numberAt
 part-rows top operators s at n e l =
     let ws : List ℕ = partWidths top in
     let x : List ℕ = take (partSize top) (drop at s) in

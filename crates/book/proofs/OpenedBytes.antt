@@ -175,7 +175,7 @@ zero-cells w f (suc m) from e =
     rw (e from, zero-cells w f m (suc from) e) (zeros-add w (w * m) ∙ rw k)
 
 pub nets-empty : (top : ℕ) → netsBytes top [] ≡ zeros (mostAccounts * accountWidth top)
-unfolding netsBytes accountNets signed moved total
+unfolding netsBytes accountNets joined signed moved total
 nets-empty top =
     let k : accountWidth top * mostAccounts ≡ mostAccounts * accountWidth top = omega arith in
     zero-cells (accountWidth top) _ mostAccounts 1 (λ a. zero-cells 4 _ top 1 (λ x. le-zero 4)) ∙ ap zeros k

@@ -19,7 +19,7 @@ use Rattle.units.specs.declared.Cents.{Cents}
 use Rattle.units.specs.Units.{cents}
 use Rattle.rules.specs.declared.Row.{Row}
 use Rattle.rules.specs.declared.Schedule.{Schedule}
-use Rattle.rules.specs.Basics.{Each, nil, cons}
+use Rattle.rules.specs.Basics.{Each, nil, cons, entries}
 use Rattle.rules.specs.Limits.{mostOperators, mostRows, mostSchedules, mostGuarantee}
 use Rattle.rules.specs.Books.{Setup, Part, Book, operatorCount}
 use Rattle.rules.specs.Opening.{guaranteeWidth}
@@ -74,7 +74,7 @@ map-same (cons e es) = rw (e, map-same es)
 
 module _ (top : ℕ) (u : Setup) (s : SoundSetup u) where
   pub part-back : (p : Part) → SoundPart u p → partIn top (operatorCount u) (partBytes top p) ≡ p
-  unfolding partIn partOf partBytes partSections
+  unfolding partIn partOf entries partBytes partSections
   part-back p k =
       let f = part-fits-of u p (s .operators-high) k in
       let c = cut-flat (partWidths top) (partSections top p) (wide-part top p f) in
@@ -92,7 +92,7 @@ module _ (top : ℕ) (u : Setup) (s : SoundSetup u) where
 -- ---- a book
 
 pub decode-image : (top size : ℕ) (b : Book) → valid b ≡ true → decode top size (image top size b) ≡ b
-unfolding decode bookOf image sections sectionsWith
+unfolding decode bookOf entries image sections sectionsWith
 decode-image top size b v =
     let s = sound b v in
     let u = s .setup-sound in

@@ -1,14 +1,14 @@
 -- The image of a plain book in bytes (document 01, "Opening"), and the plain book that bytes say.
 use Prim.Native.Nat.{ℕ, zero, suc, _-_}
-use mathlib.Core.List.{List, [], _∷_, map}
+use mathlib.Core.List.{List, [], _∷_}
 use mathlib.Core.Option.{Option, none, some}
 use lib.ListN.{length, getD, replicate}
 use Rattle.wire.specs.Numbers.{number, numberAt, le, signed}
-use Rattle.wire.specs.Parts.{zeros, flat, cut, pack, slots, chunks, padded}
+use Rattle.wire.specs.Parts.{zeros, flat, cut, pack, slots, padded}
 use Rattle.units.specs.Units.{kwh, cents, centsPerMwh}
 use Rattle.rules.specs.declared.Row.{Row}
 use Rattle.rules.specs.declared.Schedule.{Schedule}
-use Rattle.rules.specs.Basics.{upTo}
+use Rattle.rules.specs.Basics.{upTo, entries, joined}
 use Rattle.rules.specs.Limits.{mostOperators, mostAccounts, mostRows, mostSchedules}
 use Rattle.rules.specs.Books.{Setup, Part, Book, operatorCount}
 use Rattle.rules.specs.Opening.{setupBytes, setupOf, guaranteeWidth}
@@ -33,10 +33,10 @@ scheduleBytes x = pack scheduleWidths (scheduleValues x)
 
 -- net positions, signed, by account and then period
 unfoldable pub accountNets : ℕ → List Row → ℕ → List ℕ
-accountNets top rows a = flat (map (λ h. signed netWidth (figure (netOf rows a h))) (upTo top))
+accountNets top rows a = joined (λ h. signed netWidth (figure (netOf rows a h))) (upTo top)
 
 unfoldable pub netsBytes : ℕ → List Row → List ℕ
-netsBytes top rows = flat (map (accountNets top rows) (upTo mostAccounts))
+netsBytes top rows = joined (accountNets top rows) (upTo mostAccounts)
 
 -- a part: its guarantees, how many rows, the rows, the net positions; unused bytes are zero
 unfoldable pub partSections : ℕ → Part → List (List ℕ)
@@ -112,8 +112,8 @@ scheduleIn x =
 unfoldable pub partOf : ℕ → List (List ℕ) → Part
 partOf operators c =
     record {
-      guarantees = map (λ x. cents (number x)) (chunks guaranteeWidth operators (getD c guaranteesSection []));
-      rows = map rowIn (chunks rowWidth (number (getD c rowCountSection [])) (getD c rowsSection []));
+      guarantees = entries guaranteeWidth (λ x. cents (number x)) operators (getD c guaranteesSection []);
+      rows = entries rowWidth rowIn (number (getD c rowCountSection [])) (getD c rowsSection []);
     }
 
 unfoldable pub partIn : ℕ → ℕ → List ℕ → Part
@@ -130,7 +130,7 @@ bookOf top c =
       setup = u;
       phase = number (getD c phaseSection []);
       part = partIn top (operatorCount u) (getD c presentSection []);
-      schedules = map scheduleIn (chunks scheduleWidth (number (getD c scheduleCountSection [])) (getD c schedulesSection []));
+      schedules = entries scheduleWidth scheduleIn (number (getD c scheduleCountSection [])) (getD c schedulesSection []);
       saved = savedIn (number (getD c flagSection [])) top (operatorCount u) (getD c savedSection []);
     }
 

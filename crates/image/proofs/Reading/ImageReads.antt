@@ -15,7 +15,7 @@ use Rattle.wire.proofs.SlotLaws.{uniform-map, read-cell, slots-get}
 use Rattle.units.specs.Units.{cents}
 use Rattle.rules.specs.declared.Row.{Row}
 use Rattle.rules.specs.declared.Schedule.{Schedule}
-use Rattle.rules.specs.Basics.{upTo}
+use Rattle.rules.specs.Basics.{upTo, joined}
 use Rattle.rules.specs.Limits.{mostOperators, mostAccounts, mostRows, mostSchedules}
 use Rattle.rules.specs.Books.{Part, Book, noRow}
 use Rattle.rules.specs.Registration.{bought, sold, netOf, figure}
@@ -43,7 +43,7 @@ part-end (w ∷ ws) (suc k) = let ih = part-end ws k in omega arith
 nets-read : (top : ℕ) (rows : List Row) (a h at : ℕ) → 1 ≤ a → a ≤ mostAccounts → 1 ≤ h → h ≤ top
     → at ≡ accountWidth top * (a - 1) + netWidth * (h - 1)
     → take netWidth (drop at (netsBytes top rows)) ≡ signed netWidth (figure (netOf rows a h))
-unfolding netsBytes accountNets
+unfolding netsBytes accountNets joined
 nets-read top rows a h at a1 a2 h1 h2 e =
     let hours : ℕ → List ℕ = accountNets top rows in
     let net : ℕ → List ℕ = λ k. signed netWidth (figure (netOf rows a k)) in

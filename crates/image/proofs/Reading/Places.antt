@@ -9,6 +9,7 @@ use Rattle.wire.specs.Parts.{cut, chunks, startOf}
 use Rattle.wire.proofs.NumberLaws.{number-at-one}
 use Rattle.wire.proofs.PartLaws.{cut-at}
 use Rattle.rules.specs.declared.Counts.{Counts}
+use Rattle.rules.specs.Basics.{entries}
 use Rattle.rules.specs.Limits.{mostSchedules}
 use Rattle.rules.specs.Books.{Book, operatorCount}
 use Rattle.rules.specs.Opening.{countsIn, setupOf}
@@ -34,7 +35,7 @@ pub counts-at : (s : List ℕ) → operatorCount (setupOf (take setupRoom s)) �
 counts-at s = ap (λ (c : Counts). c .operators) (counts-of-setup (take setupRoom s) ∙ counts-first-bytes setupRoom s (omega arith))
 
 pub decode-places : (top size : ℕ) (s : List ℕ) → decode top size s ≡ bookAt top s
-unfolding decode bookOf numberAt
+unfolding decode bookOf entries numberAt
 decode-places top size s =
     let ws : List ℕ = bookWidths top size in
     let at : startOf ws savedSection ≡ savedOffset top = omega arith in

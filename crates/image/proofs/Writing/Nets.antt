@@ -19,7 +19,7 @@ use Rattle.wire.proofs.PartLaws.{before}
 use Rattle.wire.proofs.SlotLaws.{Uniform, uniform-map, before-uniform, length-uniform, map-get}
 use Rattle.wire.proofs.SweepLaws.{sweep-flat, sweep-cells, length-over, over-in, over-out}
 use Rattle.rules.specs.declared.Row.{Row}
-use Rattle.rules.specs.Basics.{nth, upTo}
+use Rattle.rules.specs.Basics.{nth, upTo, joined}
 use Rattle.rules.specs.Limits.{mostAccounts}
 use Rattle.rules.specs.Books.{noRow}
 use Rattle.rules.specs.Registration.{pending, seller, buyer, includesHour, mark, bought, sold}
@@ -75,7 +75,7 @@ pub nets-same : (top : ℕ) (g g′ : ℕ → ℕ → List ℕ) → ((a h : ℕ)
 nets-same top g g′ e = λ i. netsOf top (λ a h. e a h i)
 
 pub nets-of : (top : ℕ) (rows : List Row) → netsBytes top rows ≡ netsOf top (λ a h. signed netWidth (subℕ (bought rows a h) (sold rows a h)))
-unfolding netsBytes accountNets netsOf
+unfolding netsBytes accountNets joined netsOf
 nets-of top rows = refl
 
 -- rows that move the same have the same nets

@@ -80,14 +80,14 @@ pub length-guarantee : (g : Cents) → length (le guaranteeWidth (g .0)) ≡ gua
 length-guarantee g = length-le guaranteeWidth (g .0)
 
 pub length-account : (top : ℕ) (rows : List Row) (a : ℕ) → length (accountNets top rows a) ≡ accountWidth top
-unfolding accountNets
+unfolding accountNets joined
 length-account top rows a =
     let net : ℕ → List ℕ = λ h. signed netWidth (figure (netOf rows a h)) in
     length-uniform netWidth (map net (upTo top)) (uniform-map netWidth net (upTo top) (λ h. length-signed netWidth _))
     ∙ rw (length-map (upTo top) net, counting-length top 1)
 
 pub length-nets : (top : ℕ) (rows : List Row) → length (netsBytes top rows) ≡ mostAccounts * accountWidth top
-unfolding netsBytes
+unfolding netsBytes joined
 length-nets top rows =
     let nets : ℕ → List ℕ = accountNets top rows in
     length-uniform (accountWidth top) (map nets (upTo mostAccounts)) (uniform-map (accountWidth top) nets (upTo mostAccounts) (length-account top rows))
