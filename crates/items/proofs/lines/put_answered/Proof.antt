@@ -1,4 +1,4 @@
--- Four numbers, one behind the other.
+-- The line is four numbers, and each is put where the one before it ends.
 use native.Mathlib.Omega.{arith}
 use borrow.Author.Needs.{needs}
 use Rattle.items.proofs.LineLaws.{answered-written}

@@ -1,4 +1,4 @@
--- The line is one text.
+-- The line is one text, which is copied in.
 use native.Mathlib.Omega.{arith}
 use borrow.Author.Needs.{needs}
 use Rattle.rules.specs.Replay.{lineText}

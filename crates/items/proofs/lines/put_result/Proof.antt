@@ -1,4 +1,4 @@
--- The mark, and two figures behind it.
+-- The line is its mark and two figures, and each is put where the one before it ends.
 use native.Mathlib.Omega.{arith}
 use borrow.Author.Needs.{needs}
 use Rattle.items.proofs.LineLaws.{result-written}

@@ -1,4 +1,4 @@
--- The mark, and one figure behind it.
+-- The line is its mark and one figure, which is put where the mark ends.
 use native.Mathlib.Omega.{arith}
 use borrow.Author.Needs.{needs}
 use Rattle.items.proofs.LineLaws.{sum-written}

@@ -1,4 +1,4 @@
--- The lines of the balances, and behind them their sum.
+-- The text is the lines of the balances and then the line of their sum.
 use native.Mathlib.Omega.{arith}
 use borrow.Author.Needs.{needs}
 use Rattle.items.proofs.ListLaws.{balances-written}

@@ -1,4 +1,4 @@
--- The results, and behind them the balances.
+-- The text is the lines of the results and then those of the balances.
 use native.Mathlib.Omega.{arith}
 use borrow.Author.Needs.{needs}
 use Rattle.items.specs.Figures.{settledText}

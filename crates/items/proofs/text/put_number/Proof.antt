@@ -1,4 +1,4 @@
--- The number, and then one byte.
+-- The decimal text of the number is put first, and the byte where it ends.
 use native.Mathlib.Omega.{arith}
 use borrow.Author.Needs.{needs}
 use Rattle.items.proofs.WrittenLaws.{written-then}

@@ -1,4 +1,4 @@
--- The three tests of the map, in their order.
+-- The code makes the three tests of the definition, in their order.
 use lib.ListN.{length}
 use borrow.Author.Tests.{lt-ltb, le-ltb}
 use Rattle.rules.specs.Requests.{mapOf, unreadable}

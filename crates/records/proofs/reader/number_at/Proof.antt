@@ -1,4 +1,4 @@
--- What has been read is the number from `p` on; each turn puts one byte more in front.
+-- What has been read is the number from `p` on, and each step puts one byte more in front.
 use Prim.Native.Nat.{suc, _+_, _-_, _^_, _≤_, _<_}
 use mathlib.Core.Path.{_≡_, _∙_, sym}
 use native.Mathlib.Omega.{arith}

@@ -1,4 +1,4 @@
--- The map and the length are held against the tables; what passes both is a whole record.
+-- The map and the length are compared with the tables, and what passes both is a whole record.
 use mathlib.Core.Path.{_∙_, sym}
 use native.Mathlib.Omega.{arith}
 use Rattle.rules.specs.Requests.{mapOf}

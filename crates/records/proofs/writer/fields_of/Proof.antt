@@ -1,4 +1,4 @@
--- Each field is widened.
+-- A field that is widened is the same number.
 use native.Mathlib.Omega.{arith}
 use borrow.Author.Needs.{needs}
 use Rattle.records.proofs.writer.fields_of.Statement.{statement}

@@ -1,4 +1,4 @@
--- The map, and behind it the fields.
+-- The record is its map and, where that ends, its fields.
 use native.Mathlib.Omega.{arith}
 use Rattle.rules.specs.Requests.{offset}
 use Rattle.rules.proofs.Basics.Tests.{within-true}

@@ -1,4 +1,4 @@
--- After i turns the first i bytes of the region are zero.
+-- After i steps the first i bytes of the region are zero.
 use Prim.Native.Nat.{_-_, _≤_}
 use mathlib.Core.Path.{_≡_, _∙_}
 use lib.ListN.{length, length-set}

@@ -1,4 +1,4 @@
--- After i turns the first i bytes of the region stand in their place; what is still to be read is untouched, since the regions are apart.
+-- After i steps the first i bytes of the region are in their place, and what is still to be read is untouched, since the regions are apart.
 use Prim.Native.Nat.{_-_, _≤_}
 use mathlib.Core.Path.{_≡_, _∙_}
 use lib.ListN.{length, length-set, drop}
