@@ -4,9 +4,10 @@ use mathlib.Core.Path.{_≡_, ap, _∙_}
 use native.Mathlib.Omega.{arith}
 use mathlib.Core.List.{List}
 use Rattle.rules.specs.declared.Outcome.{Outcome}
-use Rattle.rules.specs.Verdicts.{Numbers, numbers}
+use Rattle.rules.specs.Verdicts.{Numbers, ReadOut, numbers}
 use Rattle.rules.specs.Calls.{Answer, Gives}
 use Rattle.abi.specs.Packing.{packed, unpacked, Packs, GivesPacked}
+use Rattle.abi.specs.Lending.{lentNumbers, lentInto, Lends}
 
 pub apart : (number first second : ℕ) → number < 256 → first < 65_536 → second < 65_536
     → _≡_ {A = Numbers} (unpacked (packed (number, first, second))) (number, first, second)
@@ -36,3 +37,8 @@ given-packed a o r book results balances g p =
       results-left = g .results-left;
       balances-left = g .balances-left;
     }
+
+-- a reading that is put into a buffer, with its outcome packed
+pub lends-packed : {A : Type 0} (say : A → List ℕ) (x : ReadOut A) (buffer : List ℕ) (o : Outcome) (r : ℕ) (left : List ℕ)
+    → numbers o ≡ lentNumbers say x buffer → left ≡ lentInto say x buffer → Packs (numbers o) r → Lends say x buffer r left
+lends-packed say x buffer o r left e l p = record { numbers-packed = rw e at p; buffer-left = l }

@@ -1,10 +1,14 @@
 -- It is the reading of `day`, put into the lent buffer, with its numbers packed.
+use Rattle.abi.proofs.PackingLaws.{lends-packed}
 use borrow.Author.Needs.{needs}
 use Rattle.abi.proofs.exports.energy_book_read.Statement.{statement}
 use Rattle.abi.proofs.exports.energy_book_read.Tie as tie
 
 returns : tie.Need-returns
-returns c = rw (← c .before .before .before .before .before .read .ensures, ← c .before .before .before .lend-request .ensures .0) (record { numbers-packed = c .pack .ensures; buffer-left = c .before .before .before .lend-request .ensures .1 })
+returns c =
+    let lent = c .before .before .before in
+    let said = lent .before .before in
+    rw (← said .read .ensures) (lends-packed _ _ _ (lent .lend-request .result) _ _ (lent .lend-request .ensures .0) (lent .lend-request .ensures .1) (c .pack .ensures))
 
 pub energy-book-read-spec : {M : Type 1} → statement M
 energy-book-read-spec =
