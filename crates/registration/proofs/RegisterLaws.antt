@@ -8,7 +8,6 @@ use mathlib.Core.Bool.{Bool, true, false}
 use native.Mathlib.Omega.{arith}
 use lib.ListN.{length}
 use borrow.Author.Tests.{eq-eqb, le-leb, lt-leb}
-use Rattle.wire.specs.Parts.{Small}
 use Rattle.rules.specs.declared.Row.{Row}
 use Rattle.rules.specs.declared.Request.{Request}
 use Rattle.rules.specs.declared.Refusal.the-variants.{AlreadyPending, RowsFull, MarginBroken, Uncovered}
@@ -21,11 +20,9 @@ use Rattle.rules.specs.Registration.{alike, proposed, brokenHour, brokenBy, cov
 use Rattle.rules.specs.Calls.{next, given, stateChecks, apply}
 use Rattle.rules.proofs.Rows.AccountHours.{broken-added, exposure-added}
 use Rattle.rules.proofs.Checks.Passed.{passed-15}
-use Rattle.image.specs.Layout.{rowWidths, presentOffset, rowOffset}
-use Rattle.image.specs.Image.{rowValues}
+use Rattle.image.specs.Layout.{presentOffset, rowOffset}
 use Rattle.image.specs.Valid.{isBook, bookIn}
 use Rattle.image.proofs.Sound.Soundness.{SoundRow}
-use Rattle.image.proofs.Writing.Sizes.{row-small}
 use Rattle.image.proofs.Writing.BookWrites.{write-row}
 use Rattle.image.proofs.Keeping.KeepsChanges.{apply-keeps}
 use Rattle.image.proofs.Keeping.KeepsKinds.{proposed-sound, register-allowed}
@@ -41,10 +38,6 @@ use Rattle.registration.proofs.CoverLaws.{covered-at}
 
 pub ready-row : (b : Book) (q : Request) → Ready register b q → SoundRow (b .setup) (proposed q)
 ready-row b q r = proposed-sound b bare q (sym (r .of-kind)) (r .code-fits) (ready-input register b q r bare refl)
-
--- its values fit their bytes
-pub ready-fits : (s : List ℕ) (q : Request) (r : Row) → isBook s ≡ true → Ready register (bookIn s) q → r ≡ proposed q → Small rowWidths (rowValues r)
-ready-fits s q r h ready e = rw e (row-small (bookIn s .setup) (proposed q) (book-is-sound s h .setup-sound) (ready-row (bookIn s) q ready))
 
 -- ---- what the state decides
 

@@ -3,14 +3,11 @@ ghost use mathlib.Core.Path.{_≡_};
 ghost use mathlib.Core.Bool.{true};
 ghost use Prim.Native.Nat.{_<_};
 ghost use lib.ListN.{length};
-ghost use Rattle.wire.specs.Parts.{Small};
 ghost use Rattle.rules.specs.Limits.{mostRows, bookSize};
 ghost use Rattle.rules.specs.Verdicts.{checked};
 ghost use Rattle.rules.specs.Requests.{register};
 ghost use Rattle.rules.specs.Books.{operatorOf};
 ghost use Rattle.rules.specs.Registration.{pending, proposed};
-ghost use Rattle.image.specs.Layout.{rowWidths};
-ghost use Rattle.image.specs.Image.{rowValues};
 ghost use Rattle.image.specs.Valid.{isBook, bookIn, bookBytes};
 ghost use Rattle.book.specs.Members.{IsAccount};
 ghost use Rattle.book.specs.Waits.{WaitsOf};
@@ -123,7 +120,7 @@ fn register_fault(book: &[u8], request: Request) -> Checked
 
 // Puts a row after the `n` that there are, and counts it.
 fn append_row(book: &mut [u8], n: u16, r: Row)
-    requires { ⌜ (length (now book) ≡ bookSize) × (n < mostRows) × Small rowWidths (rowValues r) ⌝ }
+    requires { ⌜ (length (now book) ≡ bookSize) × (n < mostRows) ⌝ }
     ensures { λ _. ⌜ now (book .exit) ≡ rowAppended (now (book .entry)) n r ⌝ }
 {
     let bytes = row_bytes(r);

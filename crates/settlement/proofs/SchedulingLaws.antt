@@ -6,33 +6,23 @@ use mathlib.Core.Option.{none}
 use mathlib.Core.Bool.{true}
 use native.Mathlib.Omega.{arith}
 use lib.ListN.{length}
-use Rattle.wire.specs.Parts.{Small}
 use Rattle.rules.specs.declared.Schedule.{Schedule}
 use Rattle.rules.specs.declared.Request.{Request}
 use Rattle.rules.specs.Limits.{mostHours, bookSize}
 use Rattle.rules.specs.Verdicts.{accepted}
 use Rattle.rules.specs.Requests.{schedule}
 use Rattle.rules.specs.Calls.{scheduled, given}
-use Rattle.image.specs.Layout.{scheduleWidths, scheduleWidth, schedulesOffset}
-use Rattle.image.specs.Image.{scheduleValues}
+use Rattle.image.specs.Layout.{scheduleWidth, schedulesOffset}
 use Rattle.image.specs.Valid.{isBook, bookIn}
-use Rattle.image.proofs.Writing.Sizes.{schedule-small}
 use Rattle.image.proofs.Writing.BookWrites.{write-schedule}
 use Rattle.image.proofs.Keeping.KeepsChanges.{apply-keeps}
-use Rattle.image.proofs.Keeping.KeepsKinds.{scheduled-sound, schedule-allowed}
+use Rattle.image.proofs.Keeping.KeepsKinds.{schedule-allowed}
 use Rattle.book.specs.Kinds.{decided, Ready}
 use Rattle.book.proofs.StateLaws.{book-image, book-fits, book-is-sound}
 use Rattle.book.proofs.Answers.{decided-clear, Answered, accepted-answered}
 use Rattle.book.proofs.Readiness.{bare, ready-input}
 use Rattle.settlement.specs.Scheduling.{scheduleAppended}
 use Rattle.settlement.proofs.Decisions.{few-schedules}
-
--- the values of a schedule that is ready fit their bytes
-pub ready-fits : (s : List ℕ) (q : Request) (x : Schedule) → isBook s ≡ true → Ready schedule (bookIn s) q → x ≡ scheduled q
-    → Small scheduleWidths (scheduleValues x)
-ready-fits s q x h r e =
-    rw e (schedule-small (bookIn s .setup) (scheduled q) (book-is-sound s h .setup-sound)
-    (scheduled-sound (bookIn s) bare q (sym (r .of-kind)) (ready-input schedule (bookIn s) q r bare refl)))
 
 -- what an accepted schedule writes
 pub scheduled-answered : (s t : List ℕ) (h : isBook s ≡ true) (q : Request) (n : ℕ) → Ready schedule (bookIn s) q

@@ -3,14 +3,11 @@ ghost use mathlib.Core.Path.{_≡_};
 ghost use mathlib.Core.Bool.{true};
 ghost use Prim.Native.Nat.{_+_, _*_, _<_};
 ghost use lib.ListN.{length};
-ghost use Rattle.wire.specs.Parts.{Small};
 ghost use Rattle.rules.specs.declared.Request.{Request};
 ghost use Rattle.rules.specs.Limits.{mostSchedules, bookSize};
 ghost use Rattle.rules.specs.Verdicts.{checked};
 ghost use Rattle.rules.specs.Requests.{schedule};
 ghost use Rattle.rules.specs.Calls.{scheduled};
-ghost use Rattle.image.specs.Layout.{scheduleWidths};
-ghost use Rattle.image.specs.Image.{scheduleValues};
 ghost use Rattle.image.specs.Valid.{isBook, bookIn, bookBytes};
 ghost use Rattle.book.specs.Kinds.{decided, outcomeOn, bookAfter, Ready};
 ghost use Rattle.settlement.specs.Scheduling.{scheduleAppended};
@@ -62,7 +59,7 @@ fn schedule_fault(book: &[u8]) -> Checked
 
 // Puts a schedule after the `n` that there are, and counts it.
 fn append_schedule(book: &mut [u8], n: u16, x: Schedule)
-    requires { ⌜ (length (now book) ≡ bookSize) × (n < mostSchedules) × Small scheduleWidths (scheduleValues x) ⌝ }
+    requires { ⌜ (length (now book) ≡ bookSize) × (n < mostSchedules) ⌝ }
     ensures { λ _. ⌜ now (book .exit) ≡ scheduleAppended (now (book .entry)) n x ⌝ }
 {
     let bytes = schedule_bytes(x);

@@ -6,7 +6,7 @@ use Rattle.rules.specs.Requests.{register}
 use Rattle.rules.proofs.Checks.Clearing.{checked-same}
 use Rattle.book.proofs.StateLaws.{book-length}
 use Rattle.book.proofs.Answers.{refused-answered}
-use Rattle.registration.proofs.RegisterLaws.{ready-fits, few-rows, registered-answered}
+use Rattle.registration.proofs.RegisterLaws.{few-rows, registered-answered}
 use borrow.Author.Needs.{needs}
 use Rattle.registration.proofs.register.register.Statement.{statement}
 use Rattle.registration.proofs.register.register.Tie as tie
@@ -23,7 +23,7 @@ append-row-requires c κs =
     let fault = told .before .before in
     let pre = fault .before .before .before .pre in
     let few = few-rows _ _ (checked-same _ none (sym (fault .register-fault .ensures) ∙ told .enum-told .given .1)) in
-    (book-length _ (pre .0), omega (arith, few, c .before .before .row-count .ensures .0), ready-fits _ _ _ (pre .0) (pre .1) (c .before .proposed-row .ensures))
+    (book-length _ (pre .0), omega (arith, few, c .before .before .row-count .ensures .0))
 
 returns-2 : tie.Need-returns-2
 returns-2 c =

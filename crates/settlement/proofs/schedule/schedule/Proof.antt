@@ -8,7 +8,7 @@ use Rattle.rules.proofs.Checks.Clearing.{checked-same}
 use Rattle.book.proofs.StateLaws.{book-length}
 use Rattle.book.proofs.Answers.{refused-answered}
 use Rattle.settlement.proofs.Decisions.{few-schedules}
-use Rattle.settlement.proofs.SchedulingLaws.{ready-fits, scheduled-answered}
+use Rattle.settlement.proofs.SchedulingLaws.{scheduled-answered}
 use borrow.Author.Needs.{needs}
 use Rattle.settlement.proofs.schedule.schedule.Statement.{statement}
 use Rattle.settlement.proofs.schedule.schedule.Tie as tie
@@ -23,7 +23,7 @@ append-schedule-requires c κs =
     let fault = told .before .before in
     let pre = fault .before .before .before .pre in
     let few = few-schedules _ _ (checked-same _ none (sym (fault .schedule-fault .ensures (fault .before .before .before .args .request)) ∙ told .enum-told .given .1)) in
-    (book-length _ (pre .0), omega (arith, few, c .before .before .schedule-count .ensures .0), ready-fits _ _ _ (pre .0) (pre .1) (c .before .handed-in .ensures))
+    (book-length _ (pre .0), omega (arith, few, c .before .before .schedule-count .ensures .0))
 
 returns-2 : tie.Need-returns-2
 returns-2 c =
