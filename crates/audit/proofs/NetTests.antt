@@ -1,5 +1,5 @@
 -- The nets in bytes are those of the rows exactly where each stored word passes a test without signs: the word and what was sold make
--- what was bought, in whole turns.
+-- what was bought, but for multiples of 2^32.
 use Prim.Native.Nat.{ℕ, suc, _+_, _-_, _*_, _%_, _^_, _≤_, _<_}
 use mathlib.Core.Path.{_≡_, sym, ap, _∙_}
 use mathlib.Core.Logic.{_↔_}

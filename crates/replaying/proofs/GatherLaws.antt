@@ -190,7 +190,7 @@ all-done s g book out last room e t = stays _ s (soFar g book out) (loop-test g 
 pub counts-on : (g r : Gathered) {n : ℕ} → (g .number < r .number) ⊎ (r ≡ g) → n ≡ r .number + 1 → g .number < n
 counts-on g r w e = ⊎-elim (λ l. omega arith) (λ same. let f : r .number ≡ g .number = rw same in omega arith) w
 
--- a loop that turns has a walk that goes on, and room
+-- where the loop goes round again, the replay goes on and there is room
 pub turns : (r : Gathered) (last : ℕ) → r .«goes_on» && leb (r .end) last ≡ true → (r .«goes_on» ≡ true) × (r .end ≤ last)
 turns r last t = let w = and-both (r .«goes_on») (leb (r .end) last) .0 t in (w .0, leb-true (r .end) last (w .1))
 

@@ -148,7 +148,7 @@ module _ (side a h : ℕ) where
       ∙ total-cong _ (λ r. 0) rows (λ r. waiting-closed r (pending r) refl)
       ∙ total-zero rows
 
-  -- a row weighs on its proposer only
+  -- a pending row counts for its proposer only
   pub weight-of-others : (r : Row) → eqb (r .proposer) a ≡ false → weight side a h r ≡ 0
   weight-of-others r e = rw e (go (includesHour h r))
     where
