@@ -54,8 +54,10 @@ fn moved_net(net: Net, trade: Row, account: u8, hour: u8) -> Net
     ensures bought { λ r. ⌜ r .bought .0 ≡ net .bought .0 + counted (moves buyer account hour) trade ⌝ }
     ensures sold { λ r. ⌜ r .sold .0 ≡ net .sold .0 + counted (moves seller account hour) trade ⌝ }
 {
-    let bought = moved(trade, trade.buyer(), account, hour);
-    let sold = moved(trade, trade.seller(), account, hour);
+    let buyer = trade.buyer();
+    let seller = trade.seller();
+    let bought = moved(trade, buyer, account, hour);
+    let sold = moved(trade, seller, account, hour);
     Net {
         bought: net.bought.plus(bought),
         sold: net.sold.plus(sold),

@@ -7,9 +7,9 @@ use Rattle.rules.proofs.hours.moved_net.Tie as tie
 returns : tie.Need-returns
 returns c =
     let sold = c .before .before in
-    let bought = sold .before .before in (
-      c .before .plus .ensures ∙ rw (bought .moved .ensures .0, bought .before .buyer .ensures),
-      c .plus2 .ensures ∙ rw (sold .moved2 .ensures .0, sold .before .seller .ensures),
+    let bought = sold .before in (
+      c .before .plus .ensures ∙ rw (bought .moved .ensures .0, bought .before .before .buyer .ensures),
+      c .plus2 .ensures ∙ rw (sold .moved2 .ensures .0, bought .before .seller .ensures),
     )
 
 pub moved-net-spec : {M : Type 1} → statement M
