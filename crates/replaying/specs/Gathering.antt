@@ -81,7 +81,7 @@ pub record Underway (stream : List ℕ) (p : Progress) : Type 0 where
   pub onward : p .gathered .«goes_on» ≡ true
       → (isBook (p .book) ≡ true) × (p .gathered .next ≤ length stream) × (p .gathered .number ≤ p .gathered .next + 1)
 
--- from one to the other the text stays whole, and the replay goes on
+-- from one to the other the text stays whole, and the later one is underway
 pub record Follows (stream : List ℕ) (before after : Progress) : Type 0 where
   pub whole : wholeText stream after ≡ wholeText stream before
   pub underway : Underway stream after
