@@ -36,7 +36,7 @@ extern "C" {
 /* The longest record. */
 #define ENERGY_BOOK_RECORD_MOST 20
 /* The longest set-up. */
-#define ENERGY_BOOK_SETUP_MOST 1289
+#define ENERGY_BOOK_SETUP_MOST 7433
 /* The longest price table: 4 bytes for each hour, of PUN and then of each zone. */
 #define ENERGY_BOOK_PRICES_MOST 900
 /* Room for the results of any settle: 1 byte for each schedule. */

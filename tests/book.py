@@ -2,7 +2,7 @@
 
 Owes nothing to the proved code. A row, a schedule and an entry of the set-up are names with values.
 """
-from document import ACCEPTED, ACCOUNT, COUNT_RANGES, ESTIMATE, OPERATOR, POINT, entries_of, low_first, setup_verdict
+from document import ACCEPTED, COUNT_RANGES, ESTIMATE, OPERATOR, POINT, account_shape, entries_of, low_first, setup_verdict
 
 BOOK = 49_152
 PHASE, FLAG, SCHEDULE_COUNT, SCHEDULES, PRESENT, SAVED, SPARE = 8_192, 8_193, 8_194, 8_196, 11_012, 18_950, 26_888
@@ -21,6 +21,12 @@ def within(shape, wanted):
     """Where a field stands in its shape."""
     names = [name for name, width in shape]
     return width_of(shape[:names.index(wanted)])
+
+
+def margin_at(setup, account, bound, hour):
+    """Where a margin stands in the set-up of a book."""
+    shape = account_shape(setup.hours)
+    return setup.accounts_at + width_of(shape) * (account - 1) + within(shape, (bound, hour))
 
 
 def guarantee_at(part, operator):
@@ -45,11 +51,12 @@ class Setup:
     def __init__(self, setup):
         self.hours, self.operator_count, self.account_count, self.point_count, self.zones = setup[:5]
         at, found = 5, []
-        for count, shape in zip(setup, (ESTIMATE, OPERATOR, ACCOUNT, POINT)):
+        for count, shape in zip(setup, (ESTIMATE, OPERATOR, account_shape(self.hours), POINT)):
             entries, at = entries_of(setup, at, count, shape)
             found.append([{name: value for name, (offset, value) in entry.items()} for entry in entries])
         self.estimates, self.operators, self.accounts, self.points = found
         self.operators_at = 5 + 4 * self.hours
+        self.accounts_at = self.operators_at + 10 * self.operator_count
         self.size = at
 
 
@@ -181,7 +188,7 @@ def part_fault(book, at, setup):
         for hour in range(1, setup.hours + 1):
             if int.from_bytes(book[net_at(at, a, hour):net_at(at, a, hour) + 4], "little", signed=True) != totals.net_of(a, hour):
                 return "net"
-            if totals.low(a, hour) < -account["lower"] or totals.high(a, hour) > account["upper"]:
+            if totals.low(a, hour) < -account["lower", hour] or totals.high(a, hour) > account["upper", hour]:
                 return "margin"
     for operator in range(1, setup.operator_count + 1):
         if exposure_of(setup, totals, operator) > available_of(setup, guarantees, operator):
@@ -201,7 +208,7 @@ def in_use(book, setup):
     yield 0, setup.operators_at
     for operator in range(setup.operator_count):
         yield setup.operators_at + 10 * operator + 8, 2
-    yield setup.operators_at + 10 * setup.operator_count, setup.size - setup.operators_at - 10 * setup.operator_count
+    yield setup.accounts_at, setup.size - setup.accounts_at
     yield PHASE, 2
     yield SCHEDULE_COUNT, 2 + 11 * number(book, SCHEDULE_COUNT, 2)
     yield from part_in_use(book, PRESENT, setup)

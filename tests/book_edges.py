@@ -1,16 +1,18 @@
-"""Cases of books at the edges: margins and guarantees met exactly, rows alike, the ranges of rows, and a book that is full."""
+"""Cases of books at the edges: margins and guarantees met exactly, margins that differ by hour, rows alike, the ranges of rows, and a
+book that is full.
+"""
 import setups
 from book import (BUYS, CONFIRMED, PENDING, PRESENT, ROW_COUNT, SAVED, SCHEDULE_COUNT, SELLS, SPARE, WITHDRAWN, Book, Part, guarantee_at,
-                  net_at, row_at, schedule_at)
-from books import CODE, DAY, UNUSED, but, readings, row, schedule
-from setups import ACCOUNTS, OPERATORS
+                  margin_at, net_at, row_at, schedule_at)
+from books import CODE, DAY, UNUSED, at_the_ends, but, readings, row, schedule
+from setups import OPERATORS, margins
 
 
 def edges(s):
     """Margins met exactly and exposure equal to what is available; one kWh, one cent and one price more."""
     # one operator: 100,000 cents at m 100 are 90,000,000; 18,000 at 5,000 as well (account 1, hour 1)
-    whole = setups.Setup(24, 2, 2, 1, 1).but((ACCOUNTS, 0, "upper", 0), (ACCOUNTS, 1, "lower", 0), (ACCOUNTS, 1, "upper", 20_000),
-                                             (OPERATORS, 1, "guarantee", 0)).bytes()
+    whole = setups.Setup(24, 2, 2, 1, 1).but(*margins(0, "upper", [0] * 24), *margins(1, "lower", [0] * 24),
+                                             *margins(1, "upper", [20_000] * 24), (OPERATORS, 1, "guarantee", 0)).bytes()
     s.open(whole)
     for status in (PENDING, CONFIRMED):
         for quantity, expected in ((18_000, ""), (18_001, "exposure")):
@@ -58,6 +60,71 @@ def edges(s):
     s.open(none)
     s.become(Book(none, rows=[row(1, 2, 0, SELLS, 1, 1, 1, PENDING)]), "exposure")
     s.become(Book(none, rows=[row(2, 1, 0, BUYS, 1, 1, 1, PENDING)]))
+
+
+# margins of account 1 by hour: those below 20 to 900, those above far from them; of account 2 as wide as may be
+LOWER = [20 + 40 * h for h in range(23)]
+UPPER = [600_050 - 10_007 * h for h in range(23)]
+WIDE = [10_000_000] * 23
+
+
+def by_hour(s):
+    """Margins that differ by hour, met exactly and passed by one, in either part; a stored margin changed under the rows."""
+    market = setups.Setup(23, 2, 2, 0, 1).but((OPERATORS, 0, "guarantee", 10 ** 12), (OPERATORS, 1, "guarantee", 10 ** 12),
+                                              *margins(0, "lower", LOWER), *margins(0, "upper", UPPER),
+                                              *margins(1, "lower", WIDE), *margins(1, "upper", WIDE))
+    day = market.bytes()
+    ample = [10 ** 12, 10 ** 12]
+    plain = Book(day).setup
+    s.open(day)
+    for hour in (1, 12, 23):
+        lower, upper = LOWER[hour - 1], UPPER[hour - 1]
+        for more, expected in ((0, ""), (1, "margin")):
+            for status in (PENDING, CONFIRMED):
+                s.become(Book(day, rows=[row(1, 2, 0, SELLS, hour, hour, lower + more, status)]), expected)
+                s.become(Book(day, rows=[row(1, 2, 0, BUYS, hour, hour, upper + more, status)]), expected)
+            # as counterparty: a pending row does not count, a confirmed one does
+            s.become(Book(day, rows=[row(2, 1, 0, BUYS, hour, hour, lower + more, CONFIRMED)]), expected)
+            s.become(Book(day, rows=[row(2, 1, 0, SELLS, hour, hour, upper + more, CONFIRMED)]), expected)
+            s.become(Book(day, rows=[row(2, 1, 0, BUYS, hour, hour, lower + more, PENDING)]))
+    # over all hours the least margin decides: the lower one of hour 1, the upper one of hour 23
+    for more, expected in ((0, ""), (1, "margin")):
+        s.become(Book(day, rows=[row(1, 2, 0, SELLS, 1, 23, LOWER[0] + more, PENDING)]), expected)
+        s.become(Book(day, rows=[row(1, 2, 0, BUYS, 1, 23, UPPER[22] + more, CONFIRMED)]), expected)
+    # every margin met: sales pending, then confirmed; purchases pending beside the pending sales
+    sales = [row(1, 2, hour, SELLS, hour, hour, LOWER[hour - 1], PENDING) for hour in range(1, 24)]
+    purchases = [row(1, 2, 100 + hour, BUYS, hour, hour, UPPER[hour - 1], PENDING) for hour in range(1, 24)]
+    gone = [{**x, "status": WITHDRAWN} for x in sales + purchases]
+    s.become(Book(day, rows=gone, saved=Part(ample, sales + purchases)))
+    moved_margins(s, plain, "saved: margin", ("lower", "upper"))
+    s.become(Book(day, rows=sales + purchases, saved=Part(ample)))
+    moved_margins(s, plain, "margin", ("lower", "upper"))
+    s.become(Book(day, rows=sales + purchases))
+    moved_margins(s, plain, "margin", ("lower", "upper"))
+    s.become(Book(day, rows=[{**x, "status": CONFIRMED} for x in sales]))
+    moved_margins(s, plain, "margin", ("lower",))
+    # a stored margin out of range: 10,000,000 is 98 96 80
+    for bound, hour in (("lower", 1), ("lower", 12), ("lower", 23), ("upper", 1), ("upper", 12), ("upper", 23)):
+        at = margin_at(plain, 2, bound, hour)
+        s.damage(at, 0x81, "set-up")
+        s.damage(at, 0x7F, "")
+        s.damage(at + 3, 1, "set-up")
+    for bound, hour in (("lower", 1), ("upper", 23)):
+        s.damage(margin_at(plain, 1, bound, hour) + 3, 1, "set-up")
+    # the last account: its margins met in one hour each, and moved in that hour and in those beside it
+    s.become(Book(day, rows=[row(2, 1, 0, SELLS, 23, 23, 10_000_000, PENDING), row(2, 1, 1, BUYS, 12, 12, 10_000_000, PENDING)]))
+    for bound, hour, expected in (("lower", 23, "margin"), ("lower", 22, ""), ("lower", 12, ""), ("upper", 12, "margin"), ("upper", 11, ""),
+                                  ("upper", 13, ""), ("upper", 23, "")):
+        s.damage(margin_at(plain, 2, bound, hour), 0x7F, expected)
+
+
+def moved_margins(s, setup, broken, bounds):
+    """A margin of account 1 that is met exactly, one lower: broken; one higher: kept. In hours at the ends and in the middle."""
+    for bound in bounds:
+        for hour in (1, 2, 12, 22, 23):
+            at = margin_at(setup, 1, bound, hour)
+            s.damage(at, s.room[at] - 1, broken)
+            s.damage(at, s.room[at] + 1, "")
 
 
 def twins(s):
@@ -109,7 +176,7 @@ def full(s):
     rows = [row(1 + k % 32, 1 + (k + 1) % 32, 2 ** 64 - 1 - k, 1 + k % 2, 1 + k % 25, 25, 50 + k, CONFIRMED if k % 3 else WITHDRAWN)
             for k in range(256)]
     schedules = [schedule(1 + k % 64, 1 + k % 2, 1 + k % 25, 10_000_000 - k, 400_000 - k) for k in range(256)]
-    s.open(most)
+    at_the_ends(s, most)
     s.become(Book(most, phase=2, rows=rows, schedules=schedules, guarantees=[0x01010101, 0xE800000000] + [10 ** 12] * 14))
     for account in (1, 2, 16, 31, 32):
         for hour in (1, 2, 13, 24, 25):
@@ -135,6 +202,7 @@ def full(s):
 
 def cases(s):
     edges(s)
+    by_hour(s)
     twins(s)
     withdrawn(s)
     full(s)

@@ -79,23 +79,28 @@ def opening(s):
     s.open(setups.Setup(23, 1, 1, 0, 1).bytes(), BOOK - 1)
     s.judge()
     s.show(0, 16)
-    # the least and the greatest
-    for setup in (setups.Setup(23, 1, 1, 0, 1), setups.Setup(25, 16, 32, 64, 8)):
-        s.open(setup.bytes())
-        s.judge()
-        size = len(setup.bytes())
-        s.show(0, 24)
-        s.show(PRESENT, 130)
-        s.damage(size - 1, 255, "set-up")
-        s.damage(size, 1, UNUSED)
-        for account, hour in ((1, 23), (1, 24), (2, 1), (32, 25), (32, 26), (33, 25)):
-            s.net(account, hour)
-        for operator in (1, 2, 16, 17):
-            s.exposure(operator)
+    at_the_ends(s, setups.Setup(23, 1, 1, 0, 1).bytes())
+
+
+def at_the_ends(s, setup):
+    """A fresh book: its counts, its guarantees, and the last byte of its set-up; readings at the ends of what it has."""
+    s.open(setup)
+    s.judge()
+    s.show(0, 24)
+    s.show(PRESENT, 130)
+    s.damage(len(setup) - 1, 255, "set-up")
+    s.damage(len(setup), 1, UNUSED)
+    for account, hour in ((1, 23), (1, 24), (2, 1), (32, 25), (32, 26), (33, 25)):
+        s.net(account, hour)
+    for operator in (1, 2, 16, 17):
+        s.exposure(operator)
 
 
 def setup_damages(s):
-    """The counts, an estimate, an operator, an account and a point. The day's entries: 5, 101, 121 and 161 on; 194 bytes."""
+    """The counts, an estimate, an operator, an account and a point. The day's entries: 5, 101, 121 and 897 on; 930 bytes.
+
+    Account 1 stands at 121 (lower margins at 123, upper ones at 219), account 3 at 509, account 4 at 703.
+    """
     for at, values in ((0, (22, 23, 25, 26)), (1, (0, 1, 3, 17)), (2, (0, 3, 5, 33)), (3, (0, 2, 4, 65)), (4, (0, 9))):
         for value in values:
             s.damage(at, value)
@@ -112,18 +117,19 @@ def setup_damages(s):
     s.damage(121, 2, "exposure")                    # account 1 to operator 2, whose exposure it is then
     s.damage(121, 3, "set-up")
     s.damage(122, 2, "set-up")                      # point 1 is on it
-    s.damage(142, 2, "")                            # no point on account 3
-    s.damage(142, 3, "set-up")
-    s.damage(125, 0x99, "set-up")                   # 10,000,000 is 98 96 80
-    s.damage(125, 1, "")
-    s.damage(161, 2, "set-up")                      # the point's account is of kind 2
-    s.damage(161, 3, "")
-    s.damage(162, 3, "")
-    s.damage(162, 0, "set-up")
-    s.damage(163, 2, "")
-    s.damage(163, 3, "set-up")
-    s.damage(168, 1, "set-up")                      # a withdrawal on a point of kind 1
-    for at in (194, SETUP_ROOM - 1):
+    s.damage(510, 2, "")                            # no point on account 3
+    s.damage(510, 3, "set-up")
+    for at in (125, 217, 221, 313, 707, 895):       # account 1, lower and upper, hours 1 and 24; account 4, the first and the last
+        s.damage(at, 0x99, "set-up")                # 10,000,000 is 98 96 80
+        s.damage(at, 1, "")
+    s.damage(897, 2, "set-up")                      # the point's account is of kind 2
+    s.damage(897, 3, "")
+    s.damage(898, 3, "")
+    s.damage(898, 0, "set-up")
+    s.damage(899, 2, "")
+    s.damage(899, 3, "set-up")
+    s.damage(904, 1, "set-up")                      # a withdrawal on a point of kind 1
+    for at in (930, SETUP_ROOM - 1):
         s.damage(at, 1, UNUSED)
 
 

@@ -85,9 +85,14 @@ def write(request, buffer):
 # ---- "Opening": the values of a set-up, each entry's in the order of its bytes.
 ESTIMATE = (("price", 4),)
 OPERATOR = (("guarantee", 8), ("maintenance", 2))
-ACCOUNT = (("operator", 1), ("kind", 1), ("lower", 4), ("upper", 4))
 POINT = (("account", 1), ("kind", 1), ("zone", 1), ("injection", 4), ("withdrawal", 4))
 COUNT_RANGES = ((23, 25), (1, 16), (1, 32), (0, 64), (1, 8))
+
+
+def account_shape(hours):
+    """Operator and kind, then the lower margins by hour, then the upper ones. A margin's name is a pair: bound and hour."""
+    margins = tuple(((bound, hour), 4) for bound in ("lower", "upper") for hour in range(1, hours + 1))
+    return (("operator", 1), ("kind", 1)) + margins
 
 
 def entries_of(setup, at, how_many, shape):
@@ -109,11 +114,11 @@ def setup_verdict(setup):
     hours, operators, accounts, points, zones = setup[:5]
     if any(not least <= count <= greatest for count, (least, greatest) in zip(setup, COUNT_RANGES)):
         return (8, 0, 0)
-    if len(setup) != 5 + 4 * hours + 10 * operators + 10 * accounts + 11 * points:
+    if len(setup) != 5 + 4 * hours + 10 * operators + (2 + 8 * hours) * accounts + 11 * points:
         return (8, 0, 0)
     estimate_list, at = entries_of(setup, 5, hours, ESTIMATE)
     operator_list, at = entries_of(setup, at, operators, OPERATOR)
-    account_list, at = entries_of(setup, at, accounts, ACCOUNT)
+    account_list, at = entries_of(setup, at, accounts, account_shape(hours))
     point_list, at = entries_of(setup, at, points, POINT)
     faults = set()
 
@@ -130,8 +135,9 @@ def setup_verdict(setup):
     for x in account_list:
         hold(x["operator"], 1, operators)
         hold(x["kind"], 1, 2)
-        hold(x["lower"], 0, 10_000_000)
-        hold(x["upper"], 0, 10_000_000)
+        for hour in range(1, hours + 1):
+            hold(x["lower", hour], 0, 10_000_000)
+            hold(x["upper", hour], 0, 10_000_000)
     for x in point_list:
         kind = x["kind"][1]
         hold(x["account"], 1, accounts)

@@ -1,8 +1,11 @@
-"""Cases of set-ups: their shape, each value at its edges, two faults at once, points against accounts."""
+"""Cases of set-ups: their shape, each value at its edges, margins by hour, two faults at once, points against accounts.
+
+The program reads 65,536 bytes of cases, so that each value is tried at few edges here; days/setup_days.py has all of them.
+"""
 import copy
 import itertools
 
-from document import ACCOUNT, ESTIMATE, OPERATOR, POINT, low_first
+from document import ESTIMATE, OPERATOR, POINT, account_shape, low_first
 
 
 class Setup:
@@ -12,7 +15,10 @@ class Setup:
         self.estimates = [{"price": 5_000 + h} for h in range(hours)]
         self.operators = [{"guarantee": 100_000, "maintenance": 100} for _ in range(operators)]
         # accounts of kinds 1 and 2 by turns, points of kinds 1, 2 and 3 by turns
-        self.accounts = [{"operator": 1 + a % operators, "kind": 1 + a % 2, "lower": 20_000, "upper": 30_000} for a in range(accounts)]
+        self.accounts = [{"operator": 1 + a % operators, "kind": 1 + a % 2} for a in range(accounts)]
+        for account in self.accounts:
+            account.update({("lower", h): 20_000 for h in range(1, hours + 1)})
+            account.update({("upper", h): 30_000 for h in range(1, hours + 1)})
         self.points = [self.point(p % 3 + 1, p % 3 % 2 + 1, 1 + p % zones) for p in range(points)]
         self.zones = zones
 
@@ -22,7 +28,8 @@ class Setup:
                 "withdrawal": 0 if kind == 1 else 16_000}
 
     def rooms(self):
-        return ((ESTIMATE, self.estimates), (OPERATOR, self.operators), (ACCOUNT, self.accounts), (POINT, self.points))
+        return ((ESTIMATE, self.estimates), (OPERATOR, self.operators), (account_shape(len(self.estimates)), self.accounts),
+                (POINT, self.points))
 
     def bytes(self, counts=None):
         counts = counts or (len(self.estimates), len(self.operators), len(self.accounts), len(self.points), self.zones)
@@ -38,23 +45,27 @@ class Setup:
 
 
 ESTIMATES, OPERATORS, ACCOUNTS, POINTS = range(4)
-ENERGY = (0, 1, 10_000_000, 10_000_001, 2 ** 32 - 1)
+ALL_ONES = 2 ** 32 - 1
+
+
+def margins(entry, bound, values):
+    """The changes that give an account these margins, by hour."""
+    return [(ACCOUNTS, entry, (bound, hour), value) for hour, value in enumerate(values, 1)]
 
 
 def shapes(s):
     for hours in (23, 24, 25):
-        s.setup(Setup(hours, 2, 2, 3, 2).bytes())
-    s.setup(Setup().bytes())
+        s.setup(Setup(hours).bytes())
+    s.setup(Setup(24, 2, 2, 3, 2).bytes())
     s.setup(Setup(25, 16, 32, 64, 8).bytes())
-    # each count about its range, the entries as many as it says
-    for changed in ({"hours": 22}, {"hours": 26}, {"operators": 16}, {"operators": 17}, {"accounts": 32}, {"accounts": 33},
-                    {"points": 64, "accounts": 2}, {"points": 65, "accounts": 2}, {"zones": 8}, {"zones": 9}):
+    # each count past its range, the entries as many as it says (33 accounts are in the days)
+    for changed in ({"hours": 22}, {"hours": 26}, {"operators": 17}, {"points": 65, "accounts": 2}, {"zones": 9}):
         s.setup(Setup(**changed).bytes())
     for which in range(5):
         for value in (0, 255):
             counts = [23, 1, 1, 0, 1]
             counts[which] = value
-            s.setup(Setup().bytes(counts))
+            s.setup(Setup().bytes(counts) if which == 4 else bytes(counts))
     # no operators, no accounts, no zones, with the length to match
     none = Setup()
     none.operators = []
@@ -63,12 +74,22 @@ def shapes(s):
     none.accounts = []
     s.setup(none.bytes())
     # lengths
-    whole = Setup(24, 2, 2, 3, 2).bytes()
+    whole = Setup(24, 1, 1, 1, 1).bytes()
     for length in (0, 1, 2, 3, 4, 5, 6, len(whole) - 11, len(whole) - 1):
         s.setup(whole[:length])
     s.setup(whole + b"\0")
     s.setup(whole + whole)
-    s.setup(Setup(24, 1, 1, 1, 1).bytes((25, 1, 1, 1, 1)))
+    s.setup(bytes([25]) + whole[1:])
+    # an account's entry too few and too many, a margin too few and too many
+    entry = 2 + 8 * 24
+    for length in (entry, 4):
+        s.setup(whole[:-length])
+        s.setup(whole + bytes(length))
+    s.setup(Setup(24, 1, 1, 0, 1).bytes((24, 1, 2, 0, 1)))
+    s.setup(Setup(24, 1, 2, 0, 1).bytes((24, 1, 1, 0, 1)))
+    # one pair of margins for the whole day: 10 bytes for each account
+    for hours, operators, accounts, points in ((23, 1, 1, 0), (24, 2, 2, 1), (25, 1, 32, 0)):
+        s.setup(bytes([hours, operators, accounts, points, 1]) + bytes(4 * hours + 10 * operators + 10 * accounts + 11 * points))
     # a wrong length and a value at fault: the lower number
     s.setup(Setup().but((ESTIMATES, 0, "price", 400_001)).bytes() + b"\0")
     s.setup(b"\xFF" * 200)
@@ -76,76 +97,70 @@ def shapes(s):
 
 
 def edges(s):
-    base = Setup(23, 2, 2, 0, 1)
-    for entry in (0, 11, 22):
-        for value in (0, 400_000, 400_001, 2 ** 32 - 1):
-            s.setup(base.but((ESTIMATES, entry, "price", value)).bytes())
-    for entry in (0, 1):
-        for value in (0, 10 ** 12, 10 ** 12 + 1, 2 ** 64 - 1):
-            s.setup(base.but((OPERATORS, entry, "guarantee", value)).bytes())
-        for value in (0, 1000, 1001, 2 ** 16 - 1):
-            s.setup(base.but((OPERATORS, entry, "maintenance", value)).bytes())
-        for value in (0, 1, 2, 3, 255):
-            s.setup(base.but((ACCOUNTS, entry, "operator", value)).bytes())
-            s.setup(base.but((ACCOUNTS, entry, "kind", value)).bytes())
-        for name in ("lower", "upper"):
-            for value in ENERGY:
-                s.setup(base.but((ACCOUNTS, entry, name, value)).bytes())
-    base = Setup(23, 1, 2, 2, 2)
-    base.points = [Setup.point(3, 1, 1), Setup.point(3, 2, 2)]
-    for entry in (0, 1):
-        for value in (0, 1, 2, 3, 255):
-            s.setup(base.but((POINTS, entry, "account", value)).bytes())
-            s.setup(base.but((POINTS, entry, "zone", value)).bytes())
-        for value in (0, 3, 4, 255):
-            s.setup(base.but((POINTS, entry, "kind", value)).bytes())
-        for name in ("injection", "withdrawal"):
-            for value in ENERGY:
-                s.setup(base.but((POINTS, entry, name, value)).bytes())
+    """The least and the greatest of every value at once, and each value past its range."""
+    few = Setup(23, 1, 1, 1, 1)
+    for price, guarantee, maintenance, injection in ((0, 0, 0, 0), (400_000, 10 ** 12, 1000, 10_000_000)):
+        s.setup(few.but(*((ESTIMATES, h, "price", price) for h in range(23)), (OPERATORS, 0, "guarantee", guarantee),
+                        (OPERATORS, 0, "maintenance", maintenance), (POINTS, 0, "injection", injection)).bytes())
+    for entry, value in ((0, 400_001), (11, 400_001), (22, 400_001), (22, ALL_ONES)):
+        s.setup(few.but((ESTIMATES, entry, "price", value)).bytes())
+    for name, value in (("guarantee", 10 ** 12 + 1), ("guarantee", 2 ** 64 - 1), ("maintenance", 1001)):
+        s.setup(few.but((OPERATORS, 0, name, value)).bytes())
+    for name, value in (("guarantee", 10 ** 12 + 1), ("maintenance", 1001)):
+        s.setup(Setup(23, 2, 1, 0, 1).but((OPERATORS, 1, name, value)).bytes())
+    for name, value in (("operator", 0), ("operator", 2), ("kind", 0), ("kind", 3)):
+        s.setup(few.but((ACCOUNTS, 0, name, value)).bytes())
+    for name, value in (("operator", 3), ("kind", 0)):
+        s.setup(Setup(23, 2, 2, 0, 1).but((ACCOUNTS, 1, name, value)).bytes())
+    for name, value in (("account", 0), ("account", 2), ("kind", 0), ("kind", 4), ("zone", 0), ("zone", 2), ("injection", 10_000_001),
+                        ("injection", ALL_ONES), ("withdrawal", 1)):
+        s.setup(few.but((POINTS, 0, name, value)).bytes())
+
+
+def margins_by_hour(s):
+    """Each of lower and upper at its edges, in the first, a middle and the last hour of the first and the last account."""
+    base = Setup(23, 1, 2, 0, 1)
+    for lower, upper in ((0, 10_000_000), (10_000_000, 0)):
+        s.setup(base.but(*(change for entry in (0, 1) for bound, value in (("lower", lower), ("upper", upper))
+                           for change in margins(entry, bound, [value] * 23))).bytes())
+    for entry, bound, hour in itertools.product((0, 1), ("lower", "upper"), (1, 12, 23)):
+        s.setup(base.but((ACCOUNTS, entry, (bound, hour), 10_000_001)).bytes())
+    s.setup(base.but((ACCOUNTS, 1, ("upper", 23), ALL_ONES)).bytes())
+    # two at once: the lowest offset, whichever account, bound and hour it is of
+    for two in (((0, "lower", 23), (0, "upper", 1)), ((0, "upper", 23), (1, "lower", 1)), ((0, "upper", 2), (0, "lower", 3)),
+                ((1, "lower", 1), (0, "upper", 12))):
+        s.setup(base.but(*((ACCOUNTS, entry, (bound, hour), 10_000_001) for entry, bound, hour in two)).bytes())
+    s.setup(base.but((ACCOUNTS, 1, "operator", 2), (ACCOUNTS, 0, ("upper", 23), 10_000_001)).bytes())
+    s.setup(base.but((ACCOUNTS, 1, "kind", 3), (ACCOUNTS, 1, ("lower", 1), 10_000_001)).bytes())
+    # the last margin of the greatest set-up
+    s.setup(Setup(25, 16, 32, 64, 8).but((ACCOUNTS, 31, ("upper", 25), 10_000_001)).bytes())
 
 
 def points_against_accounts(s):
-    """Every kind of point on every kind of account, with and without each amount; amounts at their edges; accounts that are none."""
-    base = Setup(23, 1, 2, 1, 1)
-    for kind, account, injection, withdrawal in itertools.product((1, 2, 3), (1, 2), (0, 1), (0, 1)):
-        s.setup(base.but(*((POINTS, 0, name, value) for name, value in
-                           (("kind", kind), ("account", account), ("injection", injection), ("withdrawal", withdrawal)))).bytes())
-    for kind, name in ((1, "injection"), (2, "withdrawal")):
-        for value in ENERGY:
-            fresh = copy.deepcopy(base)
-            fresh.points = [Setup.point(kind, kind, 1)]
-            s.setup(fresh.but((POINTS, 0, name, value)).bytes())
-    for kind in (0, 1, 2, 3, 4):
-        for account in (0, 3, 255):
-            s.setup(base.but((POINTS, 0, "kind", kind), (POINTS, 0, "account", account)).bytes())
-    # the account's own kind is at fault, or is changed under its points
-    for kind in (0, 2, 3):
-        s.setup(base.but((ACCOUNTS, 0, "kind", kind)).bytes())
-    # the last point of the greatest set-up
-    most = Setup(25, 16, 32, 64, 8)
-    for name, value in (("account", 2), ("withdrawal", 1), ("zone", 9)):
-        s.setup(most.but((POINTS, 63, name, value)).bytes())
+    """Every kind of point on every kind of account, with the amounts that it may have; then with one that it may not have."""
+    for kind, account in itertools.product((1, 2, 3), (1, 2)):
+        base = Setup(23, 1, 1, 1, 1).but((ACCOUNTS, 0, "kind", account))
+        base.points = [Setup.point(kind, 1, 1)]
+        s.setup(base.bytes())
+        if kind == account == 2:
+            s.setup(base.but((POINTS, 0, "injection", 1)).bytes())
+            s.setup(base.but((POINTS, 0, "withdrawal", 10_000_001)).bytes())
 
 
 def two_faults(s):
-    """Each pair of values at fault: the lowest offset is given."""
+    """Each value at fault together with the next that is: the lowest offset is given."""
     base = Setup(23, 1, 1, 1, 1)
     faults = [(ESTIMATES, 0, "price", 400_001), (ESTIMATES, 22, "price", 400_001), (OPERATORS, 0, "guarantee", 10 ** 12 + 1),
               (OPERATORS, 0, "maintenance", 1001), (ACCOUNTS, 0, "operator", 2), (ACCOUNTS, 0, "kind", 2),
-              (ACCOUNTS, 0, "lower", 10_000_001), (ACCOUNTS, 0, "upper", 10_000_001), (POINTS, 0, "account", 2),
+              (ACCOUNTS, 0, ("lower", 23), 10_000_001), (ACCOUNTS, 0, ("upper", 1), 10_000_001), (POINTS, 0, "account", 2),
               (POINTS, 0, "kind", 2), (POINTS, 0, "zone", 0), (POINTS, 0, "injection", 10_000_001), (POINTS, 0, "withdrawal", 1)]
-    for two in itertools.combinations(faults, 2):
+    for two in zip(faults, faults[1:]):
         s.setup(base.but(*two).bytes())
-    # the same values of two entries, and of points in the other order of their offsets
-    many = Setup(23, 2, 2, 3, 2)
-    for room, name, value in ((OPERATORS, "maintenance", 1001), (ACCOUNTS, "upper", 10_000_001), (POINTS, "zone", 3)):
-        s.setup(many.but((room, 0, name, value), (room, 1, name, value)).bytes())
-    s.setup(many.but((POINTS, 0, "withdrawal", 1), (POINTS, 1, "account", 3)).bytes())
-    s.setup(many.but((POINTS, 1, "withdrawal", 10_000_001), (POINTS, 2, "kind", 1), (POINTS, 2, "account", 2)).bytes())
 
 
 def cases(s):
     shapes(s)
     edges(s)
+    margins_by_hour(s)
     points_against_accounts(s)
     two_faults(s)

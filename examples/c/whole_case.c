@@ -21,11 +21,14 @@ static size_t append_operator(uint8_t *bytes, size_t at, uint64_t guarantee, uns
     return append(bytes, at, 2, maintenance);
 }
 
+/* An account whose margins are the same in each hour: a lower one for each, then an upper one for each. */
 static size_t append_account(uint8_t *bytes, size_t at, unsigned operator_number, unsigned kind, uint32_t lower, uint32_t upper) {
+    int hour;
     at = append(bytes, at, 1, operator_number);
     at = append(bytes, at, 1, kind);
-    at = append(bytes, at, 4, lower);
-    return append(bytes, at, 4, upper);
+    for (hour = 1; hour <= HOURS; hour++) at = append(bytes, at, 4, lower);
+    for (hour = 1; hour <= HOURS; hour++) at = append(bytes, at, 4, upper);
+    return at;
 }
 
 /* 24 hours, two operators, two accounts, one point, one zone. */

@@ -67,15 +67,17 @@ def openings(d):
     d.k()
     # 8: under 5 bytes, every count out of range, wrong length
     for length in range(0, len(full), 1):
-        if length < 12 or length > len(full) - 12 or length % 29 == 0:
+        if length < 12 or length > len(full) - 12 or length % 97 == 0:
             d.o(full[:length], 8)
     d.o(full + b'\x00', 8)
     for place, bad in ((0, 22), (0, 26), (0, 0), (0, 255), (1, 0), (1, 17), (2, 0), (2, 33), (3, 65), (3, 255),
                        (4, 0), (4, 9)):
         d.o(full[:place] + bytes([bad]) + full[place + 1:], 8)
-    d.o(bytes([23, 1, 1, 65, 1]) + bytes(92 + 20 + 65 * 11), 8)
+    d.o(bytes([23, 1, 1, 65, 1]) + bytes(92 + 10 + 186 + 65 * 11), 8)
     # 9: each value at its first byte; the lowest of several
-    first, acc, pts = 5 + 96, 5 + 96 + 20, 5 + 96 + 20 + 30
+    # an account has 2 bytes, 24 lower margins and 24 upper ones
+    first, acc, entry = 5 + 96, 5 + 96 + 20, 2 + 96 + 96
+    pts = acc + 3 * entry
 
     def put(base, *changes):
         data = bytearray(base)
@@ -85,15 +87,15 @@ def openings(d):
 
     for at, width, most in ((5, 4, 400000), (97, 4, 400000), (first, 8, AMPLE), (first + 10, 8, AMPLE),
                             (first + 8, 2, 1000), (first + 18, 2, 1000), (acc + 2, 4, 10 ** 7),
-                            (acc + 6, 4, 10 ** 7), (acc + 26, 4, 10 ** 7), (pts + 3, 4, 10 ** 7),
+                            (acc + 98, 4, 10 ** 7), (acc + 2 * entry + 98, 4, 10 ** 7), (pts + 3, 4, 10 ** 7),
                             (pts + 18, 4, 10 ** 7), (pts + 25, 4, 10 ** 7), (pts + 29, 4, 10 ** 7)):
         d.o(put(full, (at, le(most + 1, width))), (9, at))
         d.o(put(full, (at, b'\xff' * width)), (9, at))
         d.o(put(full, (at, le(most, width))), 0)
         d.o(full)
     d.same(1)
-    for at, bad in ((acc, 0), (acc, 3), (acc + 10, 255), (acc + 1, 0), (acc + 1, 3), (acc + 21, 9), (pts, 0), (pts, 4),
-                    (pts + 11, 255), (pts + 1, 0), (pts + 1, 4), (pts + 2, 0), (pts + 2, 3), (pts + 24, 3)):
+    for at, bad in ((acc, 0), (acc, 3), (acc + entry, 255), (acc + 1, 0), (acc + 1, 3), (acc + 2 * entry + 1, 9),
+                    (pts, 0), (pts, 4), (pts + 11, 255), (pts + 1, 0), (pts + 1, 4), (pts + 2, 0), (pts + 2, 3), (pts + 24, 3)):
         d.o(put(full, (at, bytes([bad]))), (9, at))
     # amounts that a kind forbids are faults of that amount; a kind mismatch of the point's kind
     d.o(put(full, (pts + 7, b'\x01')), (9, pts + 7))
@@ -107,7 +109,7 @@ def openings(d):
     d.o(put(full, (pts + 7, b'\x01'), (pts, b'\x02')), (9, pts + 1))
     d.o(put(full, (pts + 7, b'\x01'), (97, b'\xff\xff\xff'), (first + 8, b'\xff\xff')), (9, 97))
     d.o(put(full, (pts, b'\x09'), (pts + 1, b'\x09')), (9, pts))
-    d.o(put(full, (acc + 11, b'\x03'), (pts + 12, b'\x01')), (9, acc + 11))
+    d.o(put(full, (acc + entry + 1, b'\x03'), (pts + 12, b'\x01')), (9, acc + entry + 1))
     d.same(1)
     # smallest and largest set-ups
     for hours in (23, 24, 25):

@@ -3,18 +3,20 @@ import collections
 import pathlib
 
 import input_days
+import margin_days
 import random_days
 import row_days
 import settle_days
+import setup_days
 from cases import Days
 
-MOST = 1_000_000
+MOST = 1_200_000
 PROGRAM = pathlib.Path(__file__).parents[2] / 'crates' / 'day_test'
 
 
 def make():
     days = Days()
-    for group in (input_days, row_days, settle_days, random_days):
+    for group in (input_days, row_days, settle_days, setup_days, margin_days, random_days):
         for day in group.DAYS:
             day(days)
     return days

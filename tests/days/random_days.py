@@ -1,18 +1,33 @@
-"""Random days near limits, checked against the ledger and against the list without undone batches."""
+"""Random days near limits, checked against the ledger and against the list without undone batches.
+
+In some the margins of an account are the same in every hour, in others they differ by hour.
+"""
 import random
 
 import reading
 import records as w
 
 SEEDS = range(301, 331)
+SEEDS_BY_HOUR = range(331, 341)
 
 
-def opening(chance):
+def hour_by_hour(chance, margin, hours):
+    """Margins close to the given one, but 0 in a run of hours: an outage."""
+    each = [max(0, margin + chance.choice((-3, -1, 0, 0, 1, 2))) for _ in range(hours)]
+    first = chance.randrange(hours)
+    last = min(hours, first + chance.choice((0, 1, 2, 4, 6)))
+    return each[:first] + [0] * (last - first) + each[last:]
+
+
+def opening(chance, differing):
     hours = chance.choice((23, 24, 25))
     operators = chance.randrange(1, 5)
     zones = chance.randrange(1, 4)
     accounts = [(chance.randrange(1, operators + 1), chance.choice((1, 2)), chance.choice((40, 100, 200, 300)),
                  chance.choice((0, 60, 200, 400))) for _ in range(chance.randrange(2, 7))]
+    if differing:
+        accounts = [(operator, kind, hour_by_hour(chance, lower, hours), hour_by_hour(chance, upper, hours))
+                    for operator, kind, lower, upper in accounts]
     points = []
     for _ in range(chance.choice((0, 3, 5, 7, 9, 12))):
         account = chance.randrange(len(accounts))
@@ -36,22 +51,31 @@ def hours_of(chance, hours):
     return first, last
 
 
-def register(chance, book):
+def room_of(book, account, side, first, last):
+    """The greatest quantity that the account's margins leave for a sale or a purchase."""
+    net, sales, buys = reading.position(book, book.rows, account)
+    has = book.accounts[account - 1]
+    hours = range(first - 1, last)
+    if side == 1:
+        return min(net[h] - sales[h] + has.lower[h] for h in hours)
+    return min(has.upper[h] - net[h] - buys[h] for h in hours)
+
+
+def register(chance, book, differing):
     account, other = chance.sample(range(1, len(book.accounts) + 1), 2)
     side = chance.choice((1, 2))
     first, last = hours_of(chance, book.hours)
-    net, sales, buys = reading.position(book, book.rows, account)
-    has = book.accounts[account - 1]
-    part = slice(first - 1, last)
+    room = room_of(book, account, side, first, last)
     if side == 1:
-        room = min(n - s + has.lower for n, s in zip(net[part], sales[part]))
-        price = sum(book.estimates[part])
-        left = book.available(has.operator) - reading.exposure_of(book, book.rows, has.operator)
+        operator = book.accounts[account - 1].operator
+        price = sum(book.estimates[first - 1:last])
+        left = book.available(operator) - reading.exposure_of(book, book.rows, operator)
         if price and chance.random() < 0.8:
             room = min(room, left // price)
-    else:
-        room = min(has.upper - n - b for n, b in zip(net[part], buys[part]))
-    if chance.random() < 0.5:
+    if differing and chance.random() < 0.5:
+        # what the other party could just confirm, where it can confirm anything
+        room = min(room, max(1, room_of(book, other, 3 - side, first, last)))
+    elif chance.random() < 0.5:
         room //= 2
     return w.register(account, other, chance.randrange(4), side, first, last, near(chance, room))
 
@@ -122,10 +146,10 @@ def schedule(chance, book):
     return w.schedule(side, hour, quantity, point, chance.randrange(48, 53))
 
 
-def trade_record(chance, book):
+def trade_record(chance, book, differing):
     turn = chance.random()
     if turn < 0.42:
-        return register(chance, book)
+        return register(chance, book, differing)
     if turn < 0.70:
         return confirm(chance, book)
     if turn < 0.80:
@@ -140,12 +164,12 @@ def trade_record(chance, book):
         return w.KEEP
     if turn < 0.983 and book.saved is not None:
         return w.CLOSE
-    return chance.choice((w.schedule(1, 1, 1, 1, 1), w.SETTLE, register(chance, book)))
+    return chance.choice((w.schedule(1, 1, 1, 1, 1), w.SETTLE, register(chance, book, differing)))
 
 
-def random_day(d, seed):
+def random_day(d, seed, differing=False):
     chance = random.Random(seed)
-    setup = opening(chance)
+    setup = opening(chance, differing)
     d.o(setup)
     ledger = reading.Ledger(setup)
     calls, verdicts = [], []
@@ -169,7 +193,7 @@ def random_day(d, seed):
             d.e(chance.randrange(1, len(d.book.guarantees) + 1))
 
     for step in range(chance.randrange(150, 420)):
-        do(trade_record(chance, d.book))
+        do(trade_record(chance, d.book, differing))
         if step % 60 == 30:
             look(3)
             ledger.check(d.book)
@@ -190,7 +214,7 @@ def random_day(d, seed):
     ledger.check(d.book)
     ledger.check_total(d.book, reading.read_prices(prices), money)
     do(w.SETTLE, prices, 512, 512)
-    do(trade_record(chance, d.book))
+    do(trade_record(chance, d.book, differing))
     if seed % 10 == 0:
         d.read_all()
     # with every undone batch cut out: the same answers outside it, the same book
@@ -213,4 +237,5 @@ def random_day(d, seed):
     return setup, calls
 
 
-DAYS = tuple((lambda d, seed=seed: random_day(d, seed)) for seed in SEEDS)
+DAYS = (tuple((lambda d, seed=seed: random_day(d, seed)) for seed in SEEDS)
+        + tuple((lambda d, seed=seed: random_day(d, seed, True)) for seed in SEEDS_BY_HOUR))

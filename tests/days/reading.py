@@ -206,7 +206,8 @@ class Ledger:
             assert sum(nets) == 0
             for account, net in enumerate(nets, 1):
                 assert net == self.net(account, hour)
-                assert -book.accounts[account - 1].lower <= net <= book.accounts[account - 1].upper
+                has = book.accounts[account - 1]
+                assert -has.lower[hour - 1] <= net <= has.upper[hour - 1]
         for operator in range(1, len(book.guarantees) + 1):
             owed = exposure(book, operator)[3]
             assert owed == self.exposure(operator)

@@ -85,11 +85,13 @@ def forms():
     add('refused counts end it', stream(b'\x16' + small()[1:], SELL), '0 8 0 0\n')
     add('refused length ends it', stream(small() + b'\x00', SELL), '0 8 0 0\n')
     add('refused value ends it', stream(small(24, AMPLE + 1), SELL, CLOSE), '0 9 101 0\n')
-    add('refused kind mismatch ends it', stream(small(points=((2, 1, 1, 5, 0),)), SELL), '0 9 142 0\n')
+    add('refused kind mismatch ends it', stream(small(points=((2, 1, 1, 5, 0),)), SELL), '0 9 510 0\n')
     add('refused set-up, then a cut', stream(small()[:-1]) + b'\x05', '0 8 0 0\n')
     short = stream(small(23, points=()), SELL, SETTLE + flat(23, 1, 1)[:5], UNDO)
+    opened = 2 + len(small(23, points=()))
     for length in range(len(short) + 1):
-        add('cut at %d' % length, short[:length])
+        if length < 16 or length > opened - 16 or length % 16 == 0:
+            add('cut at %d' % length, short[:length])
     whole = stream(*WHOLE)
     for length in range(len(whole) - 196, len(whole), 7):
         add('whole case cut at %d' % length, whole[:length], lines(*WHOLE_TEXT.split('\n')[:5], 'cut 5'))
@@ -156,6 +158,57 @@ def undone():
     add('batch open at the end', stream(day, OPEN, CLOSE, OPEN), lines('0 0 0 0', '1 0 0 0', '2 12 0 0', '3 12 0 0'))
 
 
+def by_hour():
+    """Margins that differ by hour: account 1 sells nothing in hours 5 to 8, account 2 has one kWh less room in the last hour."""
+    for hours in (23, 24, 25):
+        outage = [20000] * 4 + [0] * 4 + [20000] * (hours - 8)
+        short = [20000] * (hours - 1) + [19999]
+        day = setup([10] * hours, [(AMPLE, 0), (AMPLE, 0)], [(1, 1, outage, 0), (2, 2, 0, short)])
+        add('outage in hours 5 to 8 of %d' % hours,
+            stream(day, register(1, 2, 1, 1, 1, hours, 1), register(1, 2, 1, 1, 5, 5, 1), register(1, 2, 1, 1, 1, hours, 20001),
+                   register(1, 2, 1, 1, 8, hours, 20000), register(1, 2, 1, 1, 9, hours, 20001), register(1, 2, 1, 1, 9, hours, 20000),
+                   register(1, 2, 2, 1, 1, hours, 1), register(1, 2, 2, 1, 1, 4, 20000), register(1, 2, 3, 1, 4, hours, 1)),
+            lines('0 0 0 0', '1 18 5 0', '2 18 5 0', '3 18 1 0', '4 18 8 0', '5 18 9 0', '6 0 1 0', '7 18 5 0', '8 0 2 0', '9 18 4 0'))
+        add('one short in hour %d' % hours,
+            stream(day, register(2, 1, 1, 2, 1, hours, 20000), register(1, 2, 1, 1, 9, hours, 20000), confirm(2, 1, 1, 2, 9, hours, 20000),
+                   register(2, 1, 1, 2, 1, hours, 19999), register(2, 1, 2, 2, 1, hours - 1, 1), withdraw(2, 2), withdraw(2, 3),
+                   withdraw(1, 1), register(1, 2, 1, 1, 9, hours, 19999), confirm(2, 1, 1, 2, 9, hours, 19999),
+                   register(1, 2, 2, 1, 9, hours, 1), confirm(2, 1, 2, 2, 9, hours, 1), register(1, 2, 3, 1, hours, hours, 1)),
+            lines('0 0 0 0', '1 18 %d 0' % hours, '2 0 1 0', '3 18 %d 0' % hours, '4 0 2 0', '5 0 3 0', '6 0 0 0', '7 0 0 0', '8 0 0 0',
+                  '9 0 4 0', '10 0 4 0', '11 0 5 0', '12 18 %d 0' % hours, '13 18 %d 0' % hours))
+    # lower and upper are far apart, and each party is close to a margin in an hour of its own
+    day = setup([10] * 24, [(AMPLE, 0), (AMPLE, 0)], [(1, 1, [900] * 2 + [50] + [900] * 21, [7] * 24),
+                                                      (2, 2, [3] * 24, [800] * 6 + [40] + [800] * 17)])
+    add('both parties close to a margin',
+        stream(day, register(1, 2, 1, 1, 1, 24, 51), register(1, 2, 1, 1, 1, 24, 50), confirm(2, 1, 1, 2, 1, 24, 50), withdraw(1, 1),
+               register(1, 2, 1, 1, 1, 24, 40), confirm(2, 1, 1, 2, 1, 24, 40), register(1, 2, 2, 1, 3, 3, 11),
+               register(1, 2, 2, 1, 3, 3, 10), confirm(2, 1, 2, 2, 3, 3, 10), register(1, 2, 3, 2, 4, 24, 48),
+               register(1, 2, 3, 2, 4, 24, 47), confirm(2, 1, 3, 1, 4, 24, 47), register(1, 2, 4, 2, 4, 24, 43),
+               withdraw(1, 4), register(1, 2, 4, 2, 4, 24, 43), confirm(2, 1, 4, 1, 4, 24, 43)),
+        lines('0 0 0 0', '1 18 3 0', '2 0 1 0', '3 18 7 0', '4 0 0 0', '5 0 2 0', '6 0 2 0', '7 18 3 0', '8 0 3 0', '9 0 3 0',
+              '10 18 4 0', '11 0 4 0', '12 18 4 0', '13 18 4 0', '14 0 0 0', '15 0 5 0', '16 0 5 0'))
+    # one hour filled by pending rows, freed by a withdrawal and by an undo
+    day = setup([10] * 24, [(AMPLE, 0), (AMPLE, 0)], [(1, 1, [900] * 11 + [30] + [900] * 12, 0), (2, 2, 0, 900)])
+    add('one hour filled and freed',
+        stream(day, register(1, 2, 1, 1, 11, 13, 20), register(1, 2, 2, 1, 12, 12, 10), register(1, 2, 3, 1, 1, 24, 1),
+               register(1, 2, 3, 1, 1, 11, 1), withdraw(1, 2), register(1, 2, 4, 1, 12, 24, 11), OPEN,
+               register(1, 2, 4, 1, 12, 24, 10), register(1, 2, 5, 1, 12, 12, 1), UNDO, register(1, 2, 5, 1, 12, 12, 10),
+               register(1, 2, 6, 1, 12, 12, 1)),
+        lines('0 0 0 0', '1 0 1 0', '2 0 2 0', '3 18 12 0', '4 0 3 0', '5 0 0 0', '6 18 12 0', '7 0 0 0', '8 0 4 0', '9 18 12 0',
+              '10 0 1 0', '11 0 4 0', '12 18 12 0'))
+    # set-ups: 24 hours, the accounts from 121 and 315, lower margins 2 bytes on, upper ones 98
+    for account, place, at in ((0, 2, 123), (0, 3, 219), (1, 2, 317), (1, 3, 413)):
+        for hour in (1, 12, 24):
+            accounts = [[1, 1, [5] * 24, [6] * 24], [2, 2, [7] * 24, [8] * 24]]
+            accounts[account][place][hour - 1] = 10 ** 7
+            add('the greatest margin', stream(setup([10] * 24, [(AMPLE, 0), (AMPLE, 0)], accounts), UNDO), lines('0 0 0 0', '1 13 0 0'))
+            accounts[account][place][hour - 1] += 1
+            add('a margin too great', stream(setup([10] * 24, [(AMPLE, 0), (AMPLE, 0)], accounts), UNDO),
+                lines('0 9 %d 0' % (at + 4 * (hour - 1))))
+    add('one pair of margins for all hours', stream(small()[:121] + bytes(20) + small()[-11:], UNDO), '0 8 0 0\n')
+    add('an account too few', stream(small()[:315] + small()[-11:], UNDO), '0 8 0 0\n')
+
+
 def full_day():
     """256 rows, then 256 schedules, settled."""
     market = setup([0] * 25, [(0, 0), (0, 0), (0, 1000)], [(1, 1, 5000, 0), (2, 2, 0, 5000), (3, 2, 0, 5000)],
@@ -202,9 +255,13 @@ def random_streams():
     for seed in range(401, 413):
         opening, calls = random_days.random_day(Days(), seed)
         add('random day %d' % seed, stream(opening, *(call[0] + call[1] for call in calls)))
+    for seed in range(413, 419):
+        opening, calls = random_days.random_day(Days(), seed, True)
+        add('random day %d, margins by hour' % seed, stream(opening, *(call[0] + call[1] for call in calls)))
+    assert all(len(data) <= STREAM_BYTES for name, data, _ in STREAMS if name.startswith('random'))
 
 
-for part in (edges, forms, verdicts, undone, full_day, long_day, random_streams):
+for part in (edges, forms, verdicts, undone, by_hour, full_day, long_day, random_streams):
     part()
 
 

@@ -23,14 +23,14 @@ use Rattle.rules.specs.Basics.{entries}
 use Rattle.rules.specs.Books.{Setup}
 use Rattle.rules.specs.Opening.{setupRefusal, countsIn, operatorsOffset, setupLength, operatorIn, operatorsIn, setupOf, guaranteesOf, operatorEntry, guaranteeWidth}
 use Rattle.rules.proofs.Basics.Tests.{and-both}
-use Rattle.rules.proofs.Setups.SetupEntries.{counts-of-setup, operator-at}
+use Rattle.rules.proofs.Setups.SetupEntries.{entries-first, counts-of-setup, operator-at}
 use Rattle.image.specs.Layout.{setupRoom}
 use Rattle.image.specs.Image.{storedSetup}
 use Rattle.image.specs.Valid.{setupOk}
 use Rattle.image.proofs.Sound.Soundness.{SoundSetup, sound-setup}
 use Rattle.image.proofs.Writing.Sizes.{length-stored, sound-short}
 use Rattle.image.proofs.Setups.StoredSetup.{guarantees-back}
-use Rattle.image.proofs.Setups.SetupAgain.{NoGuarantees, setup-again, entries-first, counts-first-bytes, setup-short, accepted-sound, front-sound, front-accepted}
+use Rattle.image.proofs.Setups.SetupAgain.{NoGuarantees, setup-again, counts-first-bytes, setup-short, accepted-sound, front-sound, front-accepted}
 use Rattle.image.proofs.Reading.Places.{counts-at}
 use Rattle.audit.specs.Exact.{noGuarantees}
 
@@ -81,7 +81,7 @@ module _ (s : List ℕ) (b : Bytes s) (l : setupRoom ≤ length s) (k : SoundSet
   length-first = length-take-le setupRoom s l
 
   stored-length : length (storedSetup u) ≡ setupLength n
-  stored-length = length-stored u (k .estimates-all) ∙ ap setupLength (counts-of-setup first ∙ counts)
+  stored-length = length-stored u (k .estimates-all) (k .margins-all) ∙ ap setupLength (counts-of-setup first ∙ counts)
 
   inside : setupLength n ≤ setupRoom
   inside = setup-short s k

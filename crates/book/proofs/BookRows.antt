@@ -11,16 +11,15 @@ use Rattle.wire.specs.Parts.{cut}
 use Rattle.wire.proofs.PartLaws.{cut-at, inner}
 use Rattle.wire.proofs.SlotLaws.{chunks-front}
 use Rattle.units.specs.Units.{cents}
-use Rattle.rules.specs.declared.Account.{Account}
 use Rattle.rules.specs.declared.Margins.{Margins}
 use Rattle.rules.specs.declared.Counts.{Counts}
 use Rattle.rules.specs.declared.Row.{Row}
-use Rattle.rules.specs.Basics.{nth, Each, entries}
+use Rattle.rules.specs.Basics.{Each, entries}
 use Rattle.rules.specs.Limits.{mostPrice, mostRows, mostHours, mostAccounts, bookSize}
-use Rattle.rules.specs.Books.{Setup, Book, noAccount, noRow, accountAt, operatorOf, countsOf, operatorCount, accountCount, periods, marginsOf}
-use Rattle.rules.specs.Opening.{countsIn, accountsIn, accountOffset, estimatesIn, setupOf, operatorsOf}
+use Rattle.rules.specs.Books.{Setup, Book, noAccount, noRow, operatorOf, countsOf, operatorCount, accountCount, periods, marginsAt}
+use Rattle.rules.specs.Opening.{countsIn, estimatesIn, setupOf, operatorsOf}
 use Rattle.rules.proofs.Basics.Searches.{each-map, each-nth, each-at}
-use Rattle.rules.proofs.Setups.SetupEntries.{account-at, account-wide, account-inside, account-numbered, counts-of-setup}
+use Rattle.rules.proofs.Setups.SetupEntries.{counts-of-setup}
 use Rattle.image.specs.Layout.{setupRoom, rowWidth, partWidths, partSize, presentOffset, rowCountOffset, rowsOffset, rowCountSection, rowsSection}
 use Rattle.image.specs.Image.{partOf, partIn}
 use Rattle.image.specs.Valid.{isBook, bookIn}
@@ -30,9 +29,7 @@ use Rattle.image.proofs.Sound.Soundness.{SoundSetup, SoundRow}
 use Rattle.image.proofs.Setups.SetupRanges.{InRange, values-in-range}
 use Rattle.image.proofs.Setups.SetupAgain.{counts-first-bytes, setup-short, setup-in-front}
 use Rattle.image.proofs.Reading.Places.{decode-places}
-use Rattle.book.specs.declared.worth.AccountEntries.{AccountEntries}
 use Rattle.book.specs.Members.{IsAccount, IsOperator, IsRow, numberedRow}
-use Rattle.book.specs.Worth.{entriesIn}
 use Rattle.book.proofs.StateLaws.{book-length, book-is-sound, row-count-stands}
 
 -- ---- a part
@@ -102,16 +99,12 @@ module _ (s : List ℕ) (h : isBook s ≡ true) where
   pub rows-tabled : Each (Tabled mostHours) (bookIn s .part .rows)
   rows-tabled = each-map (sound-tabled (bookIn s .setup) (book-is-sound s h .setup-sound)) (book-is-sound s h .part-sound .rows-sound)
 
-  -- the counts and an account, as they were read
+  -- the counts and the margins, as they were read
   pub hours-read : (n : Counts) → n ≡ countsIn s → n .hours ≡ periods (bookIn s .setup)
   hours-read n e = ap (λ (m : Counts). m .hours) (e ∙ sym (counts-in))
 
-  pub account-read : (x : Account) (a : ℕ) → x ≡ nth (accountsIn s) a noAccount → x ≡ accountAt (bookIn s .setup) a
-  unfolding setupOf
-  account-read x a e = e ∙ ap (λ (u : Setup). accountAt u a) (sym (setup-in))
-
-  pub margins-read : (x : Margins) (a : ℕ) → x ≡ marginsOf (nth (accountsIn s) a noAccount) → x ≡ marginsOf (accountAt (bookIn s .setup) a)
-  margins-read x a e = e ∙ ap marginsOf (account-read (nth (accountsIn s) a noAccount) a refl)
+  pub margins-read : (x : Margins) (a k : ℕ) → x ≡ marginsAt (setupOf s) a k → x ≡ marginsAt (bookIn s .setup) a k
+  margins-read x a k e = e ∙ ap (λ (u : Setup). marginsAt u a k) (sym setup-in)
 
   pub accounts-read : (a : ℕ) → a ≤ accountCount (bookIn s .setup) → (a ≤ countsIn s .accounts) × (a ≤ mostAccounts)
   accounts-read a l =
@@ -119,23 +112,6 @@ module _ (s : List ℕ) (h : isBook s ≡ true) where
 
   pub hours-few : periods (bookIn s .setup) ≤ mostHours
   hours-few = book-is-sound s h .setup-sound .hours-high
-
-  -- the first byte of an account's entry is its operator
-  module _ (a : ℕ) (entries : AccountEntries) (e : entries ≡ entriesIn s) (own : IsAccount (bookIn s) a) where
-    within : a ≤ countsIn s .accounts
-    within = omega (arith, own .1, ap (λ (m : Counts). m .accounts) counts-in)
-
-    place : entries .from + entries .width * (a - 1) ≡ accountOffset (countsIn s) a
-    place = rw e
-
-    pub entry-inside : entries .from + entries .width * (a - 1) < length s
-    entry-inside = omega (arith, place, account-inside (countsIn s) a (own .0) within, account-wide (countsIn s), setup-tabled .whole)
-
-    pub entry-operator-is : numberAt s (entries .from + entries .width * (a - 1)) 1 ≡ operatorOf (bookIn s .setup) a
-    unfolding setupOf
-    entry-operator-is =
-        let entry = account-numbered s (countsIn s) refl a place (sym (account-at s (entries .from + entries .width * (a - 1)) (countsIn s))) (own .0) within in
-        ap (λ (x : Account). x .operator) entry ∙ sym (ap (λ (u : Setup). operatorOf u a) setup-in)
 
   -- the row of a number is sound, and the table has room for it
   pub numbered-sound : (n : ℕ) → IsRow (bookIn s) n → SoundRow (bookIn s .setup) (numberedRow (bookIn s) n)

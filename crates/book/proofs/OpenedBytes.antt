@@ -26,6 +26,7 @@ use Rattle.rules.specs.Limits.{mostOperators, mostAccounts, mostRows, mostSched
 use Rattle.rules.specs.Books.{Setup, operatorCount, accountCount, pointCount, countsOf}
 use Rattle.rules.specs.Opening.{countsIn, operatorsOffset, setupLength, operatorIn, operatorsIn, setupOf, guaranteesOf, operatorBytes, accountBytes, pointBytes, operatorsOf, setupBytes, setupRefusal, opened, operatorEntry, guaranteeWidth}
 use Rattle.rules.specs.Registration.{moved}
+use Rattle.rules.proofs.Basics.Searches.{each-any}
 use Rattle.rules.proofs.Setups.SetupEntries.{operator-at, counts-of-setup}
 use Rattle.rules.proofs.Setups.SetupShape.{accepted-shape}
 use Rattle.image.specs.Layout.{setupRoom, rowWidth, scheduleWidth, accountWidth, partWidths, partSize, usedSize, bookWidths, phaseOffset, presentOffset, setupSection, phaseSection, presentSection, guaranteesSection}
@@ -64,7 +65,7 @@ abbrev pub guaranteesBytes : List Cents → List ℕ
 guaranteesBytes gs = joined (λ g. le guaranteeWidth (g .0)) gs
 
 pub length-guarantees-bytes : (gs : List Cents) → length (guaranteesBytes gs) ≡ guaranteeWidth * length gs
-length-guarantees-bytes gs = length-joined guaranteeWidth (λ g. le guaranteeWidth (g .0)) gs length-guarantee
+length-guarantees-bytes gs = length-joined guaranteeWidth (λ g. le guaranteeWidth (g .0)) gs (each-any gs length-guarantee)
 
 copied : (n : ℕ) (d : List ℕ) (at : ℕ) (s : List ℕ) (from : ℕ) → Bytes s → from + operatorEntry * n ≤ length s → at + guaranteeWidth * n ≤ length d
     → guaranteesPut d at s from n ≡ splice d at (guaranteesBytes (map (λ x. x .guarantee) (entries operatorEntry operatorIn n (drop from s))))
@@ -122,7 +123,7 @@ guarantees-cleared-setup u gs rest g e =
     let c : List ℕ = u .hours ∷ operatorCount u ∷ accountCount u ∷ pointCount u ∷ u .zones ∷ [] in
     let prices : List ℕ = joined (λ p. le 4 (p .0)) (u .estimates) in
     let l : length (c ++ prices) ≡ operatorsOffset (countsOf u) =
-    length-append c prices ∙ omega (arith, length-joined 4 (λ p. le 4 (p .0)) (u .estimates) (λ p. length-le 4 (p .0))) in
+    length-append c prices ∙ omega (arith, length-joined 4 (λ p. le 4 (p .0)) (u .estimates) (each-any _ (λ p. length-le 4 (p .0)))) in
     let os : List Operator = operatorsOf gs (u .maintenance) in
     let accounts : List ℕ = joined accountBytes (u .accounts) in
     let points : List ℕ = joined pointBytes (u .points) in
@@ -148,7 +149,8 @@ module _ (s : List ℕ) (b : Bytes s) (h : setupRefusal s ≡ none) where
 
   pub length-stored-opened : length (storedSetup (setupOf s)) ≡ length s
   length-stored-opened =
-      length-stored (setupOf s) (sound-setup (setupOf s) (accepted-sound s h) .estimates-all)
+      let k = sound-setup (setupOf s) (accepted-sound s h) in
+      length-stored (setupOf s) (k .estimates-all) (k .margins-all)
       ∙ ap setupLength (counts-of-setup s) ∙ sym (accepted-shape s h .exact)
 
   -- the set-up at the front of zeros, its guarantees made zero

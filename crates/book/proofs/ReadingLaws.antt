@@ -1,6 +1,6 @@
 -- What the readings answer, by the tests that code makes: the lowest bit that is out of range, else the figure. A net within the margins is
 -- read from its 4 bytes, as it is nearer to zero than 2^31.
-use Prim.Native.Nat.{ℕ, zero, suc, _+_, _-_, _*_, _%_, _^_, _≤_}
+use Prim.Native.Nat.{ℕ, _+_, _-_, _*_, _%_, _^_, _≤_}
 use mathlib.Core.Path.{_≡_, refl, sym, ap, _∙_}
 use mathlib.Core.List.{List, [], _∷_}
 use mathlib.Core.Option.{Option, some}
@@ -12,8 +12,7 @@ use Rattle.wire.specs.Numbers.{numberAt}
 use Rattle.units.specs.declared.MilliCents.{MilliCents}
 use Rattle.units.specs.Units.{kwh, milliCents}
 use Rattle.rules.specs.declared.Counts.{Counts}
-use Rattle.rules.specs.declared.Operator.{Operator}
-use Rattle.rules.specs.declared.Account.{Account}
+use Rattle.rules.specs.declared.Margins.{Margins}
 use Rattle.rules.specs.declared.AccountHour.{AccountHour}
 use Rattle.rules.specs.declared.NetReading.{NetReading}
 use Rattle.rules.specs.declared.ExposureReading.{ExposureReading}
@@ -23,20 +22,19 @@ use Rattle.rules.specs.declared.Refusal.{Refusal}
 use Rattle.rules.specs.declared.Refusal.the-variants.{OutOfRange}
 use Rattle.rules.specs.Basics.{if_then_else_, within}
 use Rattle.rules.specs.Limits.{mostEnergy, mostHours, bookSize}
-use Rattle.rules.specs.Books.{Setup, noAccount, accountAt, operatorCount, accountCount, periods, marginsOf}
+use Rattle.rules.specs.Books.{Setup, marginsAt, operatorCount, accountCount, periods}
 use Rattle.rules.specs.Opening.{countsIn, setupOf}
 use Rattle.rules.specs.Registration.{bought, sold, netOf, accountHour, keepsMargins, exposure}
 use Rattle.rules.specs.Verdicts.{Check, _⇒_, firstToApply}
 use Rattle.rules.specs.Readings.{position, netChecks, netReadingOf, netReading, exposureChecks, exposureReadingOf, exposureReading}
 use Rattle.rules.proofs.Basics.Tests.{and-both, within-true}
-use Rattle.rules.proofs.Basics.Searches.{each-at}
 use Rattle.rules.proofs.Checks.Clearing.{clear-applies}
 use Rattle.image.specs.Layout.{presentOffset, netOffset, netWidth}
 use Rattle.image.specs.Valid.{isBook, bookIn}
 use Rattle.image.specs.Tables.{InTable}
 use Rattle.book.specs.Members.{IsAccount, IsHour}
 use Rattle.image.proofs.Writing.Sizes.{fits}
-use Rattle.image.proofs.Setups.SetupRanges.{InRange, SoundAccount}
+use Rattle.image.proofs.Setups.SetupRanges.{margins-in-range}
 use Rattle.image.proofs.Round.{book-is-image}
 use Rattle.image.proofs.Reading.ImageReads.{net-read}
 use Rattle.book.proofs.StateLaws.{book-is-sound}
@@ -71,22 +69,17 @@ applies-past : (t : Bool) (r : Refusal) (cs : List Check) → t ≡ false → fi
 unfolding firstToApply
 applies-past t r cs e = rw (e, firstToApply)
 
--- an account of a set-up in range
-account-in-range : (u : Setup) (os : List Operator) (a : ℕ) → InRange u os → 1 ≤ a → a ≤ accountCount u → SoundAccount (operatorCount u) (accountAt u a)
-account-in-range u os zero k low high = absurd (omega arith)
-account-in-range u os (suc i) k low high = each-at noAccount i (k .accounts-sound) (omega arith)
-
 -- margins in range keep the two sums of a net near each other
-margins-near : (account : Account) (x : AccountHour) (operators : ℕ) → SoundAccount operators account → keepsMargins (marginsOf account) x ≡ true
+margins-near : (margins : Margins) (x : AccountHour) → (margins .lower .0 ≤ mostEnergy) × (margins .upper .0 ≤ mostEnergy) → keepsMargins margins x ≡ true
     → (x .net .sold .0 ≤ x .net .bought .0 + mostEnergy) × (x .net .bought .0 ≤ x .net .sold .0 + mostEnergy)
 unfolding keepsMargins
-margins-near account x operators k h =
+margins-near margins x small h =
     let owed = x .net .sold .0 + x .sales .0 in
-    let lower = x .net .bought .0 + account .lower .0 in
+    let lower = x .net .bought .0 + margins .lower .0 in
     let due = x .net .bought .0 + x .purchases .0 in
-    let upper = x .net .sold .0 + account .upper .0 in
+    let upper = x .net .sold .0 + margins .upper .0 in
     let w = and-both (leb owed lower) (leb due upper) .0 h in
-    (omega (arith, leb-true owed lower (w .0), k .lower-high), omega (arith, leb-true due upper (w .1), k .upper-high))
+    (omega (arith, leb-true owed lower (w .0), small .0), omega (arith, leb-true due upper (w .1), small .1))
 
 -- ---- the net of an account hour of a book
 
@@ -96,7 +89,7 @@ module _ (s : List ℕ) (h : isBook s ≡ true) (a t : ℕ) (i : IsAccount (book
     pub net-near : (sold (bookIn s .part .rows) a t ≤ bought (bookIn s .part .rows) a t + mostEnergy) × (bought (bookIn s .part .rows) a t ≤ sold (bookIn s .part .rows) a t + mostEnergy)
     net-near =
         let u : Setup = bookIn s .setup in
-        margins-near (accountAt u a) (accountHour (bookIn s .part .rows) a t) (operatorCount u) (account-in-range u _ a (values-in s h) (i .0) (i .1))
+        margins-near (marginsAt u a t) (accountHour (bookIn s .part .rows) a t) (margins-in-range u _ a t (values-in s h))
         (book-is-sound s h .part-sound .keeps-margins a t (i .0) (i .1) (j .0) (j .1))
 
     -- it has its place

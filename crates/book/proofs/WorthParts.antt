@@ -15,7 +15,7 @@ use Rattle.units.specs.Units.{centsPerMwh}
 use Rattle.rules.specs.declared.Counts.{Counts}
 use Rattle.rules.specs.declared.Row.{Row}
 use Rattle.rules.specs.Basics.{if_then_else_, total, nth, counting, upTo, within, Each}
-use Rattle.rules.specs.Limits.{mostEnergy, mostPrice, mostHours}
+use Rattle.rules.specs.Limits.{mostEnergy, mostPrice, mostHours, mostAccounts}
 use Rattle.rules.specs.Books.{Setup, noRow, estimateAt, operatorOf, accountCount, periods}
 use Rattle.rules.specs.Opening.{countsIn, estimatesIn, setupOf}
 use Rattle.rules.specs.Registration.{pending, exposure, exposureWith}
@@ -26,8 +26,8 @@ use Rattle.rules.proofs.Basics.Differences.{lt-or-ge}
 use Rattle.image.specs.Valid.{isBook, bookIn}
 use Rattle.image.proofs.Sound.Soundness.{SoundRow}
 use Rattle.image.proofs.Tables.MoneyLaws.{price-most}
-use Rattle.book.specs.declared.worth.AccountEntries.{AccountEntries}
-use Rattle.book.specs.Worth.{shortWorth, spanPrice, saleWorth, PriceSums, PricedSpan, SaleInputs, TradeInRange, netWith, sumsSize, mostPriceSum, mostSaleWorth}
+use Rattle.book.specs.Members.{IsAccount}
+use Rattle.book.specs.Worth.{AccountOperators, shortWorth, spanPrice, saleWorth, PriceSums, PricedSpan, SaleInputs, TradeInRange, netWith, operatorsSize, sumsSize, mostPriceSum, mostSaleWorth}
 use Rattle.book.proofs.BookRows.{counts-in, setup-in, estimates-in, values-in}
 use Rattle.book.proofs.StateLaws.{book-is-sound}
 use Rattle.book.proofs.WorthLaws.{exposure-split}
@@ -96,6 +96,36 @@ summed-next u sums (suc i) v low high e t =
 pub summed-done : (u : Setup) (sums : List ℕ) (n : ℕ) → periods u < n → SummedTo u sums n → PriceSums u sums
 summed-done u sums n l t = record { whole = t .whole; sum = λ k h. t .sum k (omega arith) }
 
+-- ---- the accounts' operators
+
+-- the entries of the accounts below n are their operators
+pub record NamedTo (u : Setup) (operators : List ℕ) (n : ℕ) : Type 0 where
+  pub whole : length operators ≡ operatorsSize
+  pub operator : (a : ℕ) → 1 ≤ a → a < n → getD operators a 0 ≡ operatorOf u a
+
+pub named-first : (u : Setup) (operators : List ℕ) → length operators ≡ operatorsSize → NamedTo u operators 1
+named-first u operators e = record { whole = e; operator = λ a low high. absurd (omega arith) }
+
+pub named-next : (u : Setup) (operators : List ℕ) (a v : ℕ) → a ≤ mostAccounts → v ≡ operatorOf u a → NamedTo u operators a
+    → NamedTo u (set operators a v) (a + 1)
+named-next u operators a v high e t =
+    record {
+      whole = rw length-set (t .whole);
+      operator = λ k low l.
+          ⊎-elim
+          (λ (w : k < a). getD-set-other operators a k _ 0 (λ z. omega arith) ∙ t .operator k low w)
+          (λ (w : a ≤ k). let same : k ≡ a = omega arith in rw same (getD-set-same operators a v 0 (omega (arith, t .whole)) ∙ e))
+          (lt-or-ge k a);
+    }
+
+pub named-done : (u : Setup) (operators : List ℕ) (n : ℕ) → accountCount u < n → NamedTo u operators n → AccountOperators u operators
+named-done u operators n l t = record { whole = t .whole; operator = λ a low high. t .operator a low (omega arith) }
+
+-- an account of a book has its entry
+pub operator-listed : (s operators : List ℕ) (a : ℕ) → isBook s ≡ true → AccountOperators (bookIn s .setup) operators → IsAccount (bookIn s) a
+    → a < length operators
+operator-listed s operators a k t own = omega (arith, t .whole, own .1, book-is-sound s k .setup-sound .accounts-high)
+
 -- ---- a row's hours
 
 module _ (price : ℕ → ℕ) (first last : ℕ) where
@@ -146,10 +176,10 @@ pub record Spanned (u : Setup) (sums : List ℕ) (r : Row) : Type 0 where
   pub priced : PricedSpan sums (r .first) (r .last) (r .quantity .0)
   pub exact : getD sums (r .last) 0 - getD sums (r .first - 1) 0 ≡ spanPrice u r
 
-pub spanned : (s sums : List ℕ) (entries : AccountEntries) (r : Row) → SaleInputs s sums entries → TradeInRange (bookIn s .setup) r → pending r ≡ true
+pub spanned : (s sums operators : List ℕ) (r : Row) → SaleInputs s sums operators → TradeInRange (bookIn s .setup) r → pending r ≡ true
     → Spanned (bookIn s .setup) sums r
 unfolding spanPrice
-spanned s sums entries r i t p =
+spanned s sums operators r i t p =
     let u = bookIn s .setup in
     let k = t .hours-known p in
     let whole = span-sum (λ h. estimateAt u h .0) (r .first) (r .last) (periods u) (k .0) (k .1) (k .2) in

@@ -9,20 +9,23 @@ use Rattle.units.specs.Units.{kwh}
 use Rattle.rules.specs.declared.Row.{Row}
 use Rattle.rules.specs.declared.Net.{Net}
 use Rattle.rules.specs.Basics.{if_then_else_, total, upTo, Each}
-use Rattle.rules.specs.Limits.{mostEnergy, mostPrice, mostHours}
+use Rattle.rules.specs.Limits.{mostEnergy, mostPrice, mostHours, mostAccounts}
 use Rattle.rules.specs.Books.{Setup, Book, estimateAt, operatorOf, accountCount, periods, sellingSide}
-use Rattle.rules.specs.Opening.{countsIn, accountsOffset, accountEntry}
 use Rattle.rules.specs.Registration.{pending, includesHour, accountHour, afterTrade, afterTrades, ofOperator}
 use Rattle.image.specs.Valid.{isBook, bookIn}
-use Rattle.book.specs.declared.worth.AccountEntries.{AccountEntries}
 use Rattle.book.specs.declared.worth.Added.{Added}
 use Rattle.book.specs.declared.worth.Added.the-variants.{Nothing, One}
 
--- ---- the accounts' entries, and the rows that are to be added
+-- ---- the accounts' operators, and the rows that are to be added
 
--- where these bytes have the entries of the accounts
-abbrev pub entriesIn : List ℕ → AccountEntries
-entriesIn s = record { from = accountsOffset (countsIn s); width = accountEntry (countsIn s) }
+-- how many operators of accounts there are: one for each account that a book can have, and one for no account
+abbrev pub operatorsSize : ℕ
+operatorsSize = mostAccounts + 1
+
+-- entry a of the list is the operator of account a
+pub record AccountOperators (u : Setup) (operators : List ℕ) : Type 0 where
+  pub whole : length operators ≡ operatorsSize
+  pub operator : (a : ℕ) → 1 ≤ a → a ≤ accountCount u → getD operators a 0 ≡ operatorOf u a
 
 -- what is to be added, as rows
 abbrev pub addedRows : Added → List Row
@@ -108,11 +111,11 @@ saleWorth u o r = if pending r && eqb (r .side) sellingSide && eqb (operatorOf u
 abbrev pub mostSaleWorth : ℕ
 mostSaleWorth = mostEnergy * mostPriceSum
 
--- what the pending sales are worked out from: bytes that are a book, the sums of its estimated prices, and where its accounts' entries are
-pub record SaleInputs (s sums : List ℕ) (entries : AccountEntries) : Type 0 where
+-- what the pending sales are worked out from: bytes that are a book, the sums of its estimated prices, and the operators of its accounts
+pub record SaleInputs (s sums operators : List ℕ) : Type 0 where
   pub is-book : isBook s ≡ true
   pub price-sums : PriceSums (bookIn s .setup) sums
-  pub account-entries : entries ≡ entriesIn s
+  pub account-operators : AccountOperators (bookIn s .setup) operators
 
 -- a row that can be added: its quantity is in range and, where it is pending, its proposer and its hours are those of the set-up
 pub record TradeInRange (u : Setup) (trade : Row) : Type 0 where

@@ -22,7 +22,7 @@ use image::layout::ROW_WIDTH;
 use image::layout::ROWS_OFFSET;
 use image::layout::SAVED_OFFSET;
 use image::layout::SCHEDULE_COUNT_OFFSET;
-use setup::entries::account;
+use setup::entries::account_operator;
 use wire::numbers::get_u8;
 use wire::numbers::get_u16;
 
@@ -94,6 +94,5 @@ pub fn operator_of(book: &[u8], number: u8) -> u8
     ensures inside { λ r. ⌜ IsOperator (bookIn (now (book .entry))) r ⌝ }
     ensures bounded { λ r. ⌜ r ≤ mostOperators ⌝ }
 {
-    let entry = account(book, number);
-    entry.operator
+    account_operator(book, number)
 }

@@ -5,12 +5,13 @@ ghost use Prim.Native.Nat.{_-_, _*_, _^_, _≤_, _<_};
 ghost use lib.ListN.{length, getD};
 ghost use Rattle.rules.specs.Basics.{total, Each};
 ghost use Rattle.rules.specs.Limits.{mostEnergy, mostPrice, mostAccounts, mostRows};
-ghost use Rattle.rules.specs.Books.{estimateAt, operatorOf};
+ghost use Rattle.rules.specs.Books.{estimateAt};
 ghost use Rattle.rules.specs.Registration.{exposureWith};
 ghost use Rattle.image.specs.Valid.{isBook, bookIn};
 ghost use Rattle.book.specs.Members.{IsAccount, IsHour, IsRow, numberedRow};
-ghost use Rattle.book.specs.Worth.{entriesIn, addedRows, QuantityInRange, shortOf, shortAfter, shortWorth, saleWorth, PriceSums, PricedSpan, SaleInputs, TradeInRange, accountShort, shortShare, netsWith, sumsSize, mostShort, mostShortWorth, mostSaleWorth};
+ghost use Rattle.book.specs.Worth.{AccountOperators, addedRows, QuantityInRange, shortOf, shortAfter, shortWorth, saleWorth, PriceSums, PricedSpan, SaleInputs, TradeInRange, accountShort, shortShare, netsWith, operatorsSize, sumsSize, mostShort, mostShortWorth, mostSaleWorth};
 use crate::positions::net_at;
+use crate::state::operator_of;
 use crate::state::row_count;
 use crate::state::row_offset;
 use image::rows::row_at;
@@ -18,12 +19,11 @@ use rules::AccountHour;
 use rules::Net;
 use rules::Row;
 use rules::hours::short;
+use rules::limits::MOST_ACCOUNTS;
 use rules::limits::PERIODS;
 use rules::sides::SELLS;
 use rules::statuses::CONFIRMED;
 use rules::statuses::PENDING;
-use setup::counts::account_entry;
-use setup::counts::accounts_offset;
 use setup::counts::counts;
 use setup::entries::estimate;
 use units::CentsPerMwh;
@@ -37,35 +37,35 @@ pub enum Added {
     One(Row),
 }
 
-// Where the entries of the accounts are: the first begins at `from`, and each is `width` bytes long.
-struct AccountEntries {
-    from: usize,
-    width: usize,
-}
+// How many operators of accounts there are: one for each account that a book can have, and one for no account.
+const ACCOUNT_OPERATORS: usize = MOST_ACCOUNTS as usize + 1;
 
 // How many sums of prices there are: one for each hour that a day can have, and one for no hour.
 const PRICE_SUMS: usize = PERIODS + 1;
 
-// ---- the accounts' entries
+// ---- the accounts' operators
 
-// Where a book has the entries of its accounts.
-fn account_entries(book: &[u8]) -> AccountEntries
-    requires { ⌜ isBook (now book) ≡ true ⌝ }
-    ensures { λ r. ⌜ r ≡ entriesIn (now (book .entry)) ⌝ }
+// Puts the operator of each account, by the account's number.
+fn fill_operators(operators: &mut [u8], book: &[u8])
+    requires { ⌜ (length (now operators) ≡ operatorsSize) × (isBook (now book) ≡ true) ⌝ }
+    ensures { λ _. ⌜ AccountOperators (bookIn (now (book .entry)) .setup) (now (operators .exit)) ⌝ }
 {
     let n = counts(book);
-    AccountEntries {
-        from: accounts_offset(n),
-        width: account_entry(n),
+    let mut number: u8 = 1;
+    while number <= n.accounts {
+        operators[number as usize] = operator_of(book, number);
+        number = number + 1;
     }
 }
 
-// The operator of an account: the first byte of the account's entry.
-fn entry_operator(book: &[u8], entries: AccountEntries, number: u8) -> u8
-    requires { ⌜ (isBook (now book) ≡ true) × (entries ≡ entriesIn (now book)) × IsAccount (bookIn (now book)) number ⌝ }
-    ensures { λ r. ⌜ r ≡ operatorOf (bookIn (now (book .entry)) .setup) number ⌝ }
+// The operators of all accounts, side by side: entry a is that of account a.
+fn account_operators(book: &[u8]) -> [u8; ACCOUNT_OPERATORS]
+    requires { ⌜ isBook (now book) ≡ true ⌝ }
+    ensures { λ r. ⌜ AccountOperators (bookIn (now (book .entry)) .setup) r ⌝ }
 {
-    get_u8(book, entries.from + entries.width * (number as usize - 1))
+    let mut operators = [0u8; ACCOUNT_OPERATORS];
+    fill_operators(&mut operators, book);
+    operators
 }
 
 // ---- prices
@@ -117,42 +117,36 @@ fn span_worth(sums: &[u64], first: u8, last: u8, quantity: Kwh) -> MilliCents
 }
 
 // What a row adds to the operator's exposure as a pending sale.
-fn sale_of(book: &[u8], sums: &[u64], entries: AccountEntries, operator: u8, r: Row) -> MilliCents
-    requires { ⌜ SaleInputs (now book) (now sums) entries × TradeInRange (bookIn (now book) .setup) r ⌝ }
+fn sale_of(book: &[u8], sums: &[u64], operators: &[u8], operator: u8, r: Row) -> MilliCents
+    requires { ⌜ SaleInputs (now book) (now sums) (now operators) × TradeInRange (bookIn (now book) .setup) r ⌝ }
     ensures meaning { λ m. ⌜ m .0 ≡ saleWorth (bookIn (now (book .entry)) .setup) operator r ⌝ }
     ensures bounded { λ m. ⌜ m .0 ≤ mostSaleWorth ⌝ }
 {
     if (r.status != PENDING) | (r.side != SELLS) {
         return MilliCents(0);
     }
-    if entry_operator(book, entries, r.proposer) == operator {
+    if operators[r.proposer as usize] == operator {
         return span_worth(sums, r.first, r.last, r.quantity);
     }
     MilliCents(0)
 }
 
 // What the book's row of that number adds to it. Most rows are another operator's, so that the operator is tested first.
-fn row_sale(
-    book: &[u8],
-    sums: &[u64],
-    entries: AccountEntries,
-    operator: u8,
-    number: u16,
-) -> MilliCents
-    requires { ⌜ SaleInputs (now book) (now sums) entries × IsRow (bookIn (now book)) number ⌝ }
+fn row_sale(book: &[u8], sums: &[u64], operators: &[u8], operator: u8, number: u16) -> MilliCents
+    requires { ⌜ SaleInputs (now book) (now sums) (now operators) × IsRow (bookIn (now book)) number ⌝ }
     ensures meaning { λ m. ⌜ (let b = bookIn (now (book .entry)) in m .0 ≡ saleWorth (b .setup) operator (numberedRow b number)) ⌝ }
     ensures bounded { λ m. ⌜ m .0 ≤ mostSaleWorth ⌝ }
 {
     let at = row_offset(number);
-    if entry_operator(book, entries, get_u8(book, at)) != operator {
+    if operators[get_u8(book, at) as usize] != operator {
         return MilliCents(0);
     }
-    sale_of(book, sums, entries, operator, row_at(book, at))
+    sale_of(book, sums, operators, operator, row_at(book, at))
 }
 
 // What all rows of the book add to it.
-fn sales_worth(book: &[u8], sums: &[u64], entries: AccountEntries, operator: u8) -> MilliCents
-    requires { ⌜ SaleInputs (now book) (now sums) entries ⌝ }
+fn sales_worth(book: &[u8], sums: &[u64], operators: &[u8], operator: u8) -> MilliCents
+    requires { ⌜ SaleInputs (now book) (now sums) (now operators) ⌝ }
     ensures meaning { λ m. ⌜ (let b = bookIn (now (book .entry)) in m .0 ≡ total (saleWorth (b .setup) operator) (b .part .rows)) ⌝ }
     ensures bounded { λ m. ⌜ m .0 ≤ mostRows * mostSaleWorth ⌝ }
 {
@@ -160,27 +154,21 @@ fn sales_worth(book: &[u8], sums: &[u64], entries: AccountEntries, operator: u8)
     let mut sum = MilliCents(0);
     let mut number: u16 = 1;
     while number <= rows {
-        sum = sum.plus(row_sale(book, sums, entries, operator, number));
+        sum = sum.plus(row_sale(book, sums, operators, operator, number));
         number = number + 1;
     }
     sum
 }
 
 // What the row that is to be added adds to it, if there is one.
-fn added_sale(
-    book: &[u8],
-    sums: &[u64],
-    entries: AccountEntries,
-    operator: u8,
-    added: Added,
-) -> MilliCents
-    requires { ⌜ SaleInputs (now book) (now sums) entries × Each (TradeInRange (bookIn (now book) .setup)) (addedRows added) ⌝ }
+fn added_sale(book: &[u8], sums: &[u64], operators: &[u8], operator: u8, added: Added) -> MilliCents
+    requires { ⌜ SaleInputs (now book) (now sums) (now operators) × Each (TradeInRange (bookIn (now book) .setup)) (addedRows added) ⌝ }
     ensures meaning { λ m. ⌜ m .0 ≡ total (saleWorth (bookIn (now (book .entry)) .setup) operator) (addedRows added) ⌝ }
     ensures bounded { λ m. ⌜ m .0 ≤ mostSaleWorth ⌝ }
 {
     match added {
         Added::Nothing => MilliCents(0),
-        Added::One(r) => sale_of(book, sums, entries, operator, r),
+        Added::One(r) => sale_of(book, sums, operators, operator, r),
     }
 }
 
@@ -237,26 +225,20 @@ fn account_short(book: &[u8], account: u8, added: Added) -> MilliCents
 }
 
 // What the account adds to the operator's sum of these: nothing where it is another operator's.
-fn short_share(
-    book: &[u8],
-    entries: AccountEntries,
-    account: u8,
-    operator: u8,
-    added: Added,
-) -> MilliCents
-    requires { ⌜ (isBook (now book) ≡ true) × (entries ≡ entriesIn (now book)) × IsAccount (bookIn (now book)) account × QuantityInRange added ⌝ }
+fn short_share(book: &[u8], operators: &[u8], account: u8, operator: u8, added: Added) -> MilliCents
+    requires { ⌜ (isBook (now book) ≡ true) × AccountOperators (bookIn (now book) .setup) (now operators) × IsAccount (bookIn (now book)) account × QuantityInRange added ⌝ }
     ensures meaning { λ r. ⌜ (let b = bookIn (now (book .entry)) in r .0 ≡ shortShare (b .setup) (netsWith b added) operator account) ⌝ }
     ensures bounded { λ r. ⌜ r .0 ≤ mostShortWorth ⌝ }
 {
-    if entry_operator(book, entries, account) == operator {
+    if operators[account as usize] == operator {
         return account_short(book, account, added);
     }
     MilliCents(0)
 }
 
 // What of the net positions of all the operator's accounts lies below zero, at estimated prices.
-fn short_worth(book: &[u8], entries: AccountEntries, operator: u8, added: Added) -> MilliCents
-    requires { ⌜ (isBook (now book) ≡ true) × (entries ≡ entriesIn (now book)) × QuantityInRange added ⌝ }
+fn short_worth(book: &[u8], operators: &[u8], operator: u8, added: Added) -> MilliCents
+    requires { ⌜ (isBook (now book) ≡ true) × AccountOperators (bookIn (now book) .setup) (now operators) × QuantityInRange added ⌝ }
     ensures meaning { λ r. ⌜ (let b = bookIn (now (book .entry)) in r .0 ≡ shortWorth (b .setup) (netsWith b added) operator) ⌝ }
     ensures bounded { λ r. ⌜ r .0 ≤ mostAccounts * mostShortWorth ⌝ }
 {
@@ -264,7 +246,7 @@ fn short_worth(book: &[u8], entries: AccountEntries, operator: u8, added: Added)
     let mut sum = MilliCents(0);
     let mut account: u8 = 1;
     while account <= n.accounts {
-        sum = sum.plus(short_share(book, entries, account, operator, added));
+        sum = sum.plus(short_share(book, operators, account, operator, added));
         account = account + 1;
     }
     sum
@@ -279,9 +261,9 @@ pub fn exposure_with(book: &[u8], operator: u8, added: Added) -> MilliCents
     ensures bounded { λ r. ⌜ r .0 < 2 ^ 63 ⌝ }
 {
     let sums = price_sums(book);
-    let entries = account_entries(book);
-    let below = short_worth(book, entries, operator, added);
-    let waits = sales_worth(book, &sums, entries, operator);
-    let own = added_sale(book, &sums, entries, operator, added);
+    let operators = account_operators(book);
+    let below = short_worth(book, &operators, operator, added);
+    let waits = sales_worth(book, &sums, &operators, operator);
+    let own = added_sale(book, &sums, &operators, operator, added);
     below.plus(waits).plus(own)
 }

@@ -10,17 +10,22 @@ use Rattle.rules.specs.declared.Row.{Row}
 use Rattle.rules.specs.declared.Schedule.{Schedule}
 use Rattle.rules.specs.Basics.{anyPasses, every, allOf, isSome, upTo, within}
 use Rattle.rules.specs.Limits.{mostEnergy, mostPrice, mostGuarantee, mostRows, mostSchedules, mostHours, bookSize}
-use Rattle.rules.specs.Books.{Setup, Part, Book, countsOf, operatorCount, accountCount, pointCount, periods, marginsAt, sellingSide, buyingSide, pendingStatus, withdrawnStatus, injectingSide, withdrawingSide, registrationPhase, settledPhase}
+use Rattle.rules.specs.Books.{Account, Setup, Part, Book, countsOf, operatorCount, accountCount, pointCount, periods, marginsAt, sellingSide, buyingSide, pendingStatus, withdrawnStatus, injectingSide, withdrawingSide, registrationPhase, settledPhase}
 use Rattle.rules.specs.Opening.{badCounts, operatorsOf, faultyOffset}
 use Rattle.rules.specs.Registration.{pending, alike, accountHour, keepsMargins, covered}
 use Rattle.image.specs.Image.{image, decode}
 
 -- ---- the set-up: one that opening would accept
 
+-- a lower and an upper margin for each hour
+abbrev pub marginsByHour : ℕ → Account → Bool
+marginsByHour hours x = eqb (length (x .lower)) hours && eqb (length (x .upper)) hours
+
 abbrev pub setupTests : Setup → List Bool
 setupTests u =
     not (badCounts (countsOf u))
     ∷ eqb (length (u .estimates)) (u .hours)
+    ∷ every (marginsByHour (u .hours)) (u .accounts)
     ∷ not (isSome (faultyOffset u (operatorsOf (replicate (operatorCount u) (cents 0)) (u .maintenance))))
     ∷ []
 
@@ -64,10 +69,13 @@ unfoldable pub noTwins : List Row → Bool
 noTwins [] = true
 noTwins (r ∷ rs) = not (pending r && anyPasses (alike (r .proposer) (r .counterparty) (r .code)) rs) && noTwins rs
 
+-- the account keeps its margins in every hour, each with the pair of that hour
+abbrev pub accountKeeps : Setup → List Row → ℕ → Bool
+accountKeeps u rows a = every (λ h. keepsMargins (marginsAt u a h) (accountHour rows a h)) (upTo (periods u))
+
 -- margins are kept by every account in every hour
 unfoldable pub marginsKept : Setup → List Row → Bool
-marginsKept u rows =
-    every (λ a. every (λ h. keepsMargins (marginsAt u a h) (accountHour rows a h)) (upTo (periods u))) (upTo (accountCount u))
+marginsKept u rows = every (accountKeeps u rows) (upTo (accountCount u))
 
 -- no operator's exposure is above what is available
 unfoldable pub operatorsCovered : Setup → Part → Bool

@@ -26,12 +26,12 @@ pub fn first_broken(book: &[u8], waits: &[u32], trade: Row, number: u8) -> Broke
     requires { ⌜ AccountTrade (bookIn (now book)) number trade ⌝ }
     ensures { λ r. ⌜ (let b = bookIn (now (book .entry)) in r ≡ broken (brokenBy (b .setup) (b .part .rows) (trade ∷ []) number)) ⌝ }
 {
-    let own = margins(book, number);
     let mut hour: u8 = trade.first;
     let found = loop {
         if trade.last < hour {
             break Broken::Nowhere;
         }
+        let own = margins(book, number, hour);
         let before = account_hour(book, waits, number, hour);
         let after = before.after_trade(trade, number, hour);
         if keeps_margins(own, after) {

@@ -1,7 +1,7 @@
 -- The plain book (document 01, "Opening"): set-up, phase, rows, schedules and, while a batch is open, the part saved at its opening.
 -- It holds no sums: net positions and exposures are functions of the rows.
 use Prim.Native.Nat.{ℕ}
-use mathlib.Core.List.{List}
+use mathlib.Core.List.{List, []}
 use mathlib.Core.Option.{Option}
 use lib.ListN.{length}
 use Rattle.units.specs.declared.Kwh.{Kwh}
@@ -9,7 +9,6 @@ use Rattle.units.specs.declared.Cents.{Cents}
 use Rattle.units.specs.declared.CentsPerMwh.{CentsPerMwh}
 use Rattle.units.specs.Units.{kwh, cents, centsPerMwh}
 use Rattle.rules.specs.declared.Counts.{Counts}
-use Rattle.rules.specs.declared.Account.{Account}
 use Rattle.rules.specs.declared.Margins.{Margins}
 use Rattle.rules.specs.declared.Point.{Point}
 use Rattle.rules.specs.declared.Row.{Row}
@@ -63,6 +62,13 @@ abbrev pub settledPhase : ℕ
 settledPhase = 3
 
 -- ---- the book
+
+-- an account: its operator, its kind, and its lower and its upper margin of each hour
+pub record Account : Type 0 where
+  pub operator : ℕ
+  pub kind : ℕ
+  pub lower : List Kwh
+  pub upper : List Kwh
 
 -- what of the set-up holds all day; maintenance by operator, per thousand
 pub record Setup : Type 0 where
@@ -123,7 +129,7 @@ hourOf u p = p
 -- ---- entries by number, from 1; what is named `no…` is given for a number that no book has
 
 abbrev pub noAccount : Account
-noAccount = record { operator = 0; kind = 0; lower = kwh 0; upper = kwh 0 }
+noAccount = record { operator = 0; kind = 0; lower = []; upper = [] }
 
 abbrev pub noPoint : Point
 noPoint = record { account = 0; kind = 0; zone = 0; injection = kwh 0; withdrawal = kwh 0 }
@@ -137,15 +143,12 @@ accountAt u a = nth (u .accounts) a noAccount
 abbrev pub pointAt : Setup → ℕ → Point
 pointAt u p = nth (u .points) p noPoint
 
--- the margins of an account, and those in a period
-abbrev pub marginsOf : Account → Margins
-marginsOf x = record { lower = x .lower; upper = x .upper }
-
+-- the margins of an account in a period: those of the hour that holds it
 abbrev pub lowerAt : Setup → ℕ → ℕ → Kwh
-lowerAt u a p = accountAt u a .lower
+lowerAt u a p = nth (accountAt u a .lower) (hourOf u p) (kwh 0)
 
 abbrev pub upperAt : Setup → ℕ → ℕ → Kwh
-upperAt u a p = accountAt u a .upper
+upperAt u a p = nth (accountAt u a .upper) (hourOf u p) (kwh 0)
 
 abbrev pub marginsAt : Setup → ℕ → ℕ → Margins
 marginsAt u a p = record { lower = lowerAt u a p; upper = upperAt u a p }

@@ -3,7 +3,7 @@ use Rattle.wire.specs.Numbers.{number, numberAt, le, signed}
 use Rattle.wire.specs.Parts.{flat, pieces, pack, chunks}
 use Rattle.rules.specs.Basics.{total, anyPasses, every, find, indexOf, entries, joined, sumOf, allOf, counting, bit}
 use Rattle.rules.specs.Verdicts.{firstToApply}
-use Rattle.rules.specs.Opening.{accountEntry, priceIn, operatorIn, accountIn, pointIn, estimatesIn, operatorsIn, accountsIn, pointsIn, setupOf, guaranteesOf, badCounts, misshapen, operatorsOf, setupBytes, valuesOf, estimateValues, operatorValues, accountValues, pointValues, values, faultyOffset, setupRefusal, openRefusal, openOutcome, opened}
+use Rattle.rules.specs.Opening.{accountEntry, priceIn, operatorIn, marginIn, accountIn, pointIn, estimatesIn, operatorsIn, accountsIn, pointsIn, setupOf, guaranteesOf, badCounts, misshapen, operatorsOf, setupBytes, valuesOf, estimateValues, operatorValues, marginValues, accountValues, pointValues, values, faultyOffset, setupRefusal, openRefusal, openOutcome, opened}
 use Rattle.rules.specs.Requests.{bits, mapOf, room, offset, fieldIn, requestOf, more, unreadable, readChecks, reading, fieldBytes, write, writeOutcome, written, inRange, faultyField, faultyBit, sameAccounts}
 use Rattle.rules.specs.Registration.{mark, closed, alike, confirms, withdraws, mirrors, moved, waiting, afterTrade, keepsMargins, brokenHour, ofOperator, exposureOf, available, covered}
 use Rattle.rules.specs.Settlement.{pricesIn, placed, insert, prioritised, used, judge, judged, settled, resultAt, results, ofRegistered, gained, lost, balances, injectionsWorth, withdrawalsWorth, registeredTotal, balanceBytes}
@@ -17,8 +17,8 @@ unfoldable pub everything : Unit {0}
 unfolding number numberAt le signed flat pieces pack chunks
     total anyPasses every find indexOf entries joined sumOf allOf counting bit
     firstToApply
-    accountEntry priceIn operatorIn accountIn pointIn estimatesIn operatorsIn accountsIn pointsIn setupOf guaranteesOf badCounts misshapen operatorsOf
-    setupBytes valuesOf estimateValues operatorValues accountValues pointValues values faultyOffset setupRefusal openRefusal openOutcome opened
+    accountEntry priceIn operatorIn marginIn accountIn pointIn estimatesIn operatorsIn accountsIn pointsIn setupOf guaranteesOf badCounts misshapen operatorsOf
+    setupBytes valuesOf estimateValues operatorValues marginValues accountValues pointValues values faultyOffset setupRefusal openRefusal openOutcome opened
     bits mapOf room offset fieldIn requestOf more unreadable readChecks reading fieldBytes write writeOutcome written inRange
     faultyField faultyBit sameAccounts
     mark closed alike confirms withdraws mirrors moved waiting afterTrade keepsMargins brokenHour ofOperator exposureOf available covered

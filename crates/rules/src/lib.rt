@@ -30,14 +30,6 @@ pub struct Operator {
     pub maintenance: u16,
 }
 
-// An account. Kind: 1 injection, 2 withdrawal. Lower and upper are its margins.
-pub struct Account {
-    pub operator: u8,
-    pub kind: u8,
-    pub lower: Kwh,
-    pub upper: Kwh,
-}
-
 // The margins of an account in an hour.
 pub struct Margins {
     pub lower: Kwh,

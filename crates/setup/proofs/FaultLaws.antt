@@ -3,21 +3,26 @@ use Prim.Native.Nat.{ℕ, _+_, _*_, _≤_}
 use mathlib.Core.Path.{_≡_, refl, sym, _∙_}
 use mathlib.Core.List.{List, [], _∷_, _++_}
 use mathlib.Core.Option.{Option·map}
-use mathlib.Core.Bool.{Bool, true, false, not}
+use mathlib.Core.Bool.{Bool, true, false, not, _&&_, and-assoc, and-true}
 use native.Mathlib.Omega.{arith}
 use lib.ListN.{length, take, drop, length-map}
+use lib.Dec.{leb}
+use Rattle.wire.specs.Numbers.{numberAt}
+use Rattle.units.specs.declared.Kwh.{Kwh}
 use Rattle.rules.specs.declared.Counts.{Counts}
 use Rattle.rules.specs.declared.Checked.{Checked}
 use Rattle.rules.specs.declared.Checked.the-variants.{Clear, Fails}
 use Rattle.rules.specs.declared.Refusal.{Refusal}
 use Rattle.rules.specs.declared.Refusal.the-variants.{SetupShape, SetupValue}
-use Rattle.rules.specs.Basics.{find, entries}
+use Rattle.rules.specs.Basics.{every, find, entries, within}
+use Rattle.rules.specs.Limits.{mostEnergy}
+use Rattle.rules.specs.Books.{injectionKind, withdrawalKind}
 use Rattle.rules.specs.Verdicts.{_⇒_, _⇒↑_, firstToApply, checked}
-use Rattle.rules.specs.Opening.{countsIn, Value, valuesOf, values, misshapen, faultyOffset, setupOf, setupRefusal, operatorsIn}
+use Rattle.rules.specs.Opening.{countsIn, Value, valuesOf, marginValues, accountValues, values, marginIn, accountIn, lowerOffset, upperOffset, marginWidth, accountEntry, misshapen, faultyOffset, setupOf, setupRefusal, operatorsIn}
 use Rattle.rules.proofs.Basics.Products.{one-more}
 use Rattle.rules.proofs.Setups.SetupShape.{shape-of, shape-length}
-use Rattle.rules.proofs.Setups.SetupEntries.{length-operators, length-accounts, length-points, values-done, values-step}
-use Rattle.setup.specs.Faults.{orElse, orFault, firstFaultFrom, firstFault, estimateFaults, operatorFaults, accountFaults, pointFaults, Shaped}
+use Rattle.rules.proofs.Setups.SetupEntries.{length-operators, length-accounts, length-points, account-at, values-done, values-step, values-split}
+use Rattle.setup.specs.Faults.{orElse, orFault, firstFaultFrom, firstFault, estimateFaults, operatorFaults, marginsFrom, marginsFine, marginFaults, accountFaults, pointFaults, Shaped}
 
 -- ---- one value
 
@@ -45,7 +50,7 @@ unfolding firstFaultFrom
 judged-append-from found [] ws = refl
 judged-append-from found (v ∷ vs) ws = judged-append-from (orFault found v) vs ws
 
-judged-from : (found : Checked) (vs : List Value) → firstFaultFrom found vs ≡ orElse found (firstFault vs)
+pub judged-from : (found : Checked) (vs : List Value) → firstFaultFrom found vs ≡ orElse found (firstFault vs)
 unfolding orElse
 judged-from Clear vs = refl
 judged-from (Fails r) vs = judged-fails r vs
@@ -88,6 +93,60 @@ module _ {A : Type 0} {w : ℕ} {read : List ℕ → A} {say : ℕ → A → Lis
 -- what begins where the counts say, begins where equal counts say
 pub at-counts : (F : Counts → ℕ → Checked) (from : Counts → ℕ) {n k : Counts} {at : ℕ} → n ≡ k → at ≡ from n → F n at ≡ F k (from k)
 at-counts F from e a = rw (a, e)
+
+-- ---- margins side by side
+
+-- where all values are in range none is at fault
+clear-where-fine : (vs : List Value) → every (λ v. v .1) vs ≡ true → firstFault vs ≡ Clear
+unfolding every firstFaultFrom orFault
+clear-where-fine [] h = refl
+clear-where-fine ((at, true) ∷ vs) h = clear-where-fine vs h
+clear-where-fine ((at, false) ∷ vs) h = cc
+
+pub no-margin-fault : (s : List ℕ) (from count : ℕ) {fine : Bool} → fine ≡ marginsFine s from count → fine ≡ true → Clear ≡ marginFaults s from count
+unfolding marginsFine marginFaults
+no-margin-fault s from count e t = sym (clear-where-fine (marginsFrom s from count) (sym e ∙ t))
+
+-- the n margins that are left from `at` on, with those before them, come to what all come to
+pub record MarginsLeft (s : List ℕ) (all fine : Bool) (at n : ℕ) : Type 0 where
+  pub inside : at + marginWidth * n ≤ length s
+  pub come-to : (fine && marginsFine s at n) ≡ all
+
+module _ (s : List ℕ) (all : Bool) where
+  pub all-margins-left : (at n : ℕ) → at + marginWidth * n ≤ length s → marginsFine s at n ≡ all → MarginsLeft s all true at n
+  all-margins-left at n inside e = record { inside = inside; come-to = e }
+
+  pub no-margins-left : {fine : Bool} {at n : ℕ} → MarginsLeft s all fine at n → n ≤ 0 → fine ≡ all
+  unfolding marginsFine every
+  no-margins-left {fine} {at} {n} left h =
+      sym (and-true fine) ∙ (rw (values-done marginWidth marginIn marginValues at n (drop at s) h) at (left .come-to))
+
+  -- the first of them was tested
+  pub margin-tested : {fine : Bool} {at n : ℕ} (m : ℕ) {x : Kwh} → MarginsLeft s all fine at n → n ≡ m + 1
+      → x ≡ marginIn (take marginWidth (drop at s)) → MarginsLeft s all (fine && leb (x .0) mostEnergy) (at + marginWidth) m
+  unfolding marginsFine every marginValues
+  margin-tested {fine} {at = at} {n} m {x} left e found =
+      record {
+        inside = omega (arith, left .inside);
+        come-to =
+            and-assoc fine (leb (x .0) mostEnergy) (marginsFine s (at + marginWidth) m)
+            ∙ (rw (values-step marginWidth marginIn marginValues at n m s e, ← found) at (left .come-to));
+      }
+
+-- ---- an account
+
+-- its operator, its kind, and then its margins side by side, the upper ones past the lower ones
+pub account-judged : (s : List ℕ) (n : Counts) (at : ℕ)
+    → firstFault (accountValues n at (accountIn n (take (accountEntry n) (drop at s))))
+    ≡ orElse
+    (orFault (orFault Clear (at, within 1 (numberAt s at 1) (n .operators))) (at + 1, within injectionKind (numberAt s (at + 1) 1) withdrawalKind))
+    (marginFaults s (at + lowerOffset) (2 * n .hours))
+unfolding accountValues firstFaultFrom marginFaults
+account-judged s n at =
+    let past : at + upperOffset n ≡ at + lowerOffset + marginWidth * n .hours = omega arith in
+    let both : n .hours + n .hours ≡ 2 * n .hours = omega arith in
+    rw (account-at s at n, past, values-split marginWidth marginIn marginValues (at + lowerOffset) (n .hours) (n .hours) s, both)
+    (judged-from _ (valuesOf marginWidth marginValues (at + lowerOffset) (entries marginWidth marginIn (2 * n .hours) (drop (at + lowerOffset) s))))
 
 -- ---- what a set-up is refused for
 

@@ -3,7 +3,7 @@ use Prim.Native.Nat.{ℕ, _+_, _≤_, _^_}
 use mathlib.Core.Path.{_≡_}
 use mathlib.Core.Bool.{Bool}
 use mathlib.Core.List.{List, [], _∷_}
-use lib.ListN.{length}
+use lib.ListN.{length, drop}
 use lib.Dec.{eqb, leb}
 use Rattle.units.specs.Units.{cents}
 use Rattle.rules.specs.declared.Counts.{Counts}
@@ -12,9 +12,9 @@ use Rattle.rules.specs.declared.Point.{Point}
 use Rattle.rules.specs.declared.Checked.{Checked}
 use Rattle.rules.specs.declared.Checked.the-variants.{Clear, Fails}
 use Rattle.rules.specs.declared.Refusal.the-variants.{SetupValue}
-use Rattle.rules.specs.Basics.{if_then_else_}
+use Rattle.rules.specs.Basics.{if_then_else_, every, entries}
 use Rattle.rules.specs.Limits.{mostEnergy}
-use Rattle.rules.specs.Opening.{Value, valuesOf, estimateValues, operatorValues, accountValues, pointValues, countsIn, setupLength, estimatesOffset, operatorsOffset, accountsOffset, pointsOffset, estimatesIn, operatorsIn, accountsIn, pointsIn, priceWidth, operatorEntry, accountEntry, pointEntry}
+use Rattle.rules.specs.Opening.{Value, valuesOf, estimateValues, operatorValues, marginValues, accountValues, pointValues, marginIn, countsIn, setupLength, estimatesOffset, operatorsOffset, accountsOffset, pointsOffset, estimatesIn, operatorsIn, accountsIn, pointsIn, priceWidth, operatorEntry, marginWidth, accountEntry, pointEntry}
 use Rattle.rules.specs.Books.{injectionKind, withdrawalKind}
 
 -- ---- faults
@@ -49,7 +49,19 @@ operatorFaults s = firstFault (valuesOf operatorEntry operatorValues (operatorsO
 -- among the accounts
 unfoldable pub accountFaults : List ℕ → Checked
 accountFaults s =
-    firstFault (valuesOf (accountEntry (countsIn s)) (accountValues (countsIn s .operators)) (accountsOffset (countsIn s)) (accountsIn s))
+    firstFault (valuesOf (accountEntry (countsIn s)) (accountValues (countsIn s)) (accountsOffset (countsIn s)) (accountsIn s))
+
+-- the values of so many margins side by side
+abbrev pub marginsFrom : List ℕ → ℕ → ℕ → List Value
+marginsFrom s from count = valuesOf marginWidth marginValues from (entries marginWidth marginIn count (drop from s))
+
+-- all of them are in range
+unfoldable pub marginsFine : List ℕ → ℕ → ℕ → Bool
+marginsFine s from count = every (λ v. v .1) (marginsFrom s from count)
+
+-- the first fault among them
+unfoldable pub marginFaults : List ℕ → ℕ → ℕ → Checked
+marginFaults s from count = firstFault (marginsFrom s from count)
 
 -- among the points
 unfoldable pub pointFaults : List ℕ → Checked

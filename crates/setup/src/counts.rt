@@ -2,7 +2,7 @@
 ghost use mathlib.Core.Path.{_≡_};
 ghost use Prim.Native.Nat.{_*_, _^_, _≤_};
 ghost use lib.ListN.{length};
-ghost use Rattle.rules.specs.Opening.{countsIn, operatorsOffset, accountsOffset, accountOffset, pointsOffset, setupLength, countsWidth, accountEntry};
+ghost use Rattle.rules.specs.Opening.{countsIn, operatorsOffset, accountsOffset, accountOffset, pointsOffset, setupLength, countsWidth, marginWidth, accountEntry};
 use rules::Counts;
 
 // How many bytes the counts and each entry have.
@@ -21,8 +21,6 @@ pub const MARGIN_WIDTH: usize = 4;
 // Where an account's margins begin in its entry, past its operator and its kind.
 pub const LOWER_OFFSET: usize = 2;
 
-pub const UPPER_OFFSET: usize = LOWER_OFFSET + MARGIN_WIDTH;
-
 // The counts in the first bytes.
 pub fn counts(setup: &[u8]) -> Counts
     requires { ⌜ countsWidth ≤ length (now setup) ⌝ }
@@ -37,11 +35,18 @@ pub fn counts(setup: &[u8]) -> Counts
     }
 }
 
+// How many bytes an account has for its lower margins, or for its upper ones: one for each hour.
+pub fn margins_length(n: Counts) -> usize
+    ensures { λ r. ⌜ r ≡ marginWidth * n .hours ⌝ }
+{
+    MARGIN_WIDTH * (n.hours as usize)
+}
+
 // How many bytes an account has, in a set-up of these counts.
 pub fn account_entry(n: Counts) -> usize
     ensures { λ r. ⌜ (r ≡ accountEntry n) × (r ≤ 2 ^ 12) ⌝ }
 {
-    UPPER_OFFSET + MARGIN_WIDTH
+    LOWER_OFFSET + 2 * margins_length(n)
 }
 
 // How many bytes so many accounts have, in a set-up of these counts.
@@ -68,7 +73,7 @@ pub fn accounts_offset(n: Counts) -> usize
 // Where the entry of an account begins, by its number from 1.
 pub fn account_offset(n: Counts, number: u8) -> usize
     requires { ⌜ 1 ≤ number ⌝ }
-    ensures { λ r. ⌜ r ≡ accountOffset n number ⌝ }
+    ensures { λ r. ⌜ (r ≡ accountOffset n number) × (r ≤ 2 ^ 21) ⌝ }
 {
     accounts_offset(n) + accounts_length(n, number - 1)
 }

@@ -4,22 +4,21 @@ ghost use Prim.Native.Nat.{_+_, _≤_};
 ghost use lib.ListN.{length, take, drop};
 ghost use Rattle.units.specs.Units.{centsPerMwh};
 ghost use Rattle.rules.specs.Basics.{nth};
-ghost use Rattle.rules.specs.Books.{noAccount, noPoint, marginsOf};
-ghost use Rattle.rules.specs.Opening.{countsIn, priceIn, operatorIn, accountIn, pointIn, estimatesIn, operatorsIn, accountsIn, pointsIn, priceWidth, operatorEntry, accountEntry, pointEntry};
+ghost use Rattle.rules.specs.Books.{noPoint, operatorOf, marginsAt};
+ghost use Rattle.rules.specs.Opening.{countsIn, priceIn, operatorIn, marginIn, pointIn, estimatesIn, operatorsIn, pointsIn, setupOf, priceWidth, operatorEntry, marginWidth, pointEntry};
 ghost use Rattle.setup.specs.Faults.{Whole, noOperator};
 use crate::counts::COUNTS_WIDTH;
 use crate::counts::GUARANTEE_WIDTH;
 use crate::counts::LOWER_OFFSET;
+use crate::counts::MARGIN_WIDTH;
 use crate::counts::OPERATOR_ENTRY;
 use crate::counts::POINT_ENTRY;
 use crate::counts::PRICE_WIDTH;
-use crate::counts::UPPER_OFFSET;
 use crate::counts::account_offset;
 use crate::counts::counts;
+use crate::counts::margins_length;
 use crate::counts::operators_offset;
 use crate::counts::points_offset;
-use rules::Account;
-use rules::Counts;
 use rules::Margins;
 use rules::Operator;
 use rules::Point;
@@ -50,17 +49,12 @@ pub fn operator_at(bytes: &[u8], at: usize) -> Operator
     }
 }
 
-// The account in the bytes from `at` on, of a set-up with these counts.
-pub fn account_at(bytes: &[u8], n: Counts, at: usize) -> Account
-    requires { ⌜ at + accountEntry n ≤ length (now bytes) ⌝ }
-    ensures { λ r. ⌜ r ≡ accountIn (take (accountEntry n) (drop at (now (bytes .entry)))) ⌝ }
+// The margin in the bytes from `at` on.
+pub fn margin_at(bytes: &[u8], at: usize) -> Kwh
+    requires { ⌜ at + marginWidth ≤ length (now bytes) ⌝ }
+    ensures { λ r. ⌜ r ≡ marginIn (take marginWidth (drop at (now (bytes .entry)))) ⌝ }
 {
-    Account {
-        operator: get_u8(bytes, at),
-        kind: get_u8(bytes, at + 1),
-        lower: Kwh(get_u32(bytes, at + LOWER_OFFSET)),
-        upper: Kwh(get_u32(bytes, at + UPPER_OFFSET)),
-    }
+    Kwh(get_u32(bytes, at))
 }
 
 // The point in the bytes from `at` on.
@@ -94,24 +88,28 @@ pub fn operator(setup: &[u8], number: u8) -> Operator
     operator_at(setup, from + OPERATOR_ENTRY * (number as usize - 1))
 }
 
-// The account of a number, from 1.
-pub fn account(setup: &[u8], number: u8) -> Account
+// The operator of the account of a number, from 1.
+pub fn account_operator(setup: &[u8], number: u8) -> u8
     requires { ⌜ Whole (now setup) × (1 ≤ number) × (number ≤ countsIn (now setup) .accounts) ⌝ }
-    ensures { λ r. ⌜ r ≡ nth (accountsIn (now (setup .entry))) number noAccount ⌝ }
+    ensures { λ r. ⌜ r ≡ operatorOf (setupOf (now (setup .entry))) number ⌝ }
 {
-    let n = counts(setup);
-    account_at(setup, n, account_offset(n, number))
+    get_u8(setup, account_offset(counts(setup), number))
 }
 
-// The margins of the account of a number, from 1.
-pub fn margins(setup: &[u8], number: u8) -> Margins
+// The margins of an account in an hour, both by their numbers, from 1.
+pub fn margins(setup: &[u8], number: u8, hour: u8) -> Margins
     requires { ⌜ Whole (now setup) × (1 ≤ number) × (number ≤ countsIn (now setup) .accounts) ⌝ }
-    ensures { λ r. ⌜ r ≡ marginsOf (nth (accountsIn (now (setup .entry))) number noAccount) ⌝ }
+    requires { ⌜ (1 ≤ hour) × (hour ≤ countsIn (now setup) .hours) ⌝ }
+    ensures { λ r. ⌜ r ≡ marginsAt (setupOf (now (setup .entry))) number hour ⌝ }
 {
-    let entry = account(setup, number);
-    let lower = entry.lower;
-    let upper = entry.upper;
-    Margins { lower, upper }
+    let n = counts(setup);
+    let entry = account_offset(n, number);
+    let lower = entry + LOWER_OFFSET + MARGIN_WIDTH * (hour as usize - 1);
+    let upper = lower + margins_length(n);
+    Margins {
+        lower: margin_at(setup, lower),
+        upper: margin_at(setup, upper),
+    }
 }
 
 // The point of a number, from 1.

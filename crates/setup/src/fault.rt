@@ -12,7 +12,6 @@ use crate::counts::accounts_offset;
 use crate::counts::counts;
 use crate::counts::operators_offset;
 use crate::counts::points_offset;
-use crate::entries::account_at;
 use crate::entries::operator_at;
 use crate::entries::point_at;
 use crate::entries::price_at;
@@ -71,8 +70,7 @@ fn account_faults(setup: &[u8], n: Counts) -> Checked
     let mut at = accounts_offset(n);
     let mut left = n.accounts;
     while 0 < left {
-        let x = account_at(setup, n, at);
-        if let Checked::Fails(r) = account_fault(x, n, at) {
+        if let Checked::Fails(r) = account_fault(setup, n, at) {
             return Checked::Fails(r);
         }
         at = at + entry;

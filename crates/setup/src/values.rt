@@ -1,16 +1,16 @@
 // The values of one entry: the lowest offset of those that are out of range.
 ghost use mathlib.Core.Path.{_≡_};
-ghost use Prim.Native.Nat.{_+_, _≤_, _<_, _^_};
+ghost use Prim.Native.Nat.{_+_, _*_, _≤_, _<_, _^_};
+ghost use lib.ListN.{length, take, drop};
 ghost use Rattle.rules.specs.Basics.{nth};
 ghost use Rattle.rules.specs.Books.{noAccount};
-ghost use Rattle.rules.specs.Opening.{accountsIn, estimateValues, operatorValues, accountValues, pointValues, accountEntry, priceWidth, operatorEntry, pointEntry};
-ghost use Rattle.setup.specs.Faults.{orElse, orFault, firstFaultFrom, firstFault, mostAmount, amountValues, Shaped};
+ghost use Rattle.rules.specs.Opening.{accountIn, accountsIn, estimateValues, operatorValues, marginValues, accountValues, pointValues, accountEntry, marginWidth, priceWidth, operatorEntry, pointEntry};
+ghost use Rattle.setup.specs.Faults.{orElse, orFault, firstFaultFrom, firstFault, marginsFine, marginFaults, mostAmount, amountValues, Shaped};
 use crate::counts::GUARANTEE_WIDTH;
 use crate::counts::LOWER_OFFSET;
-use crate::counts::UPPER_OFFSET;
+use crate::counts::MARGIN_WIDTH;
 use crate::counts::account_offset;
-use crate::entries::account_at;
-use rules::Account;
+use crate::entries::margin_at;
 use rules::Checked;
 use rules::Counts;
 use rules::Operator;
@@ -24,6 +24,8 @@ use rules::sites::INJECTION;
 use rules::sites::MIXED;
 use rules::sites::WITHDRAWAL;
 use units::CentsPerMwh;
+use units::Kwh;
+use wire::numbers::get_u8;
 
 // The first of two that fails.
 pub fn or_else(first: Checked, second: Checked) -> Checked
@@ -64,23 +66,71 @@ pub fn operator_fault(x: Operator, at: usize) -> Checked
     or_fault(guarantee, x.maintenance <= THOUSAND, at + GUARANTEE_WIDTH)
 }
 
-// The first fault of the account at `at`, in a set-up of these counts.
-pub fn account_fault(x: Account, n: Counts, at: usize) -> Checked
-    requires { ⌜ at + accountEntry n ≤ 2 ^ 16 ⌝ }
-    ensures { λ r. ⌜ r ≡ firstFault (accountValues (n .operators) at x) ⌝ }
+// The fault of the margin at `at`.
+fn margin_fault(x: Kwh, at: usize) -> Checked
+    requires { ⌜ at + marginWidth ≤ 2 ^ 16 ⌝ }
+    ensures { λ r. ⌜ r ≡ firstFault (marginValues at x) ⌝ }
 {
-    let operator = or_fault(
+    or_fault(Checked::Clear, x.0 <= MOST_ENERGY, at)
+}
+
+// Whether so many margins side by side, from `from` on, are all in range. Nothing branches on one, so that several are tested at once.
+fn margins_fine(setup: &[u8], from: usize, count: usize) -> bool
+    requires { ⌜ from + marginWidth * count ≤ length (now setup) ⌝ }
+    ensures { λ r. ⌜ r ≡ marginsFine (now (setup .entry)) from count ⌝ }
+{
+    let mut fine = true;
+    let mut at = from;
+    let mut left = count;
+    while 0 < left {
+        let x = margin_at(setup, at);
+        fine = fine & (x.0 <= MOST_ENERGY);
+        at = at + MARGIN_WIDTH;
+        left = left - 1;
+    }
+    fine
+}
+
+// The first fault of so many margins side by side, from `from` on.
+fn margin_faults(setup: &[u8], from: usize, count: usize) -> Checked
+    requires { ⌜ (from + marginWidth * count ≤ length (now setup)) × (length (now setup) ≤ 2 ^ 16) ⌝ }
+    ensures { λ r. ⌜ r ≡ marginFaults (now (setup .entry)) from count ⌝ }
+{
+    if margins_fine(setup, from, count) {
+        return Checked::Clear;
+    }
+    let mut at = from;
+    let mut left = count;
+    while 0 < left {
+        let x = margin_at(setup, at);
+        if let Checked::Fails(r) = margin_fault(x, at) {
+            return Checked::Fails(r);
+        }
+        at = at + MARGIN_WIDTH;
+        left = left - 1;
+    }
+    Checked::Clear
+}
+
+// The first fault of the account at `at`, in a set-up of these counts. Its margins stand side by side, the upper ones past the lower ones.
+pub fn account_fault(setup: &[u8], n: Counts, at: usize) -> Checked
+    requires { ⌜ Shaped n (now setup) × (at + accountEntry n ≤ length (now setup)) ⌝ }
+    ensures { λ r. ⌜ r ≡ firstFault (accountValues n at (accountIn n (take (accountEntry n) (drop at (now (setup .entry)))))) ⌝ }
+{
+    let operator = get_u8(setup, at);
+    let kind = get_u8(setup, at + 1);
+    let by_operator = or_fault(
         Checked::Clear,
-        (1 <= x.operator) & (x.operator <= n.operators),
+        (1 <= operator) & (operator <= n.operators),
         at,
     );
-    let kind = or_fault(
-        operator,
-        (INJECTION <= x.kind) & (x.kind <= WITHDRAWAL),
+    let by_kind = or_fault(
+        by_operator,
+        (INJECTION <= kind) & (kind <= WITHDRAWAL),
         at + 1,
     );
-    let lower = or_fault(kind, x.lower.0 <= MOST_ENERGY, at + LOWER_OFFSET);
-    or_fault(lower, x.upper.0 <= MOST_ENERGY, at + UPPER_OFFSET)
+    let by_margins = margin_faults(setup, at + LOWER_OFFSET, 2 * (n.hours as usize));
+    or_else(by_kind, by_margins)
 }
 
 // The kind of the account of a number; 0 for a number that none has.
@@ -94,8 +144,7 @@ fn kind_of(setup: &[u8], n: Counts, number: u8) -> u8
     if n.accounts < number {
         return 0;
     }
-    let x = account_at(setup, n, account_offset(n, number));
-    x.kind
+    get_u8(setup, account_offset(n, number) + 1)
 }
 
 // 0 in a direction that is barred.

@@ -9,13 +9,12 @@ use lib.Dec.{eqb}
 use borrow.Author.Tests.{eq-eqb, ne-eqb}
 use Rattle.units.specs.Units.{centsPerMwh}
 use Rattle.units.specs.declared.CentsPerMwh.{CentsPerMwh}
-use Rattle.rules.specs.declared.Account.{Account}
 use Rattle.rules.specs.declared.Row.{Row}
 use Rattle.rules.specs.declared.AccountHour.{AccountHour}
 use Rattle.rules.specs.Basics.{total, nth, counting, Each}
-use Rattle.rules.specs.Books.{noAccount}
+use Rattle.rules.specs.Books.{Setup, operatorOf}
 use Rattle.rules.specs.Limits.{mostPrice}
-use Rattle.rules.specs.Opening.{countsIn, setupOf, estimatesIn, accountsIn}
+use Rattle.rules.specs.Opening.{countsIn, setupOf, estimatesIn}
 use Rattle.rules.specs.Registration.{accountHour, exposed, ofOperator, exposureOf, exposure}
 use Rattle.rules.proofs.Basics.Searches.{each-nth}
 use Rattle.rules.proofs.Setups.SetupEntries.{length-accounts, length-estimates}
@@ -48,18 +47,15 @@ pub exposure-by-hour : (s : List ℕ) (rows : List Row) (a : ℕ) → accountExp
 unfolding accountExposure setupOf hourExposure
 exposure-by-hour s rows a = refl
 
--- an account that was read is the operator's, or it is not
-pub share-of-own : (s : List ℕ) (rows : List Row) (o a : ℕ) (account : Account) → account ≡ nth (accountsIn s) a noAccount → account .operator ≡ o
-    → exposureShare (setupOf s) rows o a ≡ accountExposure (setupOf s) rows a
-unfolding exposureShare setupOf
-share-of-own s rows o a account e d =
-    let t : eqb (nth (accountsIn s) a noAccount .operator) o ≡ true = rw (← e) (eq-eqb (account .operator) o d) in rw (t, exposureShare)
+-- an account is the operator's, or it is not
+pub share-of-own : (u : Setup) (rows : List Row) (o a : ℕ) {own : ℕ} → own ≡ operatorOf u a → own ≡ o
+    → exposureShare u rows o a ≡ accountExposure u rows a
+unfolding exposureShare
+share-of-own u rows o a e d = let t : eqb (operatorOf u a) o ≡ true = rw (← e) (eq-eqb _ o d) in rw (t, exposureShare)
 
-pub share-of-others : (s : List ℕ) (rows : List Row) (o a : ℕ) (account : Account) → account ≡ nth (accountsIn s) a noAccount → (account .operator ≡ o → ⊥)
-    → exposureShare (setupOf s) rows o a ≡ 0
-unfolding exposureShare setupOf
-share-of-others s rows o a account e d =
-    let t : eqb (nth (accountsIn s) a noAccount .operator) o ≡ false = rw (← e) (ne-eqb (account .operator) o d) in rw (t, exposureShare)
+pub share-of-others : (u : Setup) (rows : List Row) (o a : ℕ) {own : ℕ} → own ≡ operatorOf u a → (own ≡ o → ⊥) → exposureShare u rows o a ≡ 0
+unfolding exposureShare
+share-of-others u rows o a e d = let t : eqb (operatorOf u a) o ≡ false = rw (← e) (ne-eqb _ o d) in rw (t, exposureShare)
 
 pub exposure-by-account : (s : List ℕ) (rows : List Row) (o : ℕ)
     → exposure (setupOf s) rows o ≡ total (exposureShare (setupOf s) rows o) (counting (countsIn s .accounts) 1)

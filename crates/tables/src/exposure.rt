@@ -10,7 +10,7 @@ use crate::sums::account_hour;
 use rules::AccountHour;
 use rules::hours::short;
 use setup::counts::counts;
-use setup::entries::account;
+use setup::entries::account_operator;
 use setup::entries::estimate;
 use units::CentsPerMwh;
 use units::MilliCents;
@@ -51,8 +51,7 @@ fn exposure_share(book: &[u8], table: &[u32], top: usize, number: u8, operator: 
     ensures meaning { λ r. ⌜ ForRowsSummedIn top (now (table .entry)) (λ rows. r .0 ≡ exposureShare (setupOf (now (book .entry))) rows operator number) ⌝ }
     ensures bounded { λ r. ⌜ r .0 ≤ mostAccountExposure ⌝ }
 {
-    let entry = account(book, number);
-    if entry.operator == operator {
+    if account_operator(book, number) == operator {
         return account_exposure(book, table, top, number);
     }
     MilliCents(0)

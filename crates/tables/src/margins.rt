@@ -1,27 +1,26 @@
 // The margins of all accounts, by the table of sums.
 ghost use mathlib.Core.Path.{_≡_};
 ghost use Prim.Native.Nat.{_≤_};
-ghost use Rattle.rules.specs.Basics.{every, upTo};
-ghost use Rattle.rules.specs.Opening.{setupOf};
-ghost use Rattle.rules.specs.Registration.{accountHour, keepsMargins};
-ghost use Rattle.image.specs.Valid.{marginsKept};
+ghost use Rattle.rules.specs.Opening.{countsIn, setupOf};
+ghost use Rattle.image.specs.Valid.{accountKeeps, marginsKept};
 ghost use Rattle.image.specs.Tables.{SetupTabled};
-ghost use Rattle.tables.specs.Sums.{SumTable, ForRowsSummedIn, AccountInTable};
+ghost use Rattle.tables.specs.Sums.{SumTable, ForRowsSummedIn};
 use crate::sums::account_hour;
-use rules::Margins;
 use rules::hours::keeps_margins;
 use setup::counts::counts;
 use setup::entries::margins;
 
 // Whether the account of that number keeps its margins in each hour.
-fn hours_kept(table: &[u32], top: usize, margins: Margins, number: u8, hours: u8) -> bool
-    requires { ⌜ SumTable top (now table) × AccountInTable number × (hours ≤ top) ⌝ }
-    ensures { λ r. ⌜ ForRowsSummedIn top (now (table .entry)) (λ rows. r ≡ every (λ h. keepsMargins margins (accountHour rows number h)) (upTo hours)) ⌝ }
+fn hours_kept(book: &[u8], table: &[u32], top: usize, number: u8) -> bool
+    requires { ⌜ SetupTabled top (now book) × SumTable top (now table) × (1 ≤ number) × (number ≤ countsIn (now book) .accounts) ⌝ }
+    ensures { λ r. ⌜ ForRowsSummedIn top (now (table .entry)) (λ rows. r ≡ accountKeeps (setupOf (now (book .entry))) rows number) ⌝ }
 {
+    let n = counts(book);
     let mut hour: u8 = 1;
-    while hour <= hours {
+    while hour <= n.hours {
+        let own = margins(book, number, hour);
         let x = account_hour(table, top, number, hour);
-        if keeps_margins(margins, x) {
+        if keeps_margins(own, x) {
             hour = hour + 1;
         } else {
             return false;
@@ -38,8 +37,7 @@ pub fn margins_kept(book: &[u8], table: &[u32], top: usize) -> bool
     let n = counts(book);
     let mut number: u8 = 1;
     while number <= n.accounts {
-        let own = margins(book, number);
-        if hours_kept(table, top, own, number, n.hours) {
+        if hours_kept(book, table, top, number) {
             number = number + 1;
         } else {
             return false;

@@ -11,21 +11,21 @@ use lib.Dec.{eqb, ltb}
 use borrow.Author.Tests.{eq-eqb, le-ltb, not-true}
 use Rattle.wire.specs.Numbers.{le, Bytes}
 use Rattle.wire.proofs.NumberLaws.{bytes-drop}
-use Rattle.wire.proofs.SlotLaws.{chunks-within}
 use Rattle.units.specs.declared.Cents.{Cents}
 use Rattle.units.specs.Units.{cents}
 use Rattle.rules.specs.declared.Counts.{Counts}
-use Rattle.rules.specs.Basics.{entries, joined}
+use Rattle.rules.specs.Basics.{entries, joined, Each}
 use Rattle.rules.specs.Books.{operatorCount, accountCount, pointCount}
-use Rattle.rules.specs.Opening.{priceIn, operatorIn, accountIn, pointIn, countsIn, operatorsOffset, accountsOffset, pointsOffset, setupLength, estimatesIn, operatorsIn, accountsIn, pointsIn, setupOf, guaranteesOf, operatorBytes, accountBytes, pointBytes, operatorsOf, setupBytes, badCounts, misshapen, faultyOffset, setupChecks, setupRefusal, priceWidth, operatorEntry, accountEntry, pointEntry, countsWidth, estimatesOffset}
+use Rattle.rules.specs.Opening.{priceIn, operatorIn, marginIn, accountIn, pointIn, countsIn, operatorsOffset, accountsOffset, pointsOffset, setupLength, estimatesIn, operatorsIn, accountsIn, pointsIn, setupOf, guaranteesOf, operatorBytes, accountBytes, pointBytes, operatorsOf, setupBytes, badCounts, misshapen, faultyOffset, setupChecks, setupRefusal, priceWidth, operatorEntry, marginWidth, accountEntry, pointEntry, countsWidth, estimatesOffset}
 use Rattle.rules.proofs.Basics.Tests.{_and_, no-more, holds-all, holds-at, or-neither}
+use Rattle.rules.proofs.Basics.Searches.{each-map, each-every}
 use Rattle.rules.proofs.Checks.Clearing.{clear, clear-applies, spared}
 use Rattle.rules.proofs.Setups.SetupShape.{accepted-values}
-use Rattle.rules.proofs.Setups.SetupEntries.{length-entries, joined-entries, counts-of-setup}
+use Rattle.rules.proofs.Setups.SetupEntries.{length-entries, each-entry, entries-first, joined-entries, counts-of-setup}
 use Rattle.image.specs.Layout.{setupRoom}
 use Rattle.image.specs.Image.{storedSetup}
-use Rattle.image.specs.Valid.{setupTests, setupOk}
-use Rattle.image.proofs.Sound.Soundness.{SoundSetup, sound-setup}
+use Rattle.image.specs.Valid.{marginsByHour, setupTests, setupOk}
+use Rattle.image.proofs.Sound.Soundness.{MarginsAll, SoundSetup, margins-sound, sound-setup}
 use Rattle.image.proofs.Writing.Sizes.{sound-short}
 use Rattle.image.proofs.Setups.SetupRanges.{InRange, values-in-range, in-range-values, operators-again, sound-without}
 use Rattle.image.proofs.Setups.StoredSetup.{price-again, operator-again, account-again, point-again}
@@ -58,6 +58,15 @@ module _ (s : List ℕ) where
   counts-first h =
       ap (λ (c : Counts). c .hours ∷ c .operators ∷ c .accounts ∷ c .points ∷ c .zones ∷ []) (counts-of-setup s) ∙ first-five s h
 
+  -- each account that was read has its margins for each hour
+  pub margins-by-hour : Each (MarginsAll (countsIn s .hours)) (accountsIn s)
+  unfolding accountsIn accountIn
+  margins-by-hour =
+      let n = countsIn s in
+      each-entry (accountEntry n) (accountIn n)
+      (λ c. record { lower-all = length-entries marginWidth marginIn (n .hours) _; upper-all = length-entries marginWidth marginIn (n .hours) _ })
+      (n .accounts) _
+
   -- with the guarantees that were read, they are the same bytes
   pub bytes-again : Bytes s → setupLength (countsIn s) ≤ length s → setupBytes (setupOf s) (guaranteesOf s) ≡ take (setupLength (countsIn s)) s
   unfolding setupBytes setupOf estimatesIn operatorsIn accountsIn pointsIn
@@ -67,7 +76,8 @@ module _ (s : List ℕ) where
       let at3 : ℕ = pointsOffset (countsIn s) in
       let e = joined-entries 4 (λ p. le 4 (p .0)) priceIn (countsIn s .hours) (drop estimatesOffset s) (bytes-drop 5 b) (omega (arith, length-drop 5 s)) price-again in
       let o = joined-entries operatorEntry operatorBytes operatorIn (countsIn s .operators) (drop at1 s) (bytes-drop at1 b) (omega (arith, length-drop at1 s)) operator-again in
-      let a = joined-entries (accountEntry (countsIn s)) accountBytes accountIn (countsIn s .accounts) (drop at2 s) (bytes-drop at2 b) (omega (arith, length-drop at2 s)) (account-again (countsIn s)) in
+      let n = countsIn s in
+      let a = joined-entries (accountEntry n) accountBytes (accountIn n) (n .accounts) (drop at2 s) (bytes-drop at2 b) (omega (arith, length-drop at2 s)) (account-again n) in
       let p = joined-entries pointEntry pointBytes pointIn (countsIn s .points) (drop at3 s) (bytes-drop at3 b) (omega (arith, length-drop at3 s)) point-again in
       side-by-side (counts-first (omega arith)) e (ap (joined operatorBytes) operators-read ∙ o) a p
       ∙ rw (take-add at3 (pointEntry * countsIn s .points) s, take-add at2 (accountEntry (countsIn s) * countsIn s .accounts) s, take-add at1 (operatorEntry * countsIn s .operators) s, take-add 5 (4 * countsIn s .hours) s)
@@ -117,6 +127,7 @@ module _ (s : List ℕ) (h : setupRefusal s ≡ none) where
       holds-all (setupTests (setupOf s)) (
       (ap (λ (c : Counts). not (badCounts c)) (counts-of-setup s) ∙ rw accepted-counts)
       and eq-eqb _ _ (length-entries priceWidth priceIn (countsIn s .hours) (drop estimatesOffset s))
+      and each-every (marginsByHour (countsIn s .hours)) (each-map (margins-sound (countsIn s .hours)) (margins-by-hour s))
       and (rw (in-range-values (setupOf s) _ without))
       and no-more
       )
@@ -133,11 +144,6 @@ sound-accepted s l z h =
     clear-applies (setupChecks s) (rw (short, bad, eq-eqb _ _ l), (rw v, tt))
 
 -- ---- bytes in which the set-up is the first
-
-module _ {A : Type 0} (w : ℕ) (say : List ℕ → A) where
-  pub entries-first : (n at m : ℕ) (s : List ℕ) → at + w * n ≤ m → entries w say n (drop at (take m s)) ≡ entries w say n (drop at s)
-  unfolding entries
-  entries-first n at m s h = ap (map say) (chunks-within w n at m s h)
 
 pub counts-first-bytes : (m : ℕ) (s : List ℕ) → countsWidth ≤ m → countsIn (take m s) ≡ countsIn s
 counts-first-bytes m s h =
@@ -166,8 +172,9 @@ module _ (r : List ℕ) where
   accounts-front : accountsIn front ≡ accountsIn r
   unfolding accountsIn front
   accounts-front =
-      ap (λ (c : Counts). entries (accountEntry c) accountIn (c .accounts) (drop (accountsOffset c) front)) counts-front
-      ∙ entries-first (accountEntry (countsIn r)) accountIn (countsIn r .accounts) (accountsOffset (countsIn r)) (setupLength (countsIn r)) r (omega arith)
+      let n = countsIn r in
+      ap (λ (c : Counts). entries (accountEntry c) (accountIn c) (c .accounts) (drop (accountsOffset c) front)) counts-front
+      ∙ entries-first (accountEntry n) (accountIn n) (n .accounts) (accountsOffset n) (setupLength n) r (omega arith)
 
   points-front : pointsIn front ≡ pointsIn r
   unfolding pointsIn front

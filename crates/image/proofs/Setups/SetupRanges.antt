@@ -8,28 +8,25 @@ use native.Mathlib.Omega.{arith}
 use lib.ListN.{length, replicate}
 use lib.Dec.{eqb}
 use borrow.Author.Tests.{leb-true, le-leb, not-false}
+use Rattle.units.specs.declared.Kwh.{Kwh}
 use Rattle.units.specs.declared.Cents.{Cents}
 use Rattle.units.specs.declared.CentsPerMwh.{CentsPerMwh}
-use Rattle.units.specs.Units.{cents}
+use Rattle.units.specs.Units.{kwh, cents}
+use Rattle.rules.specs.declared.Counts.{Counts}
 use Rattle.rules.specs.declared.Operator.{Operator}
-use Rattle.rules.specs.declared.Account.{Account}
 use Rattle.rules.specs.declared.Point.{Point}
 use Rattle.rules.specs.Basics.{if_then_else_, nth, within, Each, nil, cons}
 use Rattle.rules.specs.Limits.{mostEnergy, mostPrice, mostGuarantee, thousand}
-use Rattle.rules.specs.Books.{Setup, noAccount, countsOf, operatorCount}
-use Rattle.rules.specs.Opening.{Value, operatorsOf, operatorsOffset, accountsOffset, pointsOffset, estimatesOffset, valuesOf, estimateValues, operatorValues, accountValues, pointValues, values, faultyOffset, priceWidth, operatorEntry, accountEntry, pointEntry}
+use Rattle.rules.specs.Books.{Account, Setup, noAccount, countsOf, operatorCount, hourOf, lowerAt, upperAt}
+use Rattle.rules.specs.Opening.{Value, operatorsOf, operatorsOffset, accountsOffset, pointsOffset, estimatesOffset, upperOffset, valuesOf, estimateValues, operatorValues, marginValues, accountValues, pointValues, values, faultyOffset, priceWidth, operatorEntry, marginWidth, accountEntry, pointEntry}
 use Rattle.rules.proofs.Basics.Tests.{and-both, within-true}
-use Rattle.rules.proofs.Basics.Searches.{find-none, none-find, each-map}
+use Rattle.rules.proofs.Basics.Searches.{find-none, none-find, each-nth-or, each-append, each-map}
 
 -- ---- each of two lists side by side
 
 pub each-split {ℓ κ} : {A : Type ℓ} {P : A → Type κ} (xs ys : List A) → Each P (xs ++ ys) → Each P xs × Each P ys
 each-split [] ys e = (nil, e)
 each-split (x ∷ xs) ys (cons p e) = let w = each-split xs ys e in (cons p (w .0), w .1)
-
-pub each-join {ℓ κ} : {A : Type ℓ} {P : A → Type κ} {xs ys : List A} → Each P xs → Each P ys → Each P (xs ++ ys)
-each-join nil f = f
-each-join (cons p e) f = cons p (each-join e f)
 
 -- ---- the values of entries
 
@@ -45,7 +42,7 @@ module _ {A : Type 0} {P : A → Type 0} (w : ℕ) (say : ℕ → A → List Val
   each-values : ((at : ℕ) (x : A) → P x → Each Good (say at x)) → (at : ℕ) {xs : List A} → Each P xs → Each Good (valuesOf w say at xs)
   unfolding valuesOf
   each-values f at nil = nil
-  each-values f at (cons {x = x} p e) = each-join (f at x p) (each-values f (at + w) e)
+  each-values f at (cons {x = x} p e) = each-append (f at x p) (each-values f (at + w) e)
 
 -- ---- an entry in range
 
@@ -57,8 +54,8 @@ pub record SoundAccount (operators : ℕ) (x : Account) : Type 0 where
   pub operator-high : x .operator ≤ operators
   pub kind-low : 1 ≤ x .kind
   pub kind-high : x .kind ≤ 2
-  pub lower-high : x .lower .0 ≤ mostEnergy
-  pub upper-high : x .upper .0 ≤ mostEnergy
+  pub lower-high : Each (λ m. m .0 ≤ mostEnergy) (x .lower)
+  pub upper-high : Each (λ m. m .0 ≤ mostEnergy) (x .upper)
 
 pub record SoundPoint (accounts : List Account) (zones : ℕ) (x : Point) : Type 0 where
   pub account-low : 1 ≤ x .account
@@ -87,25 +84,35 @@ operator-sound : (at : ℕ) (x : Operator) → SoundOperator x → Each Good (op
 unfolding operatorValues
 operator-sound at x h = cons (le-leb _ _ (h .0)) (cons (le-leb _ _ (h .1)) nil)
 
-sound-account : (n at : ℕ) (x : Account) → Each Good (accountValues n at x) → SoundAccount n x
+sound-margin : (at : ℕ) (x : Kwh) → Each Good (marginValues at x) → x .0 ≤ mostEnergy
+unfolding marginValues
+sound-margin at x (cons p nil) = leb-true _ _ p
+
+margin-sound : (at : ℕ) (x : Kwh) → x .0 ≤ mostEnergy → Each Good (marginValues at x)
+unfolding marginValues
+margin-sound at x h = cons (le-leb _ _ h) nil
+
+sound-account : (n : Counts) (at : ℕ) (x : Account) → Each Good (accountValues n at x) → SoundAccount (n .operators) x
 unfolding accountValues
-sound-account n at x (cons o (cons k (cons l (cons u nil)))) =
-    let os = within-true 1 (x .operator) n .0 o in
+sound-account n at x (cons o (cons k margins)) =
+    let os = within-true 1 (x .operator) (n .operators) .0 o in
     let ks = within-true 1 (x .kind) 2 .0 k in
+    let m = each-split _ (valuesOf marginWidth marginValues (at + upperOffset n) (x .upper)) margins in
     record {
       operator-low = os .0;
       operator-high = os .1;
       kind-low = ks .0;
       kind-high = ks .1;
-      lower-high = leb-true _ _ l;
-      upper-high = leb-true _ _ u;
+      lower-high = values-each marginWidth marginValues sound-margin _ _ (m .0);
+      upper-high = values-each marginWidth marginValues sound-margin _ _ (m .1);
     }
 
-account-sound : (n at : ℕ) (x : Account) → SoundAccount n x → Each Good (accountValues n at x)
+account-sound : (n : Counts) (at : ℕ) (x : Account) → SoundAccount (n .operators) x → Each Good (accountValues n at x)
 unfolding accountValues
 account-sound n at x s =
-    cons (within-true 1 (x .operator) n .1 (s .operator-low, s .operator-high))
-    (cons (within-true 1 (x .kind) 2 .1 (s .kind-low, s .kind-high)) (cons (le-leb _ _ (s .lower-high)) (cons (le-leb _ _ (s .upper-high)) nil)))
+    cons (within-true 1 (x .operator) (n .operators) .1 (s .operator-low, s .operator-high))
+    (cons (within-true 1 (x .kind) 2 .1 (s .kind-low, s .kind-high))
+    (each-append (each-values marginWidth marginValues margin-sound _ (s .lower-high)) (each-values marginWidth marginValues margin-sound _ (s .upper-high))))
 
 sound-point : (accounts : List Account) (zones at : ℕ) (x : Point) → Each Good (pointValues accounts zones at x) → SoundPoint accounts zones x
 unfolding pointValues
@@ -152,12 +159,12 @@ unfolding faultyOffset values
 values-in-range u os h =
     let good : Each Good (values u os) = each-map (λ v e. not-false (v .1) e) (find-none (λ v. not (v .1)) (values u os) (none-found _ h)) in
     let d = each-split _ (valuesOf pointEntry (pointValues (u .accounts) (u .zones)) (pointsOffset (countsOf u)) (u .points)) good in
-    let c = each-split _ (valuesOf (accountEntry (countsOf u)) (accountValues (operatorCount u)) (accountsOffset (countsOf u)) (u .accounts)) (d .0) in
+    let c = each-split _ (valuesOf (accountEntry (countsOf u)) (accountValues (countsOf u)) (accountsOffset (countsOf u)) (u .accounts)) (d .0) in
     let b = each-split (valuesOf priceWidth estimateValues estimatesOffset (u .estimates)) (valuesOf operatorEntry operatorValues (operatorsOffset (countsOf u)) os) (c .0) in
     record {
       estimates-sound = values-each priceWidth estimateValues sound-price _ _ (b .0);
       operators-sound = values-each operatorEntry operatorValues sound-operator _ _ (b .1);
-      accounts-sound = values-each (accountEntry (countsOf u)) (accountValues (operatorCount u)) (sound-account (operatorCount u)) _ _ (c .1);
+      accounts-sound = values-each (accountEntry (countsOf u)) (accountValues (countsOf u)) (sound-account (countsOf u)) _ _ (c .1);
       points-sound = values-each pointEntry (pointValues (u .accounts) (u .zones)) (sound-point (u .accounts) (u .zones)) _ _ (d .1);
     }
 
@@ -165,11 +172,20 @@ pub in-range-values : (u : Setup) (operators : List Operator) → InRange u oper
 unfolding faultyOffset values
 in-range-values u os s =
     let good : Each Good (values u os) =
-    each-join (each-join (each-join (each-values priceWidth estimateValues price-sound _ (s .estimates-sound))
+    each-append (each-append (each-append (each-values priceWidth estimateValues price-sound _ (s .estimates-sound))
     (each-values operatorEntry operatorValues operator-sound _ (s .operators-sound)))
-    (each-values (accountEntry (countsOf u)) (accountValues (operatorCount u)) (account-sound (operatorCount u)) _ (s .accounts-sound)))
+    (each-values (accountEntry (countsOf u)) (accountValues (countsOf u)) (account-sound (countsOf u)) _ (s .accounts-sound)))
     (each-values pointEntry (pointValues (u .accounts) (u .zones)) (point-sound (u .accounts) (u .zones)) _ (s .points-sound)) in
     rw (none-find (λ v. not (v .1)) (each-map (λ v e. rw e) good))
+
+-- the margins of any account in any hour: a number that none has is given 0
+pub margins-in-range : (u : Setup) (operators : List Operator) (a h : ℕ) → InRange u operators
+    → (lowerAt u a h .0 ≤ mostEnergy) × (upperAt u a h .0 ≤ mostEnergy)
+margins-in-range u os a h s =
+    let zero : 0 ≤ mostEnergy = omega arith in
+    let lower = each-nth-or noAccount a nil (each-map (λ x k. k .lower-high) (s .accounts-sound)) in
+    let upper = each-nth-or noAccount a nil (each-map (λ x k. k .upper-high) (s .accounts-sound)) in
+    (each-nth-or (kwh 0) (hourOf u h) zero lower, each-nth-or (kwh 0) (hourOf u h) zero upper)
 
 -- ---- operators with other guarantees
 

@@ -5,18 +5,19 @@ use mathlib.Core.Option.{Option, none}
 use mathlib.Core.Bool.{Bool, true, false, not, _||_}
 use native.Mathlib.Omega.{arith}
 use lib.ListN.{length, replicate}
+use lib.Dec.{eqb}
 use borrow.Author.Tests.{eqb-true, eqb-false, leb-true, ltb-true, eq-eqb, ne-eqb, le-leb, lt-ltb, not-true}
 use Rattle.units.specs.Units.{cents}
 use Rattle.rules.specs.declared.Row.{Row}
 use Rattle.rules.specs.declared.Schedule.{Schedule}
 use Rattle.rules.specs.Basics.{every, isSome, counting, upTo, Each, nil, cons}
 use Rattle.rules.specs.Limits.{mostEnergy, mostPrice, fewestHours, mostHours, mostOperators, mostAccounts, mostPoints, mostZones}
-use Rattle.rules.specs.Books.{Setup, countsOf, operatorCount, accountCount, pointCount, periods}
+use Rattle.rules.specs.Books.{Account, Setup, countsOf, operatorCount, accountCount, pointCount, periods}
 use Rattle.rules.specs.Opening.{badCounts, operatorsOf, faultyOffset}
-use Rattle.rules.proofs.Basics.Tests.{Holds, _and_, no-more, all-holds, holds-all, within-true}
+use Rattle.rules.proofs.Basics.Tests.{Holds, _and_, no-more, all-holds, holds-all, and-both, within-true}
 use Rattle.rules.proofs.Setups.SetupShape.{in-range as counts-in-range}
-use Rattle.rules.proofs.Basics.Searches.{none-of, every-each, each-every, counted-has}
-use Rattle.image.specs.Valid.{setupTests, setupOk, rowTests, rowOk, scheduleTests, scheduleOk}
+use Rattle.rules.proofs.Basics.Searches.{none-of, each-map, every-each, each-every, counted-has}
+use Rattle.image.specs.Valid.{marginsByHour, setupTests, setupOk, rowTests, rowOk, scheduleTests, scheduleOk}
 
 -- ---- two tests of which one holds
 
@@ -44,6 +45,20 @@ upTo-every p n f = each-every p (counting-each n 1 (λ k l m. f k l (omega arith
 
 -- ---- the set-up
 
+-- an account has a lower and an upper margin for each hour
+pub record MarginsAll (hours : ℕ) (x : Account) : Type 0 where
+  pub lower-all : length (x .lower) ≡ hours
+  pub upper-all : length (x .upper) ≡ hours
+
+sound-margins : (hours : ℕ) (x : Account) → marginsByHour hours x ≡ true → MarginsAll hours x
+sound-margins hours x h =
+    let w = and-both (eqb (length (x .lower)) hours) (eqb (length (x .upper)) hours) .0 h in
+    record { lower-all = eqb-true _ _ (w .0); upper-all = eqb-true _ _ (w .1) }
+
+pub margins-sound : (hours : ℕ) (x : Account) → MarginsAll hours x → marginsByHour hours x ≡ true
+margins-sound hours x m =
+    and-both (eqb (length (x .lower)) hours) (eqb (length (x .upper)) hours) .1 (eq-eqb _ _ (m .lower-all), eq-eqb _ _ (m .upper-all))
+
 pub record SoundSetup (u : Setup) : Type 0 where
   pub hours-low : fewestHours ≤ u .hours
   pub hours-high : u .hours ≤ mostHours
@@ -55,6 +70,7 @@ pub record SoundSetup (u : Setup) : Type 0 where
   pub zones-low : 1 ≤ u .zones
   pub zones-high : u .zones ≤ mostZones
   pub estimates-all : length (u .estimates) ≡ u .hours
+  pub margins-all : Each (MarginsAll (u .hours)) (u .accounts)
   pub in-range : faultyOffset u (operatorsOf (replicate (operatorCount u) (cents 0)) (u .maintenance)) ≡ none
 
 -- an option that holds nothing
@@ -62,7 +78,7 @@ pub not-some : {A : Type 0} (o : Option A) → not (isSome o) ≡ true → o ≡
 not-some o h = none-of o (not-true (isSome o) h)
 
 setup-facts : (u : Setup) → Holds (setupTests u) → SoundSetup u
-setup-facts u (counts and estimates and values and _) =
+setup-facts u (counts and estimates and margins and values and _) =
     let n = counts-in-range (countsOf u) (not-true _ counts) in
     record {
       hours-low = n .hours .least;
@@ -75,6 +91,7 @@ setup-facts u (counts and estimates and values and _) =
       zones-low = n .zones .least;
       zones-high = n .zones .most;
       estimates-all = eqb-true _ _ estimates;
+      margins-all = each-map (sound-margins (u .hours)) (every-each (marginsByHour (u .hours)) (u .accounts) margins);
       in-range = not-some _ values;
     }
 
@@ -90,7 +107,13 @@ setup-sound u s =
     let cs = within-true 1 (accountCount u) mostAccounts .1 (s .accounts-low, s .accounts-high) in
     let ps = le-leb (pointCount u) mostPoints (s .points-high) in
     let zs = within-true 1 (u .zones) mostZones .1 (s .zones-low, s .zones-high) in
-    holds-all (setupTests u) ((rw (hs, os, cs, ps, zs)) and eq-eqb _ _ (s .estimates-all) and (rw (s .in-range)) and no-more)
+    holds-all (setupTests u) (
+    (rw (hs, os, cs, ps, zs))
+    and eq-eqb _ _ (s .estimates-all)
+    and each-every (marginsByHour (u .hours)) (each-map (margins-sound (u .hours)) (s .margins-all))
+    and (rw (s .in-range))
+    and no-more
+    )
 
 -- ---- rows
 

@@ -6,30 +6,30 @@ use mathlib.Core.Option.{Option, none, some}
 use native.Mathlib.Omega.{arith}
 use lib.ListN.{length, length-append, length-map, length-replicate}
 use Rattle.wire.specs.Numbers.{le, signed}
-use Rattle.wire.specs.Parts.{Wide, Small}
+use Rattle.wire.specs.Parts.{flat, Wide, Small}
 use Rattle.wire.proofs.NumberLaws.{length-le, length-signed}
 use Rattle.wire.proofs.ZeroLaws.{length-zeros, length-padded}
 use Rattle.wire.proofs.PartLaws.{length-flat}
 use Rattle.wire.proofs.PackLaws.{length-pack}
 use Rattle.wire.proofs.SlotLaws.{uniform-map, length-uniform, length-slots}
+use Rattle.units.specs.declared.Kwh.{Kwh}
 use Rattle.units.specs.declared.Cents.{Cents}
 use Rattle.units.specs.Units.{cents}
 use Rattle.rules.specs.declared.Counts.{Counts}
 use Rattle.rules.specs.declared.Operator.{Operator}
-use Rattle.rules.specs.declared.Account.{Account}
 use Rattle.rules.specs.declared.Point.{Point}
 use Rattle.rules.specs.declared.Row.{Row}
 use Rattle.rules.specs.declared.Schedule.{Schedule}
-use Rattle.rules.specs.Basics.{joined, upTo, Each}
+use Rattle.rules.specs.Basics.{joined, upTo, Each, cons}
 use Rattle.rules.specs.Limits.{mostOperators, mostAccounts, mostRows, mostSchedules}
-use Rattle.rules.specs.Books.{Setup, Part, Book, countsOf, operatorCount, accountCount, pointCount, periods}
-use Rattle.rules.specs.Opening.{operatorBytes, accountBytes, pointBytes, operatorsOf, setupBytes, setupLength, operatorEntry, accountEntry, pointEntry, guaranteeWidth}
+use Rattle.rules.specs.Books.{Account, Setup, Part, Book, countsOf, operatorCount, accountCount, pointCount, periods}
+use Rattle.rules.specs.Opening.{operatorBytes, marginBytes, accountBytes, pointBytes, operatorsOf, setupBytes, setupLength, operatorEntry, marginWidth, accountEntry, pointEntry, guaranteeWidth}
 use Rattle.rules.specs.Registration.{netOf, figure}
-use Rattle.rules.proofs.Basics.Searches.{counting-length, each-map}
+use Rattle.rules.proofs.Basics.Searches.{counting-length, each-map, each-any}
 use Rattle.rules.proofs.Setups.SetupShape.{length-most}
 use Rattle.image.specs.Layout.{setupRoom, rowWidths, rowWidth, scheduleWidths, scheduleWidth, accountWidth, partWidths, partSize, usedSize, bookWidths, netWidth}
 use Rattle.image.specs.Image.{rowValues, rowBytes, scheduleValues, scheduleBytes, accountNets, netsBytes, partSections, partBytes, savedBytes, storedSetup, sectionsWith, sections, image}
-use Rattle.image.proofs.Sound.Soundness.{SoundSetup, SoundRow, SoundSchedule}
+use Rattle.image.proofs.Sound.Soundness.{MarginsAll, SoundSetup, SoundRow, SoundSchedule}
 use Rattle.image.proofs.Sound.SoundBooks.{SoundPart, SavedSound, SoundBook}
 
 -- ---- facts on parts that stand one after another: `first then second then tt`
@@ -140,17 +140,27 @@ length-image top size b f h = length-flat (bookWidths top size) (sections top si
 
 -- ---- the stored set-up
 
-pub length-joined : {A : Type 0} (w : ℕ) (bytes : A → List ℕ) (xs : List A) → ((x : A) → length (bytes x) ≡ w)
+pub length-joined : {A : Type 0} (w : ℕ) (bytes : A → List ℕ) (xs : List A) → Each (λ x. length (bytes x) ≡ w) xs
     → length (joined bytes xs) ≡ w * length xs
-unfolding joined
-length-joined w bytes xs h = length-uniform w (map bytes xs) (uniform-map w bytes xs h) ∙ rw (length-map xs bytes)
+unfolding joined flat
+length-joined w bytes [] e = omega arith
+length-joined w bytes (x ∷ xs) (cons l ls) = length-append (bytes x) (joined bytes xs) ∙ omega (arith, length-joined w bytes xs ls)
 
 pub length-operator-bytes : (x : Operator) → length (operatorBytes x) ≡ operatorEntry
 length-operator-bytes x = length-pack (8 ∷ 2 ∷ []) _ refl
 
-pub length-account-bytes : (n : Counts) (x : Account) → length (accountBytes x) ≡ accountEntry n
+pub length-margin-bytes : (x : Kwh) → length (marginBytes x) ≡ marginWidth
+length-margin-bytes x = length-le marginWidth (x .0)
+
+pub length-margins : (xs : List Kwh) → length (joined marginBytes xs) ≡ marginWidth * length xs
+length-margins xs = length-joined marginWidth marginBytes xs (each-any xs length-margin-bytes)
+
+-- an account with a lower and an upper margin for each hour has its width
+pub length-account-bytes : (n : Counts) (x : Account) → MarginsAll (n .hours) x → length (accountBytes x) ≡ accountEntry n
 unfolding accountEntry
-length-account-bytes n x = length-pack (1 ∷ 1 ∷ 4 ∷ 4 ∷ []) _ refl
+length-account-bytes n x m =
+    let front = length-pack (1 ∷ 1 ∷ []) (x .operator ∷ x .kind ∷ []) refl in
+    rw (length-append, length-append) (omega (arith, length-margins (x .lower), length-margins (x .upper), m .lower-all, m .upper-all))
 
 pub length-point-bytes : (x : Point) → length (pointBytes x) ≡ pointEntry
 length-point-bytes x = length-pack (1 ∷ 1 ∷ 1 ∷ 4 ∷ 4 ∷ []) _ refl
@@ -163,21 +173,22 @@ length-operators [] (m ∷ ms) e = absurd (omega arith)
 length-operators (g ∷ gs) [] e = absurd (omega arith)
 length-operators (g ∷ gs) (m ∷ ms) e = ap suc (length-operators gs ms (omega arith))
 
--- a set-up with a guarantee for each operator and an estimate for each hour is as long as its counts say
+-- a set-up with a guarantee for each operator, and an estimate and each account's margins for each hour, is as long as its counts say
 pub length-setup : (u : Setup) (gs : List Cents) → length gs ≡ operatorCount u → length (u .estimates) ≡ u .hours
-    → length (setupBytes u gs) ≡ setupLength (countsOf u)
+    → Each (MarginsAll (u .hours)) (u .accounts) → length (setupBytes u gs) ≡ setupLength (countsOf u)
 unfolding setupBytes
-length-setup u gs g e =
+length-setup u gs g e m =
     let o = length-operators gs (u .maintenance) g in
-    let le4 = length-joined 4 (λ p. le 4 (p .0)) (u .estimates) (λ p. length-le 4 (p .0)) in
-    let lo = length-joined operatorEntry operatorBytes (operatorsOf gs (u .maintenance)) length-operator-bytes in
-    let la = length-joined (accountEntry (countsOf u)) accountBytes (u .accounts) (length-account-bytes (countsOf u)) in
-    let lp = length-joined pointEntry pointBytes (u .points) length-point-bytes in
+    let le4 = length-joined 4 (λ p. le 4 (p .0)) (u .estimates) (each-any _ (λ p. length-le 4 (p .0))) in
+    let lo = length-joined operatorEntry operatorBytes (operatorsOf gs (u .maintenance)) (each-any _ length-operator-bytes) in
+    let la = length-joined (accountEntry (countsOf u)) accountBytes (u .accounts) (each-map (length-account-bytes (countsOf u)) m) in
+    let lp = length-joined pointEntry pointBytes (u .points) (each-any _ length-point-bytes) in
     rw (length-append, length-append, length-append) (omega arith)
 
-pub length-stored : (u : Setup) → length (u .estimates) ≡ u .hours → length (storedSetup u) ≡ setupLength (countsOf u)
+pub length-stored : (u : Setup) → length (u .estimates) ≡ u .hours → Each (MarginsAll (u .hours)) (u .accounts)
+    → length (storedSetup u) ≡ setupLength (countsOf u)
 unfolding storedSetup
-length-stored u e = length-setup u _ (length-replicate (operatorCount u) (cents 0)) e
+length-stored u e m = length-setup u _ (length-replicate (operatorCount u) (cents 0)) e m
 
 -- a sound set-up has room
 pub sound-short : (u : Setup) → SoundSetup u → setupLength (countsOf u) ≤ setupRoom
@@ -234,7 +245,7 @@ pub fits : (b : Book) → SoundBook b → Fits b
 fits b s =
     let u = s .setup-sound in
     record {
-      setup-fits = omega (arith, length-stored (b .setup) (u .estimates-all), sound-short (b .setup) u);
+      setup-fits = omega (arith, length-stored (b .setup) (u .estimates-all) (u .margins-all), sound-short (b .setup) u);
       schedules-fit = s .schedules-high;
       part-fits = part-fits-of (b .setup) (b .part) (u .operators-high) (s .part-sound);
       saved-fits = saved (b .part .rows) (b .saved) (s .saved-sound);

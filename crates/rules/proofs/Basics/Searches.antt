@@ -41,16 +41,24 @@ pub each-nth {ℓ κ} : {A : Type ℓ} {P : A → Type κ} {xs : List A} (d : A)
 each-nth d zero e l h = absurd (omega arith)
 each-nth d (suc i) e l h = each-at d i e (omega arith)
 
+-- the same of any number, where the default has it too
+pub each-nth-or {ℓ κ} : {A : Type ℓ} {P : A → Type κ} {xs : List A} (d : A) (n : ℕ) → P d → Each P xs → P (nth xs n d)
+each-nth-or d zero p e = p
+each-nth-or d (suc i) p nil = p
+each-nth-or d (suc zero) p (cons q e) = q
+each-nth-or d (suc (suc i)) p (cons q e) = each-nth-or d (suc i) p e
+
 -- one element more
 pub each-snoc {ℓ κ} : {A : Type ℓ} {P : A → Type κ} {xs : List A} {x : A} → Each P xs → P x → Each P (xs ++ x ∷ [])
 each-snoc nil p = cons p nil
 each-snoc (cons q e) p = cons q (each-snoc e p)
 
--- each element changed
+-- several elements more
 pub each-append {ℓ κ} : {A : Type ℓ} {P : A → Type κ} {xs ys : List A} → Each P xs → Each P ys → Each P (xs ++ ys)
 each-append nil f = f
 each-append (cons p e) f = cons p (each-append e f)
 
+-- each element changed
 pub each-mapped {ℓ κ} : {A : Type ℓ} {P : A → Type κ} {xs : List A} (f : A → A) → ((x : A) → P x → P (f x)) → Each P xs → Each P (map f xs)
 each-mapped f h nil = nil
 each-mapped f h (cons {x = x} q e) = cons (h x q) (each-mapped f h e)

@@ -9,7 +9,7 @@ use Rattle.book.proofs.worth.added_sale.Tie as tie
 
 sale-of-requires : tie.Need-sale-of-requires
 sale-of-requires c κs =
-    let pre = c .before .before .before .before .before .pre in
+    let pre = c .before .before .before .before .before .before .pre in
     (pre .0, each-at noRow 0 (rw (c .before .added .given .1) at (pre .1)) (omega arith))
 
 returns : tie.Need-returns

@@ -8,18 +8,14 @@ use Rattle.book.proofs.worth.exposure_with.Tie as tie
 
 short-worth-requires : tie.Need-short-worth-requires
 short-worth-requires c κs =
-    let pre = c .before .before .before .pre in (pre .0, c .account-entries .ensures, trade-quantity _ (pre .1))
-
-added-sale-requires : tie.Need-added-sale-requires
-added-sale-requires c κs =
-    search needs
+    let pre = c .before .before .before .before .pre in (pre .0, c .before .account-operators .ensures, trade-quantity _ (pre .1))
 
 returns : tie.Need-returns
 returns c =
     let added = c .before .before in
-    let waiting = added .before .before in
-    let below = waiting .before .before in
-    let start = below .before .before .before .before in (
+    let waiting = added .before .before .before in
+    let below = waiting .before .before .before in
+    let start = below .before .before .before .before .before in (
       exposure-joined _ (start .pre .0) (start .args .operator) (addedRows (start .args .added)) (start .pre .1) _ _ _ _ _
           (below .short-worth .ensures .0) (waiting .sales-worth .ensures .0) (added .added-sale .ensures .0) (c .before .plus .ensures) (c .plus2 .ensures),
       omega (arith, c .plus2 .ensures, c .before .plus .ensures, below .short-worth .ensures .1, waiting .sales-worth .ensures .1, added .added-sale .ensures .1),
@@ -31,11 +27,14 @@ exposure-with-spec =
     (tie.spec
     (λ c κs. search needs)
     (λ c κs. search needs)
+    (λ c. search needs)
     short-worth-requires
+    (λ c. search needs)
     (λ c. search needs)
     (λ c κs. search needs)
     (λ c. search needs)
-    added-sale-requires
+    (λ c. search needs)
+    (λ c κs. search needs)
     (λ c κs. search needs)
     (λ c κs. search needs)
     returns)

@@ -1,49 +1,59 @@
 -- A row whose proposer has another operator adds nothing, and any other row is read whole.
-use mathlib.Core.Path.{sym, ap, _∙_}
+use Prim.Native.Nat.{ℕ}
+use mathlib.Core.Path.{_≡_, sym, ap, _∙_}
+use mathlib.Core.List.{List}
 use native.Mathlib.Omega.{arith}
-use Rattle.book.specs.Worth.{saleWorth}
+use Rattle.rules.specs.declared.Row.{Row}
+use Rattle.image.specs.Valid.{bookIn}
+use Rattle.book.specs.Members.{IsAccount, IsRow, numberedRow}
+use Rattle.book.specs.Worth.{SaleInputs, saleWorth}
 use Rattle.book.proofs.StateLaws.{book-length, row-count-high, numbered-row-stands}
 use Rattle.book.proofs.BookRows.{numbered-sound}
 use Rattle.book.proofs.WaitLaws.{own-stands}
-use Rattle.book.proofs.WorthParts.{sale-of-others, sound-row-in-range}
+use Rattle.book.proofs.WorthParts.{operator-listed, sale-of-others, sound-row-in-range}
+use borrow.Author.Needs.{needs}
 use Rattle.book.proofs.worth.row_sale.Statement.{statement}
 use Rattle.book.proofs.worth.row_sale.Tie as tie
 
 row-offset-requires : tie.Need-row-offset-requires
-row-offset-requires c κs = let pre = c .before .before .pre in omega (arith, pre .1, row-count-high _ (pre .0 .is-book))
+row-offset-requires c κs = let pre = c .before .before .before .pre in omega (arith, pre .1, row-count-high _ (pre .0 .is-book))
 
 get-u8-requires : tie.Need-get-u8-requires
 get-u8-requires c κs =
-    let pre = c .before .before .before .pre in omega (arith, pre .1, c .row-offset .ensures, row-count-high _ (pre .0 .is-book), book-length _ (pre .0 .is-book))
+    let pre = c .before .before .before .before .pre in
+    omega (arith, pre .1, c .row-offset .ensures, row-count-high _ (pre .0 .is-book), book-length _ (pre .0 .is-book))
 
-entry-operator-requires : tie.Need-entry-operator-requires
-entry-operator-requires c κs =
-    let place = c .before in
-    let start = place .before .before .before in
+shared-slice-read-if1 : tie.Need-shared-slice-read-if1
+shared-slice-read-if1 c =
+    let place = c .before .before in
+    let start = place .before .before .before .before in
     let pre = start .pre in
     let n = start .args .number in
-    let same = c .get-u8 .ensures ∙ own-stands _ (pre .0 .is-book) n _ (pre .1) (place .row-offset .ensures) .0 in
+    let same = c .before .get-u8 .ensures ∙ own-stands _ (pre .0 .is-book) n _ (pre .1) (place .row-offset .ensures) .0 in
     let sound = numbered-sound _ (pre .0 .is-book) n (pre .1) in
-    (pre .0 .is-book, pre .0 .account-entries, (rw same (sound .proposer-low), rw same (sound .proposer-high)))
+    operator-listed _ _ _ (pre .0 .is-book) (pre .0 .account-operators) (rw same (sound .proposer-low), rw same (sound .proposer-high))
 
 returns : tie.Need-returns
 returns c =
-    let entry-operator = c .before in
-    let place = entry-operator .before .before in
-    let start = place .before .before .before in
+    let read = c .before .before in
+    let start = read .before .before .before .before .before in
     let pre = start .pre in
-    let same = entry-operator .before .get-u8 .ensures ∙ own-stands _ (pre .0 .is-book) (start .args .number) _ (pre .1) (place .row-offset .ensures) .0 in
-    (sym (sale-of-others _ (start .args .operator) _ _ (rw same at (entry-operator .entry-operator .ensures)) (c .if1 .taken)), omega arith)
+    let n = start .args .number in
+    let same = read .get-u8 .ensures ∙ own-stands _ (pre .0 .is-book) n _ (pre .1) (read .before .row-offset .ensures) .0 in
+    let sound = numbered-sound _ (pre .0 .is-book) n (pre .1) in
+    let own = pre .0 .account-operators .operator _ (sound .proposer-low) (sound .proposer-high) in
+    (sym (sale-of-others _ (start .args .operator) _ _ own (rw same at (c .if1 .taken))), omega arith)
 
 row-at-requires : tie.Need-row-at-requires
 row-at-requires c κs =
     let place = c .before .before .before in
-    let pre = place .before .before .before .pre in omega (arith, pre .1, place .row-offset .ensures, row-count-high _ (pre .0 .is-book), book-length _ (pre .0 .is-book))
+    let pre = place .before .before .before .before .pre in
+    omega (arith, pre .1, place .row-offset .ensures, row-count-high _ (pre .0 .is-book), book-length _ (pre .0 .is-book))
 
 sale-of-requires : tie.Need-sale-of-requires
 sale-of-requires c κs =
     let place = c .before .before .before .before in
-    let start = place .before .before .before in
+    let start = place .before .before .before .before in
     let pre = start .pre in
     let same = c .row-at .ensures ∙ numbered-row-stands _ (pre .0 .is-book) (start .args .number) _ (pre .1) (place .row-offset .ensures) in
     (pre .0, rw same (sound-row-in-range _ _ (numbered-sound _ (pre .0 .is-book) (start .args .number) (pre .1))))
@@ -51,7 +61,7 @@ sale-of-requires c κs =
 returns-2 : tie.Need-returns-2
 returns-2 c =
     let place = c .before .before .before .before .before in
-    let start = place .before .before .before in
+    let start = place .before .before .before .before in
     let pre = start .pre in
     let same = c .before .row-at .ensures ∙ numbered-row-stands _ (pre .0 .is-book) (start .args .number) _ (pre .1) (place .row-offset .ensures) in
     (c .sale-of .ensures .0 ∙ ap (saleWorth _ (start .args .operator)) same, c .sale-of .ensures .1)
@@ -62,7 +72,8 @@ row-sale-spec =
     (tie.spec
     row-offset-requires
     get-u8-requires
-    entry-operator-requires
+    (λ c. search needs)
+    shared-slice-read-if1
     returns
     row-at-requires
     sale-of-requires

@@ -14,7 +14,7 @@ use Rattle.book.proofs.worth.sales_worth.Statement.{statement}
 use Rattle.book.proofs.worth.sales_worth.Tie as tie
 
 abbrev Inv-loop : tie.InvT-loop
-Inv-loop book sums entries operator rows sum₀ number₀ sum number =
+Inv-loop book sums operators operator rows sum₀ number₀ sum number =
     let b = bookIn book in
     (rows ≡ length (b .part .rows))
     × (rows ≤ mostRows)
@@ -24,7 +24,7 @@ Inv-loop book sums entries operator rows sum₀ number₀ sum number =
     × (sum .0 + total (saleWorth (b .setup) operator) (drop (number - 1) (b .part .rows)) ≡ total (saleWorth (b .setup) operator) (b .part .rows))
 
 abbrev μ-loop : tie.MeasureT-loop
-μ-loop book sums entries operator rows sum₀ number₀ sum number = rows + 1 - number
+μ-loop book sums operators operator rows sum₀ number₀ sum number = rows + 1 - number
 
 loop-holds : tie.Need-loop-holds Inv-loop μ-loop
 loop-holds c = (c .row-count .ensures .0, c .row-count .ensures .1, omega arith, omega arith, omega arith, zero-add _)
@@ -32,7 +32,7 @@ loop-holds c = (c .row-count .ensures .0, c .row-count .ensures .1, omega arith,
 row-sale-requires : tie.Need-row-sale-requires Inv-loop μ-loop
 row-sale-requires c κs =
     let l = c .before .loop in
-    let pre = c .before .before .before .before .before .pre in
+    let pre = c .before .before .before .before .before .before .pre in
     (pre, (l .inv .2, omega (arith, l .inv .0)))
 
 plus-requires : tie.Need-plus-requires Inv-loop μ-loop

@@ -17,7 +17,7 @@ use Rattle.book.proofs.worth.short_worth.Statement.{statement}
 use Rattle.book.proofs.worth.short_worth.Tie as tie
 
 abbrev Inv-loop : tie.InvT-loop
-Inv-loop book entries operator added n sum₀ account₀ sum account =
+Inv-loop book operators operator added n sum₀ account₀ sum account =
     let b = bookIn book in
     (n .accounts ≡ accountCount (b .setup))
     × (n .accounts ≤ mostAccounts)
@@ -28,14 +28,14 @@ Inv-loop book entries operator added n sum₀ account₀ sum account =
     ≡ total (shortShare (b .setup) (netsWith b added) operator) (counting (accountCount (b .setup)) 1))
 
 abbrev μ-loop : tie.MeasureT-loop
-μ-loop book entries operator added n sum₀ account₀ sum account = n .accounts + 1 - account
+μ-loop book operators operator added n sum₀ account₀ sum account = n .accounts + 1 - account
 
 counts-requires : tie.Need-counts-requires Inv-loop μ-loop
-counts-requires c κs = omega (arith, book-length _ (c .before .pre .0))
+counts-requires c κs = omega (arith, book-length _ (c .before .before .pre .0))
 
 loop-holds : tie.Need-loop-holds Inv-loop μ-loop
 loop-holds c =
-    let start = c .before .before in
+    let start = c .before .before .before in
     let accounts = ap (λ (n : Counts). n .accounts) (c .counts .ensures) ∙ accounts-in _ (start .pre .0) in (
       accounts,
       omega (arith, accounts, book-is-sound _ (start .pre .0) .setup-sound .accounts-high),
@@ -48,7 +48,7 @@ loop-holds c =
 short-share-requires : tie.Need-short-share-requires Inv-loop μ-loop
 short-share-requires c κs =
     let l = c .before .before .loop in
-    let pre = c .before .before .before .before .before .pre in
+    let pre = c .before .before .before .before .before .before .pre in
     (pre .0, pre .1, (l .inv .2, omega (arith, l .inv .0)), pre .2)
 
 plus-requires : tie.Need-plus-requires Inv-loop μ-loop

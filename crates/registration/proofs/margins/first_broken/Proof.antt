@@ -5,12 +5,12 @@ use mathlib.Core.Bool.{not}
 use mathlib.Core.List.{[], _∷_}
 use native.Mathlib.Omega.{arith}
 use borrow.Author.Needs.{needs}
+use Rattle.rules.specs.declared.Counts.{Counts}
 use Rattle.rules.specs.Basics.{find, counting}
 use Rattle.rules.specs.Limits.{mostHours}
-use Rattle.rules.specs.Books.{accountAt, marginsOf}
 use Rattle.rules.specs.Registration.{brokenBy}
 use Rattle.image.specs.Valid.{bookIn}
-use Rattle.book.proofs.BookRows.{setup-tabled, margins-read, accounts-read, hours-few}
+use Rattle.book.proofs.BookRows.{setup-tabled, counts-in, margins-read, accounts-read, hours-few}
 use Rattle.registration.specs.Margins.{broken}
 use Rattle.registration.proofs.SearchLaws.{find-done, find-here, find-next}
 use Rattle.registration.proofs.MarginLaws.{hour-room, breaks, broken-by-span, breaks-tested}
@@ -18,71 +18,75 @@ use Rattle.registration.proofs.margins.first_broken.Statement.{statemen
 use Rattle.registration.proofs.margins.first_broken.Tie as tie
 
 abbrev Inv-loop : tie.InvT-loop
-Inv-loop book waits trade number own hour₀ hour =
+Inv-loop book waits trade number hour₀ hour =
     let b = bookIn book in
-    (own ≡ marginsOf (accountAt (b .setup) number))
-    × (trade .first ≤ hour)
+    (trade .first ≤ hour)
     × (hour ≤ trade .last + 1)
     × (trade .last ≤ mostHours)
     × (brokenBy (b .setup) (b .part .rows) (trade ∷ []) number
     ≡ find (breaks (b .setup) (b .part .rows) trade number) (counting (trade .last + 1 - hour) hour))
 
 abbrev μ-loop : tie.MeasureT-loop
-μ-loop book waits trade number own hour₀ hour = trade .last + 1 - hour
-
-margins-requires : tie.Need-margins-requires Inv-loop μ-loop
-margins-requires c κs =
-    let pre = c .before .before .pre in
-    (setup-tabled _ (pre .0 .0) .whole, pre .1 .account-known .0, accounts-read _ (pre .0 .0) _ (pre .1 .account-known .1) .0)
+μ-loop book waits trade number hour₀ hour = trade .last + 1 - hour
 
 loop-holds : tie.Need-loop-holds Inv-loop μ-loop
 loop-holds c =
-    let start = c .before .before .before in
-    let pre = start .pre in (
-      margins-read _ (pre .0 .0) _ (start .args .number) (c .margins .ensures),
+    let pre = c .before .before .pre in (
       search needs,
       search needs,
       omega (arith, pre .1 .last-high, hours-few _ (pre .0 .0)),
       broken-by-span _ (pre .0 .0) _ _ (pre .1),
     )
 
+margins-requires : tie.Need-margins-requires Inv-loop μ-loop
+margins-requires c κs =
+    let step = c .before .before in
+    let pre = step .before .before .before .pre in (
+      (setup-tabled _ (pre .0 .0) .whole, pre .1 .account-known .0, accounts-read _ (pre .0 .0) _ (pre .1 .account-known .1) .0),
+      (omega (arith, pre .1 .first-low, step .loop .inv .0), omega (arith, pre .1 .last-high, ap (λ (n : Counts). n .hours) (counts-in _ (pre .0 .0)))),
+    )
+
 account-hour-requires : tie.Need-account-hour-requires Inv-loop μ-loop
 account-hour-requires c κs =
-    let step = c .before .before in
-    let l = step .loop in
-    let pre = step .before .before .before .before .pre in
-    (pre .0, (pre .1 .account-known, (omega (arith, pre .1 .first-low, l .inv .1), omega (arith, pre .1 .last-high))))
+    let step = c .before .before .before in
+    let pre = step .before .before .before .pre in
+    (pre .0, (pre .1 .account-known, (omega (arith, pre .1 .first-low, step .loop .inv .0), omega (arith, pre .1 .last-high))))
 
 after-trade-requires : tie.Need-after-trade-requires Inv-loop μ-loop
 after-trade-requires c κs =
-    let step = c .before .before .before in
+    let step = c .before .before .before .before in
     let l = step .loop in
-    let pre = step .before .before .before .before .pre in
-    hour-room _ (pre .0 .0) _ _ _ _ _ (pre .1 .account-known) (omega (arith, pre .1 .first-low, l .inv .1), omega (arith, pre .1 .last-high)) (pre .0 .1) (pre .1 .quantity-high) (c .account-hour .ensures)
+    let pre = step .before .before .before .pre in
+    hour-room _ (pre .0 .0) _ _ _ _ _ (pre .1 .account-known) (omega (arith, pre .1 .first-low, l .inv .0), omega (arith, pre .1 .last-high)) (pre .0 .1) (pre .1 .quantity-high) (c .account-hour .ensures)
 
 loop-again : tie.Need-loop-again Inv-loop μ-loop
 loop-again c =
     let k = c .before in
     let x = k .before .before in
-    let l = x .before .before .before .loop in (
-      l .inv .0,
+    let step = x .before .before .before .before in
+    let l = step .loop in
+    let start = step .before .before .before in
+    let own = margins-read _ (start .pre .0 .0) _ (start .args .number) (l .hour) (x .before .margins .ensures) in (
       omega arith,
       omega arith,
-      l .inv .3,
-      l .inv .4 ∙ find-next _ _ _ _ (omega arith) (breaks-tested _ _ _ _ _ _ _ _ _ (l .inv .0) (x .account-hour .ensures) (k .before .after-trade .ensures) (k .keeps-margins .ensures)
+      l .inv .2,
+      l .inv .3 ∙ find-next _ _ _ _ (omega arith) (breaks-tested _ _ _ _ _ _ _ _ _ own (x .account-hour .ensures) (k .before .after-trade .ensures) (k .keeps-margins .ensures)
           ∙ ap not (c .if2 .taken)),
     )
 
 returns : tie.Need-returns Inv-loop μ-loop
-returns c = ap broken (sym (c .before .before .loop .inv .4 ∙ find-done _ _ _ (omega arith)))
+returns c = ap broken (sym (c .before .before .loop .inv .3 ∙ find-done _ _ _ (omega arith)))
 
 returns-2 : tie.Need-returns-2 Inv-loop μ-loop
 returns-2 c =
     let k = c .before in
     let x = k .before .before in
-    let l = x .before .before .before .loop in
-    let test = breaks-tested _ _ _ _ _ _ _ _ _ (l .inv .0) (x .account-hour .ensures) (k .before .after-trade .ensures) (k .keeps-margins .ensures) in
-    ap broken (sym (l .inv .4 ∙ find-here _ _ _ (omega arith) (test ∙ ap not (c .if2 .left))))
+    let step = x .before .before .before .before in
+    let l = step .loop in
+    let start = step .before .before .before in
+    let own = margins-read _ (start .pre .0 .0) _ (start .args .number) (l .hour) (x .before .margins .ensures) in
+    let test = breaks-tested _ _ _ _ _ _ _ _ _ own (x .account-hour .ensures) (k .before .after-trade .ensures) (k .keeps-margins .ensures) in
+    ap broken (sym (l .inv .3 ∙ find-here _ _ _ (omega arith) (test ∙ ap not (c .if2 .left))))
 
 pub first-broken-spec : {M : Type 1} → statement M
 first-broken-spec =
@@ -90,8 +94,8 @@ first-broken-spec =
     (tie.spec
     Inv-loop
     μ-loop
-    margins-requires
     loop-holds
+    margins-requires
     account-hour-requires
     after-trade-requires
     (λ c κs. search needs)

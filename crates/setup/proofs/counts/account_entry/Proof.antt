@@ -1,5 +1,4 @@
 -- The widths of an account's fields add up to the width of its entry.
-use mathlib.Core.Path.{refl}
 use native.Mathlib.Omega.{arith}
 use Rattle.rules.specs.Opening.{accountEntry}
 use borrow.Author.Needs.{needs}
@@ -8,7 +7,7 @@ use Rattle.setup.proofs.counts.account_entry.Tie as tie
 
 returns : tie.Need-returns
 unfolding accountEntry
-returns c = (refl, omega arith)
+returns c = (omega (arith, c .margins-length .ensures), omega (arith, c .margins-length .ensures))
 
 pub account-entry-spec : {M : Type 1} → statement M
-account-entry-spec = tie.close (tie.spec (λ c. search needs) returns)
+account-entry-spec = tie.close (tie.spec (λ c κs. search needs) (λ c. search needs) (λ c. search needs) returns)

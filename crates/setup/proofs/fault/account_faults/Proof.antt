@@ -1,6 +1,7 @@
 -- An account without a fault is passed over, and the first with one decides.
 use Prim.Native.Nat.{ℕ, _-_}
 use lib.ListN.{drop}
+use mathlib.Core.Path.{refl}
 use native.Mathlib.Omega.{arith}
 use Rattle.rules.specs.declared.Counts.{Counts}
 use Rattle.rules.specs.Basics.{entries}
@@ -13,7 +14,7 @@ use Rattle.setup.proofs.fault.account_faults.Tie as tie
 
 abbrev Inv-loop : tie.InvT-loop
 Inv-loop setup n entry at₀ left₀ at left =
-    EntriesLeft (accountEntry n) accountIn (accountValues (n .operators)) setup (accountFaults setup) at left
+    EntriesLeft (accountEntry n) (accountIn n) (accountValues n) setup (accountFaults setup) at left
 
 abbrev μ-loop : tie.MeasureT-loop
 μ-loop setup n entry at₀ left₀ at left = left
@@ -25,39 +26,34 @@ loop-holds c =
     let s = start .args .setup .now in
     record {
       inside = omega (arith, start .pre .whole, c .accounts-offset .ensures);
-      come-to = at-counts (λ (n : Counts) (at : ℕ). firstFault (valuesOf (accountEntry n) (accountValues (n .operators)) at (entries (accountEntry n) accountIn (n .accounts) (drop at s)))) accountsOffset (start .pre .counted) (c .accounts-offset .ensures);
+      come-to = at-counts (λ (n : Counts) (at : ℕ). firstFault (valuesOf (accountEntry n) (accountValues n) at (entries (accountEntry n) (accountIn n) (n .accounts) (drop at s)))) accountsOffset (start .pre .counted) (c .accounts-offset .ensures);
     }
-
-account-at-requires : tie.Need-account-at-requires Inv-loop μ-loop
-account-at-requires c κs = let l = c .before .loop in first-inside (l .inv) (l .left - 1) (omega arith)
 
 account-fault-requires : tie.Need-account-fault-requires Inv-loop μ-loop
 account-fault-requires c κs =
-    let l = c .before .before .loop in
-    let start = c .before .before .before .before .before .before in
-    omega (arith, first-inside (l .inv) (l .left - 1) (omega arith), start .pre .short)
+    let looped = c .before in
+    let start = looped .before .before .before .before in
+    (start .pre, first-inside (looped .loop .inv) (looped .loop .left - 1) (omega arith))
 
 returns : tie.Need-returns Inv-loop μ-loop
 returns c =
     let fault = c .before .before .before in
-    let read = fault .before in
-    let l = read .before .before .loop in
-    first-fails (l .inv) (l .left - 1) (omega arith) (read .account-at .ensures) (fault .account-fault .ensures) (c .before .r .given .1)
+    let l = fault .before .before .loop in
+    first-fails (l .inv) (l .left - 1) (omega arith) refl (fault .account-fault .ensures) (c .before .r .given .1)
 
 add-at : tie.Need-add-at Inv-loop μ-loop
 add-at c =
-    let looped = c .before .before .before .before .before in
+    let looped = c .before .before .before .before in
     let sized = looped .before .before in
     record { fits = omega (arith, looped .loop .inv .inside, sized .account-entry .ensures .1, sized .before .before .pre .short) }
 
 loop-again : tie.Need-loop-again Inv-loop μ-loop
 loop-again c =
     let fault = c .before .before in
-    let read = fault .before in
-    let looped = read .before .before in
+    let looped = fault .before .before in
     let l = looped .loop in
     let entry = looped .before .before .account-entry .ensures .0 in
-    rw entry (first-clear (l .inv) (l .left - 1) (omega arith) (read .account-at .ensures) (fault .account-fault .ensures) (c .enum-told .given .1))
+    rw entry (first-clear (l .inv) (l .left - 1) (omega arith) refl (fault .account-fault .ensures) (c .enum-told .given .1))
 
 returns-2 : tie.Need-returns-2 Inv-loop μ-loop
 returns-2 c = none-left (c .before .loop .inv) (omega arith)
@@ -71,7 +67,6 @@ account-faults-spec =
     (λ c κs. search needs)
     (λ c κs. search needs)
     loop-holds
-    account-at-requires
     account-fault-requires
     (λ c. search needs)
     returns

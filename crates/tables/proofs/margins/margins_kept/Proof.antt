@@ -4,63 +4,52 @@ use mathlib.Core.Path.{_≡_, _∙_, sym, ap}
 use native.Mathlib.Omega.{arith}
 use borrow.Author.Needs.{needs}
 use Rattle.rules.specs.declared.Counts.{Counts}
-use Rattle.rules.specs.Basics.{every, nth, counting}
-use Rattle.rules.specs.Books.{noAccount, marginsOf}
-use Rattle.rules.specs.Opening.{countsIn, setupOf, accountsIn}
+use Rattle.rules.specs.Basics.{every, counting}
+use Rattle.rules.specs.Opening.{countsIn, setupOf}
 use Rattle.rules.proofs.Basics.CountingLaws.{every-done, every-next, every-fails, every-same}
-use Rattle.image.specs.Valid.{marginsKept}
+use Rattle.image.specs.Valid.{accountKeeps, marginsKept}
 use Rattle.tables.specs.Sums.{ForRowsSummedIn}
-use Rattle.tables.proofs.MarginLaws.{accountKeeps, margins-by-account, account-kept}
+use Rattle.tables.proofs.MarginLaws.{margins-by-account}
 use Rattle.tables.proofs.margins.margins_kept.Statement.{statement}
 use Rattle.tables.proofs.margins.margins_kept.Tie as tie
 
 abbrev Inv-loop : tie.InvT-loop
 Inv-loop book table top n number₀ number =
     (n .accounts ≡ countsIn book .accounts)
-    × (n .hours ≡ countsIn book .hours)
     × (1 ≤ number)
     × (number ≤ countsIn book .accounts + 1)
     × ForRowsSummedIn top table (λ rows.
-    marginsKept (setupOf book) rows
-    ≡ every (λ a. accountKeeps rows (marginsOf (nth (accountsIn book) a noAccount)) (countsIn book .hours) a) (counting (countsIn book .accounts + 1 - number) number))
+    marginsKept (setupOf book) rows ≡ every (accountKeeps (setupOf book) rows) (counting (countsIn book .accounts + 1 - number) number))
 
 abbrev μ-loop : tie.MeasureT-loop
 μ-loop book table top n number₀ number = countsIn book .accounts + 1 - number
 
 loop-holds : tie.Need-loop-holds Inv-loop μ-loop
-loop-holds c =
-    let read = c .counts .ensures in (
-      ap (λ (n : Counts). n .accounts) read,
-      ap (λ (n : Counts). n .hours) read,
-      search needs,
-      search needs,
-      λ rows sums. margins-by-account _ rows ∙ every-same _ _ _ _ (omega arith),
-    )
+loop-holds c = (
+  ap (λ (n : Counts). n .accounts) (c .counts .ensures),
+  search needs,
+  search needs,
+  λ rows sums. margins-by-account _ rows ∙ every-same _ _ _ _ (omega arith),
+)
 
 loop-again : tie.Need-loop-again Inv-loop μ-loop
 loop-again c =
-    let l = c .before .before .before .before .before .loop in
-    let kept = c .before .hours-kept in
-    let read = c .before .before .margins .ensures in (
+    let l = c .before .before .before .before .loop in
+    let kept = c .before .hours-kept in (
       l .inv .0,
-      l .inv .1,
       search needs,
       search needs,
-      λ rows sums.
-          l .inv .4 rows sums
-          ∙ every-next _ _ _ _ (omega arith) (account-kept rows _ _ _ _ _ read (l .inv .1) (kept .ensures rows sums) ∙ c .if2 .taken),
+      λ rows sums. l .inv .3 rows sums ∙ every-next _ _ _ _ (omega arith) (sym (kept .ensures rows sums) ∙ c .if2 .taken),
     )
 
 returns : tie.Need-returns Inv-loop μ-loop
 returns c rows sums =
-    let l = c .before .before .before .before .before .loop in
+    let l = c .before .before .before .before .loop in
     let kept = c .before .hours-kept in
-    let read = c .before .before .margins .ensures in
-    sym (l .inv .4 rows sums
-    ∙ every-fails _ _ _ (omega arith) (account-kept rows _ _ _ _ _ read (l .inv .1) (kept .ensures rows sums) ∙ c .if2 .left))
+    sym (l .inv .3 rows sums ∙ every-fails _ _ _ (omega arith) (sym (kept .ensures rows sums) ∙ c .if2 .left))
 
 returns-2 : tie.Need-returns-2 Inv-loop μ-loop
-returns-2 c rows sums = sym (c .before .before .loop .inv .4 rows sums ∙ every-done _ _ _ (omega arith))
+returns-2 c rows sums = sym (c .before .before .loop .inv .3 rows sums ∙ every-done _ _ _ (omega arith))
 
 pub margins-kept-spec : {M : Type 1} → statement M
 margins-kept-spec =
@@ -70,7 +59,6 @@ margins-kept-spec =
     μ-loop
     (λ c κs. search needs)
     loop-holds
-    (λ c κs. search needs)
     (λ c κs. search needs)
     (λ c. search needs)
     (λ c. search needs)
