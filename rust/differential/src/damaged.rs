@@ -31,11 +31,44 @@ pub(crate) fn records() -> Day {
 pub(crate) fn setups() -> Vec<Vec<u8>> {
     let mut setup = paper_setup(100_000, 20_000);
     setup.points.push(Point { account: 2, kind: PointKind::Mixed, zone: 1, greatest_injection: 1, greatest_withdrawal: 2 });
+    setup.accounts[0].lower_margins[4..8].fill(0);
+    setup.accounts[1].upper_margins[23] = GREATEST_QUANTITY;
     let whole = setup.to_bytes();
     let mut setups = vec![whole.clone(), [whole.as_slice(), &[0]].concat()];
     for at in 0..whole.len() {
         setups.push(whole[..at].to_vec());
         setups.extend(beside(&whole, at));
+    }
+    setups
+}
+
+/// The largest set-up with each margin in turn above the greatest, and with two at once; with as many margins as one hour more or less
+/// would have; and with one pair for the whole day.
+pub(crate) fn margins_beyond() -> Vec<Vec<u8>> {
+    let whole = largest_setup();
+    let beyond = |margins: &[(Margin, u8, u8)]| {
+        let mut setup = whole.clone();
+        for &(which, account, hour) in margins {
+            *margin(&mut setup, which, account, hour) = GREATEST_QUANTITY + 1;
+        }
+        setup.to_bytes()
+    };
+    let mut setups = vec![whole.to_bytes()];
+    for account in 1..=32 {
+        for hour in 1..=25 {
+            setups.extend([Margin::Lower, Margin::Upper].map(|which| beyond(&[(which, account, hour)])));
+        }
+        // The last lower margin comes before the first upper one, and both before the next account's.
+        setups.push(beyond(&[(Margin::Upper, account, 1), (Margin::Lower, account, 25)]));
+        setups.push(beyond(&[(Margin::Upper, account, 25), (Margin::Lower, account % 32 + 1, 1)]));
+    }
+    for hours in [1, 24, 26] {
+        let mut setup = whole.clone();
+        for account in &mut setup.accounts {
+            account.lower_margins.resize(hours, 0);
+            account.upper_margins.resize(hours, 0);
+        }
+        setups.push(setup.to_bytes());
     }
     setups
 }

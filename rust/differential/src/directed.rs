@@ -1,8 +1,9 @@
-//! Days made by hand: the paper's case and its edges, a full book, batches, greatest numbers, and every byte of a set-up and of a
-//! record put to values beside its own.
+//! Days made by hand: the paper's case and its edges, margins by hour, a full book, batches, greatest numbers, and every byte of a
+//! set-up and of a record put to values beside its own.
 
-use crate::damaged::{records, setups};
+use crate::damaged::{margins_beyond, records, setups};
 use crate::made::*;
+use crate::margins;
 use crate::Day;
 use reference::days::Step;
 use reference::*;
@@ -12,6 +13,10 @@ pub fn days() -> Vec<(String, Day)> {
     let mut days = vec![
         (String::from("whole-case"), whole_case()),
         (String::from("edges"), edges()),
+        (String::from("outage"), margins::outage()),
+        (String::from("margins-apart"), margins::apart()),
+        (String::from("margins-registered"), margins::registered()),
+        (String::from("margins-confirmed"), margins::confirmed()),
         (String::from("full"), full()),
         (String::from("batches"), batches()),
         (String::from("greatest"), greatest()),
@@ -19,7 +24,7 @@ pub fn days() -> Vec<(String, Day)> {
         (String::from("phases"), phases()),
         (String::from("records"), records()),
     ];
-    let setups = (0..).zip(setups());
+    let setups = (0..).zip(setups().into_iter().chain(margins_beyond()));
     days.extend(setups.map(|(number, setup)| {
         let calls = Vec::new();
         (format!("setup-{number}"), Day { setup, calls })
@@ -27,9 +32,10 @@ pub fn days() -> Vec<(String, Day)> {
     days
 }
 
-/// The paper's set-up, with another guarantee of operator 1 and margins.
+/// The paper's set-up, with another guarantee of operator 1 and lower margin of account 1.
 pub(crate) fn paper_setup(guarantee: u64, lower: u32) -> Setup {
-    let account = |operator, kind, lower_margin, upper_margin| Account { operator, kind, lower_margin, upper_margin };
+    let account =
+        |operator, kind, lower, upper| Account { operator, kind, lower_margins: vec![lower; 24], upper_margins: vec![upper; 24] };
     Setup {
         zones: 1,
         estimates: vec![5_000; 24],

@@ -1,7 +1,8 @@
 //! The proved book and the reference implementation, held against each other.
 //!
 //! A day is played on both ([`play`]): after every call the verdict, its details and both lent buffers are equal, and so are the
-//! readings. A day on which they differ is cut down to the calls that it takes ([`shrink`]) and stored ([`Day`]).
+//! readings; with another margin in its set-up, the one is a book exactly if the other is. A day on which they differ is cut down to
+//! the calls that it takes ([`shrink`]) and stored ([`Day`]).
 
 #![forbid(unsafe_code)]
 
@@ -9,6 +10,7 @@ mod damaged;
 mod day;
 pub mod directed;
 pub mod made;
+mod margins;
 mod ours;
 mod play;
 pub mod replay;

@@ -33,12 +33,40 @@ pub fn largest_setup() -> Setup {
             .map(|account| Account {
                 operator: (account - 1) % 16 + 1,
                 kind: kind(account),
-                lower_margin: GREATEST_QUANTITY,
-                upper_margin: GREATEST_QUANTITY,
+                lower_margins: vec![GREATEST_QUANTITY; 25],
+                upper_margins: vec![GREATEST_QUANTITY; 25],
             })
             .collect(),
         points: (0..64).map(point).collect(),
     }
+}
+
+/// Which of the two lists of an account's margins.
+#[derive(Clone, Copy, Debug, PartialEq, Eq)]
+pub enum Margin {
+    Lower,
+    Upper,
+}
+
+/// The margin of an account in an hour.
+pub fn margin(setup: &mut Setup, which: Margin, account: u8, hour: u8) -> &mut u32 {
+    let account = &mut setup.accounts[usize::from(account) - 1];
+    let margins = match which {
+        Margin::Lower => &mut account.lower_margins,
+        Margin::Upper => &mut account.upper_margins,
+    };
+    &mut margins[usize::from(hour) - 1]
+}
+
+/// Where the margin of an account in an hour begins in the bytes of a set-up, and of a book.
+pub fn margin_at(setup: &Setup, which: Margin, account: u8, hour: u8) -> usize {
+    let hours = setup.estimates.len();
+    let entry = 5 + 4 * hours + 10 * setup.operators.len() + (2 + 8 * hours) * (usize::from(account) - 1);
+    let list = match which {
+        Margin::Lower => entry + 2,
+        Margin::Upper => entry + 2 + 4 * hours,
+    };
+    list + 4 * (usize::from(hour) - 1)
 }
 
 /// A request to register; `side` 1 sells, 2 buys.

@@ -108,6 +108,7 @@ fn report(counts: &Counts) {
     println!("readings: {}", counts.readings);
     println!("batches undone: {}, calls of the lists without them: {}", counts.undone, counts.without);
     println!("calls on a changed byte: no book {}, still a book {}", counts.damaged, counts.undamaged);
+    println!("calls on a changed margin: no book {}, still a book {}", counts.margins_broken, counts.margins_kept);
     println!("no difference");
 }
 

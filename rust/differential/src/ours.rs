@@ -104,11 +104,11 @@ impl Ours {
         Ok(public)
     }
 
-    /// The call on this book with a byte changed: where the bytes are no book it is 1, as are the readings, and changes nothing;
-    /// where they still are one, both forms agree. Says whether they are one.
-    pub fn damaged(&self, call: &Step, at: usize, change: u8) -> Result<bool, String> {
+    /// The call on this book with other bytes put at an offset: where the bytes are no book it is 1, as are the readings, and changes
+    /// nothing; where they still are one, both forms agree. Says whether they are one.
+    pub fn damaged(&self, call: &Step, at: usize, put: &[u8]) -> Result<bool, String> {
         let mut bytes = self.public.clone();
-        bytes[at] ^= change;
+        bytes[at..at + put.len()].copy_from_slice(put);
         if let Ok(owned) = Book::from_bytes(&bytes) {
             let mut other = Self { public: bytes, owned };
             other.call(call)?;
@@ -120,7 +120,7 @@ impl Ours {
         let mut figure = [UNWRITTEN; FIGURE_SIZE];
         let outcomes = [outcome, raw::net(&bytes, 1, 1, &mut figure), raw::exposure(&bytes, 1, &mut figure)];
         if outcomes != [NO_BOOK; 3] || answer != Answer::lent(call) || bytes != before || figure != [UNWRITTEN; FIGURE_SIZE] {
-            return Err(format!("byte {at} changed by {change}: no book, but not refused by 1 with all as it was"));
+            return Err(format!("{put:?} put at {at}: no book, but not refused by 1 with all as it was"));
         }
         Ok(false)
     }

@@ -1,9 +1,10 @@
 //! A day, played on both implementations.
 
+use crate::made::{margin, margin_at, Margin};
 use crate::ours::{self, Answer, Ours};
 use crate::Day;
 use reference::days::Step;
-use reference::{kind, Book, Request, Verdict};
+use reference::{kind, Book, Request, Verdict, GREATEST_QUANTITY};
 use std::ops::AddAssign;
 use std::panic::{catch_unwind, AssertUnwindSafe};
 
@@ -26,6 +27,9 @@ pub struct Counts {
     /// Calls on bytes that are no book, and on those that still are one.
     pub damaged: u64,
     pub undamaged: u64,
+    /// The same of books with another margin, which are held against the reference's.
+    pub margins_broken: u64,
+    pub margins_kept: u64,
 }
 
 impl AddAssign<&Counts> for Counts {
@@ -41,6 +45,8 @@ impl AddAssign<&Counts> for Counts {
         self.without += more.without;
         self.damaged += more.damaged;
         self.undamaged += more.undamaged;
+        self.margins_broken += more.margins_broken;
+        self.margins_kept += more.margins_kept;
     }
 }
 
@@ -70,6 +76,9 @@ fn both(day: &Day) -> Result<Counts, String> {
         let chosen = mixed(number);
         if number % 16 == 0 {
             damage(&ours, call, chosen, &mut counts).map_err(at)?;
+        }
+        if number % 16 == 8 {
+            compare_margin(&theirs, &ours, call, chosen, &mut counts).map_err(at)?;
         }
         let was_open = theirs.batch_is_open();
         let answer = compare_call(&mut theirs, &mut ours, call).map_err(at)?;
@@ -133,10 +142,45 @@ fn damage(ours: &Ours, call: &Step, chosen: u64, counts: &mut Counts) -> Result<
     let room = if chosen.is_multiple_of(8) { ours.bytes().len() } else { USED };
     let at = (chosen >> 8) as usize % room;
     let change = (chosen >> 3) as u8 | 1 << (chosen % 8);
-    if ours.damaged(call, at, change)? {
+    if ours.damaged(call, at, &[ours.bytes()[at] ^ change])? {
         counts.undamaged += 1;
     } else {
         counts.damaged += 1;
+    }
+    Ok(())
+}
+
+/// Makes a call on the book with another margin in its bytes, beside what an account needs in an hour, mostly one of a row. The bytes
+/// are a book exactly if what the reference holds is one with that margin.
+fn compare_margin(theirs: &Book, ours: &Ours, call: &Step, chosen: u64, counts: &mut Counts) -> Result<(), String> {
+    let mut setup = theirs.setup().clone();
+    let one = |shift: u64, from: u8, to: u8| from + ((chosen >> shift) % u64::from(to - from + 1)) as u8;
+    let (account, hour) = match theirs.rows() {
+        rows if !rows.is_empty() && !chosen.is_multiple_of(4) => {
+            let row = &rows[(chosen >> 8) as usize % rows.len()];
+            let account = if chosen % 4 == 1 { row.counterparty } else { row.account };
+            (account, one(24, row.first, row.last))
+        }
+        _ => (one(8, 1, setup.accounts.len() as u8), one(24, 1, setup.hours())),
+    };
+    let position = theirs.position(account, hour).map_err(|verdict| format!("{verdict:?}"))?;
+    let (which, needed) = match chosen >> 32 & 1 {
+        0 => (Margin::Lower, -position.low()),
+        _ => (Margin::Upper, position.high()),
+    };
+    let needed = needed.max(0) as u32;
+    let values = [needed, needed.saturating_sub(1), needed + 1, 0, GREATEST_QUANTITY, GREATEST_QUANTITY + 1, u32::MAX];
+    let value = values[(chosen >> 40) as usize % values.len()];
+    *margin(&mut setup, which, account, hour) = value;
+    let is_book = ours.damaged(call, margin_at(&setup, which, account, hour), &value.to_le_bytes())?;
+    if is_book != theirs.stands_with(&setup) {
+        let (with, without) = if is_book { ("ours", "the reference") } else { ("the reference", "ours") };
+        return Err(format!("{which:?} margin {value} of account {account}, hour {hour}: {with} is a book, {without} is not"));
+    }
+    if is_book {
+        counts.margins_kept += 1;
+    } else {
+        counts.margins_broken += 1;
     }
     Ok(())
 }

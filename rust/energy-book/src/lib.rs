@@ -11,8 +11,8 @@
 //!     estimates: vec![5_000; 24],
 //!     operators: vec![Operator { guarantee: 100_000, maintenance: 100 }, Operator { guarantee: 0, maintenance: 0 }],
 //!     accounts: vec![
-//!         Account { operator: 1, kind: 1, lower: 20_000, upper: 0 },
-//!         Account { operator: 2, kind: 2, lower: 0, upper: 20_000 },
+//!         Account { operator: 1, kind: 1, lower: vec![20_000; 24], upper: vec![0; 24] },
+//!         Account { operator: 2, kind: 2, lower: vec![0; 24], upper: vec![20_000; 24] },
 //!     ],
 //!     points: vec![Point { account: 1, kind: 1, zone: 1, injection: 15_000, withdrawal: 0 }],
 //!     zones: 1,

@@ -9,16 +9,33 @@ pub struct Operator {
     pub maintenance: u16,
 }
 
-/// An account.
-#[derive(Clone, Copy, Debug, PartialEq, Eq, Hash)]
+/// An account. It has a lower and an upper margin for each hour; [`Account::same_all_day`] makes one with the same two in every hour.
+#[derive(Clone, Debug, PartialEq, Eq, Hash)]
 pub struct Account {
     pub operator: u8,
     /// 1 injection, 2 withdrawal.
     pub kind: u8,
-    /// The lower margin, in kWh.
-    pub lower: u32,
-    /// The upper margin, in kWh.
-    pub upper: u32,
+    /// The lower margin of each hour, in kWh: as many as the day has hours.
+    pub lower: Vec<u32>,
+    /// The upper margin of each hour, in kWh: as many as the day has hours.
+    pub upper: Vec<u32>,
+}
+
+impl Account {
+    /// An account with the same lower and the same upper margin, in kWh, in every hour of a day of so many hours.
+    ///
+    /// ```
+    /// use energy_book::Account;
+    ///
+    /// let mut account = Account::same_all_day(1, 1, 20_000, 0, 24);
+    /// assert_eq!(account, Account { operator: 1, kind: 1, lower: vec![20_000; 24], upper: vec![0; 24] });
+    ///
+    /// // An outage in hours 5 to 8.
+    /// account.lower[4..8].fill(0);
+    /// ```
+    pub fn same_all_day(operator: u8, kind: u8, lower: u32, upper: u32, hours: usize) -> Account {
+        Account { operator, kind, lower: vec![lower; hours], upper: vec![upper; hours] }
+    }
 }
 
 /// A point.
@@ -51,15 +68,11 @@ fn count(n: usize) -> u8 {
 }
 
 impl Setup {
-    /// The bytes that [`crate::Book::open`] takes. Any values may stand here; opening refuses those out of range.
+    /// The bytes that [`crate::Book::open`] takes. Any values may stand here; opening refuses those out of range, and, by 8, an account
+    /// that has not one lower and one upper margin for each hour.
     pub fn to_bytes(&self) -> Vec<u8> {
-        let mut bytes = vec![
-            count(self.estimates.len()),
-            count(self.operators.len()),
-            count(self.accounts.len()),
-            count(self.points.len()),
-            self.zones,
-        ];
+        let mut bytes =
+            vec![self.hours(), count(self.operators.len()), count(self.accounts.len()), count(self.points.len()), self.zones];
         for estimate in &self.estimates {
             bytes.extend(estimate.to_le_bytes());
         }
@@ -69,8 +82,9 @@ impl Setup {
         }
         for account in &self.accounts {
             bytes.extend([account.operator, account.kind]);
-            bytes.extend(account.lower.to_le_bytes());
-            bytes.extend(account.upper.to_le_bytes());
+            for margin in account.lower.iter().chain(&account.upper) {
+                bytes.extend(margin.to_le_bytes());
+            }
         }
         for point in &self.points {
             bytes.extend([point.account, point.kind, point.zone]);
@@ -78,5 +92,17 @@ impl Setup {
             bytes.extend(point.withdrawal.to_le_bytes());
         }
         bytes
+    }
+
+    /// The count of hours. Where an account has not as many margins of both kinds it becomes 255, so that opening refuses it: lists of
+    /// other lengths could together be as long as they should, and would be read as other margins.
+    fn hours(&self) -> u8 {
+        let hours = self.estimates.len();
+        let fits = |account: &Account| account.lower.len() == hours && account.upper.len() == hours;
+        if self.accounts.iter().all(fits) {
+            count(hours)
+        } else {
+            u8::MAX
+        }
     }
 }

@@ -197,6 +197,33 @@ fn a_damaged_book_is_refused_or_still_a_book() {
     assert!(refused > 2_000);
 }
 
+/// Where the first lower margins of accounts 1 and 2 begin, after 5 counts, 24 estimates and 2 operators; the upper ones are 96 bytes on.
+const LOWER_AT: [usize; 2] = [5 + 4 * 24 + 2 * 10 + 2, 5 + 4 * 24 + 2 * 10 + 2 + 194];
+
+#[test]
+fn a_book_keeps_the_margins_of_each_hour() {
+    // In hour 1 account 1 has sold 7 and proposed to sell 9, account 2 has bought 7.
+    let whole = traded().as_bytes().to_vec();
+    let stands_with = |at: usize, margin: u32| {
+        let mut book = whole.clone();
+        book[at..at + 4].copy_from_slice(&margin.to_le_bytes());
+        raw::is_book(&book)
+    };
+    for (at, needed) in [(LOWER_AT[0], 16), (LOWER_AT[1] + 96, 7)] {
+        assert!(stands_with(at, needed));
+        assert!(!stands_with(at, needed - 1));
+        assert!(stands_with(at, 10_000_000));
+        assert!(!stands_with(at, 10_000_001));
+    }
+    // No other margin is needed, but each has its range.
+    let lists = LOWER_AT.iter().flat_map(|&at| [at, at + 96]);
+    let needed = [LOWER_AT[0], LOWER_AT[1] + 96];
+    for at in lists.flat_map(|list| (0..24).map(move |hour| list + 4 * hour)).filter(|at| !needed.contains(at)) {
+        assert!(stands_with(at, 0), "{at}");
+        assert!(!stands_with(at, 10_000_001), "{at}");
+    }
+}
+
 #[test]
 fn a_book_at_any_address() {
     let whole = traded();

@@ -3,7 +3,7 @@
 mod common;
 
 use common::{sale, setup};
-use energy_book::{price_table, Book, Refusal, Request, Side, Terms, Verdict};
+use energy_book::{price_table, Book, Refusal, Request, Setup, Side, Terms, Verdict};
 
 const AMPLE: u64 = 1_000_000;
 
@@ -50,9 +50,34 @@ fn sales_up_to_the_guarantee_and_the_margin() {
 }
 
 #[test]
+fn margins_by_hour() {
+    // Account 1 cannot sell in hours 5 to 8; account 2 can buy a kWh less in hour 24.
+    let mut setup = setup(1_000_000_000);
+    setup.accounts[0].lower[4..8].fill(0);
+    setup.accounts[1].upper[23] = 19_999;
+    let sale = |first, last, quantity| Terms { first, last, ..sale(0, quantity) };
+    let register = |terms| Book::open(&setup.to_bytes()).unwrap().submit(&Request::register(1, 2, terms));
+    let broken = |hour| Verdict::Refused(Refusal::MarginBroken { hour });
+    assert_eq!(register(sale(1, 24, 1)), broken(5));
+    assert_eq!(register(sale(8, 24, 20_000)), broken(8));
+    assert_eq!(register(sale(9, 24, 20_001)), broken(9));
+    assert_eq!(register(sale(9, 24, 20_000)), accepted(1));
+    assert_eq!(register(sale(1, 4, 20_000)), accepted(1));
+    for (quantity, verdict) in [(20_000, broken(24)), (19_999, accepted(1))] {
+        let mut book = Book::open(&setup.to_bytes()).unwrap();
+        assert_eq!(book.submit(&Request::register(1, 2, sale(9, 24, quantity))), accepted(1));
+        assert_eq!(book.submit(&Request::confirm(2, 1, sale(9, 24, quantity).mirrored())), verdict);
+    }
+}
+
+#[test]
 fn fields_out_of_range() {
     let mut short_day = setup(AMPLE);
     short_day.estimates.pop();
+    for account in &mut short_day.accounts {
+        account.lower.pop();
+        account.upper.pop();
+    }
     let mut book = Book::open(&short_day.to_bytes()).unwrap();
     let late = Terms { first: 23, last: 24, ..sale(0, 1) };
     assert_eq!(book.submit(&Request::register(1, 2, late)), Verdict::Refused(Refusal::OutOfRange { bit: 6 }));
@@ -141,4 +166,43 @@ fn set_ups_at_fault() {
     let mut dear = setup(AMPLE);
     dear.estimates[2] = 400_001;
     assert_eq!(Book::open(&dear.to_bytes()), Err(Refusal::SetupValue { offset: 13 }));
+}
+
+#[test]
+fn set_ups_with_margins_at_fault() {
+    // 5 counts, 24 estimates, 2 operators; then an account of 2 + 2 × 96 bytes, and another.
+    let accounts = 5 + 4 * 24 + 2 * 10;
+    let opened = |change: fn(&mut Setup)| {
+        let mut setup = setup(AMPLE);
+        change(&mut setup);
+        Book::open(&setup.to_bytes())
+    };
+    let fault = |offset| Err(Refusal::SetupValue { offset });
+    assert_eq!(opened(|setup| setup.accounts[0].lower[0] = 10_000_001), fault(accounts + 2));
+    assert_eq!(opened(|setup| setup.accounts[0].upper[0] = 10_000_001), fault(accounts + 2 + 96));
+    assert_eq!(opened(|setup| setup.accounts[1].lower[23] = 10_000_001), fault(accounts + 194 + 2 + 92));
+    assert_eq!(opened(|setup| setup.accounts[1].upper[23] = 10_000_001), fault(accounts + 2 * 194 - 4));
+    assert!(opened(|setup| setup.accounts[1].upper[23] = 10_000_000).is_ok());
+
+    // Other lists than one margin for each hour, also where the length of all is right.
+    let shape = Err(Refusal::SetupShape);
+    assert_eq!(opened(|setup| setup.accounts[0].lower.truncate(23)), shape);
+    assert_eq!(opened(|setup| setup.accounts[1].upper.push(0)), shape);
+    let moved = |setup: &mut Setup| {
+        let last = setup.accounts[0].lower.pop();
+        setup.accounts[0].upper.extend(last);
+    };
+    assert_eq!(opened(moved), shape);
+    let pairs = |setup: &mut Setup| {
+        for account in &mut setup.accounts {
+            account.lower.truncate(1);
+            account.upper.truncate(1);
+        }
+    };
+    assert_eq!(opened(pairs), shape);
+    // One pair for each account in the bytes of a day of 24 hours.
+    let mut bytes = setup(AMPLE).to_bytes();
+    bytes.drain(accounts as usize + 194..accounts as usize + 194 + 184);
+    bytes.drain(accounts as usize..accounts as usize + 184);
+    assert_eq!(Book::open(&bytes), shape);
 }

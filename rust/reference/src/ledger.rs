@@ -212,13 +212,13 @@ impl Ledger {
         span: Span,
         change: impl Fn(Position) -> Position,
     ) -> Option<u16> {
-        let account = setup.account(span.account);
-        let lowest = -(account.lower_margin as i32);
-        let highest = account.upper_margin as i32;
         self.positions(setup, span.account)[span.hours()]
             .iter()
             .map(|&position| change(position))
-            .position(|position| position.low() < lowest || position.high() > highest)
+            .zip(setup.account(span.account).margins(span.hours()))
+            .position(|(position, (lower, upper))| {
+                position.low() < -(lower as i32) || position.high() > upper as i32
+            })
             .map(|hours_before| u16::from(span.first) + hours_before as u16)
     }
 

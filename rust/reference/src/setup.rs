@@ -4,7 +4,7 @@ mod allowed;
 
 use crate::bytes::number;
 use crate::{refusal, Verdict, GREATEST_GUARANTEE, GREATEST_PRICE, GREATEST_QUANTITY};
-use std::ops::RangeInclusive;
+use std::ops::{Range, RangeInclusive};
 
 /// Whether energy goes into the grid or out of it.
 #[derive(Clone, Copy, Debug, PartialEq, Eq, PartialOrd, Ord)]
@@ -36,10 +36,19 @@ pub struct Account {
     /// The operator that holds it.
     pub operator: u8,
     pub kind: Direction,
-    /// How far below zero it may go in an hour, in kWh.
-    pub lower_margin: u32,
-    /// How far above zero it may go in an hour, in kWh.
-    pub upper_margin: u32,
+    /// How far below zero it may go, in kWh, hour by hour.
+    pub lower_margins: Vec<u32>,
+    /// How far above zero it may go, in kWh, hour by hour.
+    pub upper_margins: Vec<u32>,
+}
+
+impl Account {
+    /// The lower and the upper margin of each of some hours, which are given by
+    /// where they lie among those of the day.
+    pub(crate) fn margins(&self, hours: Range<usize>) -> impl Iterator<Item = (u32, u32)> + '_ {
+        let lower = self.lower_margins[hours.clone()].iter().copied();
+        lower.zip(self.upper_margins[hours].iter().copied())
+    }
 }
 
 /// A point of injection or withdrawal.
@@ -80,7 +89,7 @@ impl Setup {
             && points <= 64
             && (1..=8).contains(&zones);
         let [h, o, a, p] = [hours, operators, accounts, points].map(usize::from);
-        if !counts_allowed || bytes.len() != 5 + 4 * h + 10 * o + 10 * a + 11 * p {
+        if !counts_allowed || bytes.len() != 5 + 4 * h + 10 * o + (2 + 8 * h) * a + 11 * p {
             return Err(malformed);
         }
 
@@ -110,8 +119,8 @@ impl Setup {
                     1 => Direction::Injection,
                     _ => Direction::Withdrawal,
                 },
-                lower_margin: values.quantity()?,
-                upper_margin: values.quantity()?,
+                lower_margins: values.quantities(h)?,
+                upper_margins: values.quantities(h)?,
             });
         }
         for _ in 0..p {
@@ -169,8 +178,9 @@ impl Setup {
         }
         for account in &self.accounts {
             bytes.extend([account.operator, account.kind as u8]);
-            bytes.extend(account.lower_margin.to_le_bytes());
-            bytes.extend(account.upper_margin.to_le_bytes());
+            for margin in account.lower_margins.iter().chain(&account.upper_margins) {
+                bytes.extend(margin.to_le_bytes());
+            }
         }
         for point in &self.points {
             bytes.extend([point.account, point.kind as u8, point.zone]);
@@ -234,6 +244,11 @@ impl Values<'_> {
 
     fn quantity(&mut self) -> Result<u32, Verdict> {
         Ok(self.next(4, 0..=u64::from(GREATEST_QUANTITY))? as u32)
+    }
+
+    /// So many quantities, one after another.
+    fn quantities(&mut self, count: usize) -> Result<Vec<u32>, Verdict> {
+        (0..count).map(|_| self.quantity()).collect()
     }
 
     /// A quantity that must be zero.

@@ -109,6 +109,133 @@ impl AtLimits {
 }
 
 #[test]
+fn margins_by_hour_are_met_and_passed() {
+    let mut seen = OneHour::default();
+    for seed in 70_000..71_000 {
+        let (setup, steps) = day(seed);
+        let Ok(mut book) = Book::open(&setup) else {
+            continue;
+        };
+        for step in &steps {
+            let before = book.clone();
+            let (verdict, _, _) = play(&mut book, step);
+            seen.count(&before, step, verdict);
+        }
+    }
+    println!("{seen:?}");
+    assert!(seen.met.iter().chain(&seen.passed).all(|&count| count > 50));
+    assert!(seen.apart.iter().all(|&count| count > 0));
+}
+
+/// How trades of several hours met the margin of one of them, which has less
+/// room than all the others.
+#[derive(Debug, Default)]
+struct OneHour {
+    /// Accepted with no room left in that hour; registers, then confirms.
+    met: [u32; 2],
+    /// Refused for one kWh in that hour; registers, then confirms.
+    passed: [u32; 2],
+    /// Confirms met and passed while the proposer has no room left in another
+    /// hour than the caller.
+    apart: [u32; 2],
+}
+
+impl OneHour {
+    fn count(&mut self, before: &Book, step: &Step, verdict: Verdict) {
+        let Ok(request) = read(&step.record) else {
+            return;
+        };
+        if !matches!(request.kind, kind::REGISTER | kind::CONFIRM)
+            || !matches!(verdict.number, 0 | 18)
+            || request.first == request.last
+        {
+            return;
+        }
+        let sells = request.side == 1;
+        let Some((hour, room)) = tightest(before, &request, request.account, sells) else {
+            return;
+        };
+        let confirms = usize::from(request.kind == kind::CONFIRM);
+        let over = i64::from(request.quantity) - room;
+        match (verdict.number, over) {
+            (0, 0) => self.met[confirms] += 1,
+            (18, 1) => {
+                assert_eq!(verdict.first, hour.into());
+                self.passed[confirms] += 1;
+            }
+            _ => return,
+        }
+        let proposer = tightest(before, &request, request.other, !sells);
+        if confirms == 1 && matches!(proposer, Some((other, 0)) if other != hour) {
+            self.apart[over as usize] += 1;
+        }
+    }
+}
+
+/// The one hour of a trade in which a seller or buyer has the least room, and
+/// the room; nothing where several hours have the same.
+fn tightest(book: &Book, trade: &Request, account: u8, sells: bool) -> Option<(u8, i64)> {
+    let margins = book.setup().account(account);
+    let room = |hour: u8| {
+        let at = usize::from(hour) - 1;
+        let position = book.position(account, hour).unwrap();
+        if sells {
+            i64::from(margins.lower_margins[at]) + i64::from(position.low())
+        } else {
+            i64::from(margins.upper_margins[at]) - i64::from(position.high())
+        }
+    };
+    let hours = || trade.first..=trade.last;
+    let hour = hours().min_by_key(|&hour| room(hour))?;
+    let alone = hours().all(|other| other == hour || room(other) > room(hour));
+    alone.then(|| (hour, room(hour)))
+}
+
+#[test]
+fn set_ups_differ_by_hour_and_are_damaged_there() {
+    let (mut largest, mut same, mut different, mut idle) = (0, 0, 0, 0);
+    // Refused for a lower margin, an upper one, and the last of all.
+    let mut at_fault = [0; 3];
+    for seed in 80_000..83_000 {
+        let (bytes, _) = day(seed);
+        match Setup::read(&bytes) {
+            Ok(setup) => {
+                largest += u32::from(bytes.len() == 7_433);
+                for account in &setup.accounts {
+                    for margins in [&account.lower_margins, &account.upper_margins] {
+                        let is_same = margins.iter().all(|margin| *margin == margins[0]);
+                        same += u32::from(is_same);
+                        different += u32::from(!is_same);
+                        idle += u32::from(!is_same && margins.contains(&0));
+                    }
+                }
+            }
+            Err(verdict) if verdict.number == 9 => {
+                let [h, o, a] = [0, 1, 2].map(|count| usize::from(bytes[count]));
+                let entry = 2 + 8 * h;
+                let accounts = 5 + 4 * h + 10 * o;
+                let offset = usize::from(verdict.first);
+                if offset < accounts || offset >= accounts + entry * a {
+                    continue;
+                }
+                match (offset - accounts) % entry {
+                    0 | 1 => {}
+                    within if within < 2 + 4 * h => at_fault[0] += 1,
+                    _ => at_fault[1] += 1,
+                }
+                at_fault[2] += u32::from(offset == accounts + entry * a - 4);
+            }
+            Err(_) => {}
+        }
+    }
+    println!("largest set-ups: {largest}");
+    println!("margins: {same} same, {different} different, {idle} with hours of 0");
+    println!("margins at fault, lower, upper and last: {at_fault:?}");
+    assert!(largest > 20 && same > 1_000 && different > 1_000 && idle > 1_000);
+    assert!(at_fault.iter().all(|&count| count > 1));
+}
+
+#[test]
 fn the_same_seed_makes_the_same_day() {
     for seed in 0..50 {
         assert_eq!(day(seed), day(seed));
@@ -168,11 +295,12 @@ fn audit(book: &Book) {
                 }
             }
             assert_eq!(book.net(number, hour), Ok(net));
-            assert!(net - sales >= -i64::from(account.lower_margin));
-            assert!(net + purchases <= i64::from(account.upper_margin));
+            let at = usize::from(hour) - 1;
+            assert!(net - sales >= -i64::from(account.lower_margins[at]));
+            assert!(net + purchases <= i64::from(account.upper_margins[at]));
             let energy = (-net).max(0) + sales;
             exposures[usize::from(account.operator) - 1] +=
-                i128::from(energy) * i128::from(setup.estimates[usize::from(hour) - 1]);
+                i128::from(energy) * i128::from(setup.estimates[at]);
             sum += net;
         }
         assert_eq!(sum, 0);

@@ -16,7 +16,7 @@ fn set_up_refusals() {
     let setup = whole_case();
     let bytes = setup.to_bytes();
     assert_eq!(Book::open(&bytes[..4]).err(), Some(refused(8)));
-    assert_eq!(Book::open(&bytes[..151]).err(), Some(refused(8)));
+    assert_eq!(Book::open(&bytes[..519]).err(), Some(refused(8)));
     for (offset, byte) in [(0, 22), (0, 26), (1, 0), (1, 17), (2, 33), (3, 65), (4, 9)] {
         assert_eq!(with_byte(&setup, offset, byte), Some(refused(8)));
     }
@@ -29,25 +29,30 @@ fn set_up_refusals() {
         (121, 3, 121),
         (122, 3, 122),
         (126, 1, 123),
-        (130, 1, 127),
-        (141, 3, 141),
-        (142, 4, 142),
-        (143, 2, 143),
-        (147, 1, 144),
-        (151, 1, 148),
+        (218, 1, 215),
+        (222, 1, 219),
+        (314, 1, 311),
+        (315, 0, 315),
+        (412, 1, 409),
+        (508, 1, 505),
+        (509, 3, 509),
+        (510, 4, 510),
+        (511, 2, 511),
+        (515, 1, 512),
+        (519, 1, 516),
     ];
     for (offset, byte, fault) in faults {
         assert_eq!(with_byte(&setup, offset, byte), Some(with(9, fault, 0)));
     }
     // A kind mismatch lies at the point's kind, from either side.
-    assert_eq!(with_byte(&setup, 141, 2), Some(with(9, 142, 0)));
-    assert_eq!(with_byte(&setup, 142, 2), Some(with(9, 142, 0)));
-    assert_eq!(with_byte(&setup, 148, 1), Some(with(9, 148, 0)));
-    assert_eq!(with_byte(&setup, 142, 3), None);
+    assert_eq!(with_byte(&setup, 509, 2), Some(with(9, 510, 0)));
+    assert_eq!(with_byte(&setup, 510, 2), Some(with(9, 510, 0)));
+    assert_eq!(with_byte(&setup, 516, 1), Some(with(9, 516, 0)));
+    assert_eq!(with_byte(&setup, 510, 3), None);
     let mut setup = setup;
     setup.points[0] = point(2, PointKind::Withdrawal, 1, 1);
     let verdict = Book::open(&setup.to_bytes()).err();
-    assert_eq!(verdict, Some(with(9, 144, 0)));
+    assert_eq!(verdict, Some(with(9, 512, 0)));
 }
 
 #[test]

@@ -173,7 +173,7 @@ fn margins_name_the_lowest_hour() {
     assert_eq!(day.call(buy(1)), with(18, 1, 0));
     // A confirmation is judged on its caller.
     let mut setup = ample();
-    setup.accounts[1].upper_margin = 99;
+    setup.accounts[1].upper_margins.fill(99);
     let mut day = Day::open(&setup);
     let proposal = Request {
         first: 3,

@@ -8,10 +8,7 @@ pub fn setup(guarantee: u64) -> Setup {
     Setup {
         estimates: vec![5_000; 24],
         operators: vec![Operator { guarantee, maintenance: 100 }, Operator { guarantee: 0, maintenance: 0 }],
-        accounts: vec![
-            Account { operator: 1, kind: 1, lower: 20_000, upper: 0 },
-            Account { operator: 2, kind: 2, lower: 0, upper: 20_000 },
-        ],
+        accounts: vec![Account::same_all_day(1, 1, 20_000, 0, 24), Account::same_all_day(2, 2, 0, 20_000, 24)],
         points: vec![Point { account: 1, kind: 1, zone: 1, injection: 15_000, withdrawal: 0 }],
         zones: 1,
     }

@@ -5,7 +5,7 @@ mod tests;
 
 use super::{counts, Book, Phase};
 use crate::settlement::{Schedule, MOST_SCHEDULES};
-use crate::{GREATEST_PRICE, GREATEST_QUANTITY};
+use crate::{Setup, GREATEST_PRICE, GREATEST_QUANTITY};
 
 impl Book {
     /// Whether all that the book holds is as it must be: the set-up one that
@@ -26,6 +26,15 @@ impl Book {
                     self.saved.is_none() && !self.ledger.has_pending()
                 }
             }
+    }
+
+    /// Whether the book would stand with another set-up in place of its own.
+    pub fn stands_with(&self, setup: &Setup) -> bool {
+        let book = Self {
+            setup: setup.clone(),
+            ..self.clone()
+        };
+        book.stands()
     }
 
     /// The exposure of an operator, in thousandths of a cent, summed from the

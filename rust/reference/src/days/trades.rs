@@ -1,7 +1,7 @@
 //! Requests of the registration phase, close to margins and guarantees.
 
 use super::random::Random;
-use crate::{kind, Book, Position, Request, Row, Side, Status};
+use crate::{kind, Account, Book, Position, Request, Row, Setup, Side, Status};
 use crate::{GREATEST_GUARANTEE, GREATEST_QUANTITY};
 
 /// A proposal, its quantity often at a limit of one of the parties.
@@ -48,7 +48,8 @@ fn side_of_a_trade(random: &mut Random, book: &Book) -> Trade {
     if other == account && !random.chance(3) {
         other = account % accounts as u8 + 1;
     }
-    let (first, last) = hours(random, setup.hours());
+    let limited = random.pick(&[account, other]);
+    let (first, last) = hours(random, setup, limited);
     Trade {
         account,
         other,
@@ -102,7 +103,9 @@ pub(crate) fn confirm(random: &mut Random, book: &Book) -> Request {
             1 => std::mem::swap(&mut request.account, &mut request.other),
             2 => request.other = random.one_of(book.setup().accounts.len()),
             3 => request.side = 3 - request.side,
-            4 => (request.first, request.last) = hours(random, book.setup().hours()),
+            4 => {
+                (request.first, request.last) = hours(random, book.setup(), request.account);
+            }
             5 => request.quantity = (request.quantity + 1).min(GREATEST_QUANTITY),
             _ => request.quantity = (request.quantity - 1).max(1),
         }
@@ -150,15 +153,42 @@ pub(crate) fn guarantee(random: &mut Random, book: &Book) -> Request {
     }
 }
 
-/// Some hours of the day: one, a few or all.
-fn hours(random: &mut Random, hours: u8) -> (u8, u8) {
+/// Some hours of the day: one, a few or all, or those up to where a margin of
+/// the account changes, or from there on.
+fn hours(random: &mut Random, setup: &Setup, account: u8) -> (u8, u8) {
+    let hours = setup.hours();
     let first = random.one_of(hours.into());
-    match random.within(0..=9) {
+    let from = |random: &mut Random, first: u8| {
+        let last = random.within(first.into()..=hours.into());
+        (first, last as u8)
+    };
+    match random.within(0..=12) {
         0 => (1, hours),
-        1..=4 => (first, random.within(first.into()..=hours.into()) as u8),
+        1..=4 => from(random, first),
         5..=6 => (1, 1),
-        _ => (first, first),
+        7..=9 => (first, first),
+        _ => {
+            let Some(change) = a_change(random, setup.account(account)) else {
+                return (first, first);
+            };
+            match random.within(0..=2) {
+                0 => from(random, change),
+                1 => (random.one_of(usize::from(change) - 1), change - 1),
+                _ => (random.one_of(usize::from(change) - 1), change),
+            }
+        }
     }
+}
+
+/// An hour whose margins are not those of the hour before.
+fn a_change(random: &mut Random, account: &Account) -> Option<u8> {
+    let margins: Vec<_> = account.margins(0..account.lower_margins.len()).collect();
+    let pairs = (2..).zip(margins.windows(2));
+    let changes: Vec<u8> = pairs
+        .filter(|(_, pair)| pair[0] != pair[1])
+        .map(|(hour, _)| hour)
+        .collect();
+    (!changes.is_empty()).then(|| random.pick(&changes))
 }
 
 /// A code; usually one of a few, so that codes are used again.
@@ -209,12 +239,13 @@ fn room(book: &Book, trade: Trade, take: impl Fn(Position, i32) -> Position) -> 
         for hour in trade.first..=trade.last {
             let before = book.position(trade.account, hour).unwrap_or_default();
             let after = take(before, quantity as i32);
-            if after.low() < -(account.lower_margin as i32)
-                || after.high() > account.upper_margin as i32
+            let at = usize::from(hour) - 1;
+            if after.low() < -(account.lower_margins[at] as i32)
+                || after.high() > account.upper_margins[at] as i32
             {
                 return false;
             }
-            let estimate = setup.estimates[usize::from(hour) - 1];
+            let estimate = setup.estimates[at];
             rise += i128::from(estimate) * i128::from(after.exposed() - before.exposed());
         }
         rise <= left

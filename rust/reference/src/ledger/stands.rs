@@ -2,7 +2,7 @@
 
 use super::{Ledger, MOST_ROWS};
 use crate::book::counts;
-use crate::{Account, Position, Row, Setup, Side, Status};
+use crate::{Position, Row, Setup, Side, Status};
 use crate::{GREATEST_GUARANTEE, GREATEST_QUANTITY};
 
 impl Ledger {
@@ -58,11 +58,12 @@ impl Ledger {
         let mut exposures = vec![0; setup.operators.len()];
         for (account, (positions, changes)) in setup.accounts.iter().zip(by_account) {
             let exposure = &mut exposures[usize::from(account.operator) - 1];
-            let by_hour = positions.iter().zip(changes).zip(&setup.estimates);
+            let limits = account.margins(0..hours).zip(&setup.estimates);
+            let by_hour = positions.iter().zip(changes).zip(limits);
             let mut sum = Sum::default();
-            for ((position, &change), &estimate) in by_hour {
+            for ((position, &change), (margins, &estimate)) in by_hour {
                 sum.add(change, 1);
-                if !sum.is(position) || !sum.keeps_margins(account) {
+                if !sum.is(position) || !sum.keeps(margins) {
                     return false;
                 }
                 *exposure += u64::from(estimate) * sum.exposed();
@@ -129,9 +130,10 @@ impl Sum {
             && self.pending_purchases == i64::from(position.pending_purchases)
     }
 
-    fn keeps_margins(&self, account: &Account) -> bool {
-        -i64::from(account.lower_margin) <= self.net - self.pending_sales
-            && self.net + self.pending_purchases <= i64::from(account.upper_margin)
+    /// Whether the lower and the upper margin of the hour are kept.
+    fn keeps(&self, (lower, upper): (u32, u32)) -> bool {
+        -i64::from(lower) <= self.net - self.pending_sales
+            && self.net + self.pending_purchases <= i64::from(upper)
     }
 
     fn exposed(&self) -> u64 {

@@ -20,8 +20,14 @@ impl Setup {
 
     fn allows(&self, account: &Account) -> bool {
         counts(account.operator, self.operators.len())
-            && account.lower_margin <= GREATEST_QUANTITY
-            && account.upper_margin <= GREATEST_QUANTITY
+            && self.allows_margins(&account.lower_margins)
+            && self.allows_margins(&account.upper_margins)
+    }
+
+    /// Whether there is a margin for each hour, and each is in range.
+    fn allows_margins(&self, margins: &[u32]) -> bool {
+        margins.len() == self.estimates.len()
+            && margins.iter().all(|&margin| margin <= GREATEST_QUANTITY)
     }
 
     fn allows_point(&self, point: &Point) -> bool {
@@ -55,9 +61,10 @@ mod tests {
     type Fault = (&'static str, fn(&mut Setup));
 
     /// On a set-up with point 1 of kind 1, point 2 of kind 2 and point 3 mixed.
-    const FAULTS: [Fault; 27] = [
-        ("22 hours", |setup| setup.estimates.truncate(22)),
-        ("26 hours", |setup| setup.estimates.resize(26, 0)),
+    const FAULTS: [Fault; 33] = [
+        ("22 hours", |setup| put_hours(setup, 22)),
+        ("26 hours", |setup| put_hours(setup, 26)),
+        ("an hour without margins", |setup| setup.estimates.push(0)),
         ("no operator", |setup| setup.operators.clear()),
         ("17 operators", |setup| {
             setup.operators = vec![setup.operators[0].clone(); 17];
@@ -80,11 +87,26 @@ mod tests {
         }),
         ("operator 0", |setup| setup.accounts[1].operator = 0),
         ("operator 3", |setup| setup.accounts[1].operator = 3),
-        ("lower margin", |setup| {
-            setup.accounts[1].lower_margin = 10_000_001;
+        ("first lower margin", |setup| {
+            setup.accounts[0].lower_margins[0] = 10_000_001;
         }),
-        ("upper margin", |setup| {
-            setup.accounts[1].upper_margin = 10_000_001;
+        ("lower margin", |setup| {
+            setup.accounts[1].lower_margins[11] = 10_000_001;
+        }),
+        ("last lower margin", |setup| {
+            setup.accounts[1].lower_margins[22] = 10_000_001;
+        }),
+        ("first upper margin", |setup| {
+            setup.accounts[1].upper_margins[0] = 10_000_001;
+        }),
+        ("last upper margin", |setup| {
+            setup.accounts[1].upper_margins[22] = 10_000_001;
+        }),
+        ("a lower margin too few", |setup| {
+            setup.accounts[0].lower_margins.truncate(22);
+        }),
+        ("an upper margin too many", |setup| {
+            setup.accounts[1].upper_margins.push(0);
         }),
         ("account 0", |setup| setup.points[2].account = 0),
         ("account 3", |setup| setup.points[2].account = 3),
@@ -113,12 +135,21 @@ mod tests {
         }),
     ];
 
+    /// Gives the day so many hours, and each account margins for them.
+    fn put_hours(setup: &mut Setup, hours: usize) {
+        setup.estimates.resize(hours, 0);
+        for account in &mut setup.accounts {
+            account.lower_margins.resize(hours, 0);
+            account.upper_margins.resize(hours, 0);
+        }
+    }
+
     fn setup() -> Setup {
         let account = |operator, kind| Account {
             operator,
             kind,
-            lower_margin: GREATEST_QUANTITY,
-            upper_margin: 0,
+            lower_margins: vec![GREATEST_QUANTITY; 23],
+            upper_margins: vec![0; 23],
         };
         let point = |account, kind, greatest_injection, greatest_withdrawal| Point {
             account,
@@ -159,6 +190,15 @@ mod tests {
             assert!(Setup::read(&setup.to_bytes()).is_err(), "{fault}");
             assert!(!setup.is_allowed(), "{fault}");
         }
+    }
+
+    #[test]
+    fn margins_of_another_hour_are_not_allowed() {
+        // As many margins as there should be, but not as many of each.
+        let mut setup = setup();
+        setup.accounts[0].lower_margins.push(0);
+        setup.accounts[0].upper_margins.pop();
+        assert!(!setup.is_allowed());
     }
 
     #[test]

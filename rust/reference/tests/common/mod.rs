@@ -74,8 +74,20 @@ pub fn ample() -> Setup {
 pub fn wide() -> Setup {
     let mut setup = ample();
     for account in &mut setup.accounts {
-        account.lower_margin = GREATEST_QUANTITY;
-        account.upper_margin = GREATEST_QUANTITY;
+        account.lower_margins.fill(GREATEST_QUANTITY);
+        account.upper_margins.fill(GREATEST_QUANTITY);
+    }
+    setup
+}
+
+/// The set-up of the whole case for a day of so many hours.
+pub fn whole_case_of(hours: usize) -> Setup {
+    let mut setup = whole_case();
+    setup.estimates.resize(hours, 5_000);
+    for account in &mut setup.accounts {
+        let (lower, upper) = (account.lower_margins[0], account.upper_margins[0]);
+        account.lower_margins.resize(hours, lower);
+        account.upper_margins.resize(hours, upper);
     }
     setup
 }
@@ -87,12 +99,13 @@ pub fn operator(guarantee: u64, maintenance: u16) -> Operator {
     }
 }
 
+/// An account with the same margins in each of 24 hours.
 pub fn account(operator: u8, kind: Direction, lower: u32, upper: u32) -> Account {
     Account {
         operator,
         kind,
-        lower_margin: lower,
-        upper_margin: upper,
+        lower_margins: vec![lower; 24],
+        upper_margins: vec![upper; 24],
     }
 }
 
