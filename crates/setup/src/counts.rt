@@ -35,7 +35,7 @@ pub fn counts(setup: &[u8]) -> Counts
     }
 }
 
-// How many bytes an account has for its lower margins, or for its upper ones: one for each hour.
+// How many bytes the lower margins of an account have, and as many the upper ones: a margin for each hour.
 pub fn margins_length(n: Counts) -> usize
     ensures { λ r. ⌜ r ≡ marginWidth * n .hours ⌝ }
 {
