@@ -226,7 +226,7 @@ fn account_short(book: &[u8], account: u8, added: Added) -> MilliCents
 
 // What the account adds to the operator's sum of these: nothing where it is another operator's.
 fn short_share(book: &[u8], operators: &[u8], account: u8, operator: u8, added: Added) -> MilliCents
-    requires { ⌜ (isBook (now book) ≡ true) × AccountOperators (bookIn (now book) .setup) (now operators) × IsAccount (bookIn (now book)) account × QuantityInRange added ⌝ }
+    requires { ⌜ (let b = bookIn (now book) in (isBook (now book) ≡ true) × AccountOperators (b .setup) (now operators) × IsAccount b account × QuantityInRange added) ⌝ }
     ensures meaning { λ r. ⌜ (let b = bookIn (now (book .entry)) in r .0 ≡ shortShare (b .setup) (netsWith b added) operator account) ⌝ }
     ensures bounded { λ r. ⌜ r .0 ≤ mostShortWorth ⌝ }
 {
