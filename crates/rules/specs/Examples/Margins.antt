@@ -22,7 +22,12 @@ outage hours =
 sale-over-an-outage :
     Prints (record {
       items =
-          opensFor (outage ∷ withdrawer ∷ []) ∷ trade 1 1 2 0 1 1 24 20000 ∷ trade 1 1 2 0 1 8 8 1 ∷ trade 1 1 2 0 1 9 24 20000 ∷ trade 1 1 2 1 1 1 4 20000 ∷ [];
+          opensFor (outage ∷ withdrawer ∷ [])
+          ∷ trade 1 1 2 0 1 1 24 20000
+          ∷ trade 1 1 2 0 1 8 8 1
+          ∷ trade 1 1 2 0 1 9 24 20000
+          ∷ trade 1 1 2 1 1 1 4 20000
+          ∷ [];
       printed = "0 0 0 0\n1 18 5 0\n2 18 8 0\n3 0 1 0\n4 0 2 0\n";
     })
 unfolding everything

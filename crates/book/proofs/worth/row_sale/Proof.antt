@@ -1,12 +1,7 @@
 -- A row whose proposer has another operator adds nothing, and any other row is read whole.
-use Prim.Native.Nat.{ℕ}
-use mathlib.Core.Path.{_≡_, sym, ap, _∙_}
-use mathlib.Core.List.{List}
+use mathlib.Core.Path.{sym, ap, _∙_}
 use native.Mathlib.Omega.{arith}
-use Rattle.rules.specs.declared.Row.{Row}
-use Rattle.image.specs.Valid.{bookIn}
-use Rattle.book.specs.Members.{IsAccount, IsRow, numberedRow}
-use Rattle.book.specs.Worth.{SaleInputs, saleWorth}
+use Rattle.book.specs.Worth.{saleWorth}
 use Rattle.book.proofs.StateLaws.{book-length, row-count-high, numbered-row-stands}
 use Rattle.book.proofs.BookRows.{numbered-sound}
 use Rattle.book.proofs.WaitLaws.{own-stands}

@@ -3,7 +3,6 @@ use mathlib.Core.Path.{sym, _∙_}
 use native.Mathlib.Omega.{arith}
 use Rattle.book.proofs.ShortLaws.{short-of-own, short-of-others}
 use Rattle.book.proofs.WorthParts.{operator-listed}
-use borrow.Author.Needs.{needs}
 use Rattle.book.proofs.worth.short_share.Statement.{statement}
 use Rattle.book.proofs.worth.short_share.Tie as tie
 

@@ -6,7 +6,6 @@ use native.Mathlib.Omega.{arith}
 use lib.ListN.{length, take, drop}
 use Rattle.units.specs.declared.Kwh.{Kwh}
 use Rattle.rules.specs.declared.Counts.{Counts}
-use Rattle.rules.specs.declared.Margins.{Margins}
 use Rattle.rules.specs.Books.{marginsAt}
 use Rattle.rules.specs.Opening.{countsIn, setupOf, accountOffset, setupLength, lowerOffset, upperOffset, marginWidth, marginIn}
 use Rattle.rules.proofs.Setups.SetupEntries.{margin-inside, margin-at, margins-at}

@@ -1,5 +1,5 @@
 -- Operator and kind are judged in the order of their offsets, and then the margins, which stand side by side.
-use mathlib.Core.Path.{_∙_, sym}
+use mathlib.Core.Path.{sym}
 use native.Mathlib.Omega.{arith}
 use Rattle.rules.proofs.Setups.SetupEntries.{account-wide}
 use Rattle.setup.proofs.FaultLaws.{account-judged}

@@ -1,8 +1,7 @@
 -- Where all are in range none is at fault. Else a margin without a fault is passed over, and the first with one decides.
-use Prim.Native.Nat.{_-_, _^_, _≤_}
+use Prim.Native.Nat.{_-_}
 use mathlib.Core.Path.{refl}
 use native.Mathlib.Omega.{arith}
-use lib.ListN.{length}
 use Rattle.rules.specs.Opening.{marginIn, marginValues, marginWidth}
 use Rattle.setup.specs.Faults.{marginFaults}
 use Rattle.setup.proofs.FaultLaws.{EntriesLeft, none-left, first-clear, first-fails, no-margin-fault}
