@@ -2,6 +2,7 @@
 import copy
 
 import reading
+import valuation
 from records import le, SETTLE
 
 SIZE = reading.BOOK_BYTES
@@ -84,6 +85,22 @@ class Days:
         self.expect(verdict, want)
         assert value is None or verdict[3] == value, verdict
         self.say('e', operator, *verdict)
+
+    def h(self, table, want=None, part=None):
+        """Values every account hour and gives the figures, or None where nothing is printed.
+
+        `want` are the figures of all account hours that are not zero throughout, `part` those of some.
+        """
+        self.case('h', table)
+        before = self.state()
+        valued = valuation.value_book(self.present(), table)
+        assert self.state() == before
+        if want is not None:
+            assert {at: tuple(has) for at, has in valued.items() if any(has)} == want, (valued, want)
+        for at, figures in (part or {}).items():
+            assert valued[at] == figures, (at, valued[at])
+        self.lines += valuation.lines(valued)
+        return valued
 
     def k(self):
         self.case('k')

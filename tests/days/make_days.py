@@ -1,4 +1,4 @@
-"""Writes the input and output of the program day_test: directed days, then random days."""
+"""Writes the input and output of the program day_test: directed days, random days, then those that value their books."""
 import collections
 import pathlib
 
@@ -8,15 +8,16 @@ import random_days
 import row_days
 import settle_days
 import setup_days
+import valuation_days
 from cases import Days
 
-MOST = 1_200_000
+MOST = 1_400_000
 PROGRAM = pathlib.Path(__file__).parents[2] / 'crates' / 'day_test'
 
 
 def make():
     days = Days()
-    for group in (input_days, row_days, settle_days, setup_days, margin_days, random_days):
+    for group in (input_days, row_days, settle_days, setup_days, margin_days, random_days, valuation_days):
         for day in group.DAYS:
             day(days)
     return days

@@ -5,6 +5,7 @@ Usage: run_cases.py FILE
 import sys
 
 import reading
+import valuation
 
 SIZE = reading.BOOK_BYTES
 
@@ -55,6 +56,8 @@ def run(data):
             lines.append(' '.join(map(str, ('a', *body, *reading.net_position(seen, *body)))))
         elif tag == 'e':
             lines.append(' '.join(map(str, ('e', *body, *reading.exposure(seen, *body)))))
+        elif tag == 'h':
+            lines += valuation.lines(valuation.value_book(seen, body))
         elif tag == 'k':
             kept = state()
         elif tag == '=':

@@ -1,4 +1,5 @@
-// One case: a call of one of the public functions on the book, and the lines that it prints.
+// One case: a call of one of the public functions on the book, or its account hours valued, and the lines that it prints.
+use crate::hours::show_hours;
 use bytes::copy;
 use check::same;
 use day::calls::call;
@@ -185,6 +186,7 @@ pub fn run(tag: u8, body: &[u8], book: &mut [u8], remembered: &mut [u8], before:
         b'a' => show_net(body, book),
         b'e' => show_exposure(body, book),
         b'k' => remember(book, remembered),
+        b'h' => show_hours(body, book),
         b'=' => show_same(book, remembered),
         b'p' => damage(body, book),
         _ => begin(b'?'),

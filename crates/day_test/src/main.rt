@@ -1,6 +1,7 @@
 // Runs the cases on standard input: opens books, calls, reads, and prints what the public functions answer and whether a refused call
-// changed a byte. tests/README.md has the form of a case; tests/days makes the input and what is to be printed.
+// changed a byte; values account hours. tests/README.md has the form of a case; tests/days makes the input and what is to be printed.
 mod cases;
+mod hours;
 
 use cases::BOOK_SIZE;
 use libc::STDIN_FILENO;

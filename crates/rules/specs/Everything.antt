@@ -1,12 +1,13 @@
 -- All definitions that compute a replay, opened at once: an example says `unfolding everything`.
 use Rattle.wire.specs.Numbers.{number, numberAt, le, signed}
 use Rattle.wire.specs.Parts.{flat, pieces, pack, chunks}
-use Rattle.rules.specs.Basics.{total, anyPasses, every, find, indexOf, entries, joined, sumOf, allOf, counting, bit}
+use Rattle.rules.specs.Basics.{total, anyPasses, every, find, those, indexOf, entries, joined, sumOf, allOf, counting, bit}
 use Rattle.rules.specs.Verdicts.{firstToApply}
 use Rattle.rules.specs.Opening.{accountEntry, priceIn, operatorIn, marginIn, accountIn, pointIn, estimatesIn, operatorsIn, accountsIn, pointsIn, setupOf, guaranteesOf, badCounts, misshapen, operatorsOf, setupBytes, valuesOf, estimateValues, operatorValues, marginValues, accountValues, pointValues, values, faultyOffset, setupRefusal, openRefusal, openOutcome, opened}
 use Rattle.rules.specs.Requests.{bits, mapOf, room, offset, fieldIn, requestOf, more, unreadable, readChecks, reading, fieldBytes, write, writeOutcome, written, inRange, faultyField, faultyBit, sameAccounts}
 use Rattle.rules.specs.Registration.{mark, closed, alike, confirms, withdraws, mirrors, moved, waiting, afterTrade, keepsMargins, brokenHour, ofOperator, exposureOf, available, covered}
 use Rattle.rules.specs.Settlement.{pricesIn, placed, insert, prioritised, used, judge, judged, settled, resultAt, results, ofRegistered, gained, lost, balances, injectionsWorth, withdrawalsWorth, registeredTotal, balanceBytes}
+use Rattle.rules.specs.Valuation.{physicalBalance, purchase, sale, hourly, ofAccountHour, physical, cct, valuedHour, accountAmount, operatorAmount, accountsOf}
 use Rattle.rules.specs.Calls.{apply, given, inputChecks, stateChecks, checks, refusal, drawnUp, settles, answer, step, workedOut, settlement}
 use Rattle.rules.specs.Readings.{position, netReading, exposureReading}
 use Rattle.rules.specs.Lists.{runs, after, rowsRegistered, heard, endsNoBatch}
@@ -15,7 +16,7 @@ use Rattle.rules.specs.Ledger.{blank, newLedger, without, pageAfter, fee
 
 unfoldable pub everything : Unit {0}
 unfolding number numberAt le signed flat pieces pack chunks
-    total anyPasses every find indexOf entries joined sumOf allOf counting bit
+    total anyPasses every find those indexOf entries joined sumOf allOf counting bit
     firstToApply
     accountEntry priceIn operatorIn marginIn accountIn pointIn estimatesIn operatorsIn accountsIn pointsIn setupOf guaranteesOf badCounts misshapen operatorsOf
     setupBytes valuesOf estimateValues operatorValues marginValues accountValues pointValues values faultyOffset setupRefusal openRefusal openOutcome opened
@@ -24,6 +25,7 @@ unfolding number numberAt le signed flat pieces pack chunks
     mark closed alike confirms withdraws mirrors moved waiting afterTrade keepsMargins brokenHour ofOperator exposureOf available covered
     pricesIn placed insert prioritised used judge judged settled resultAt results ofRegistered gained lost balances
     injectionsWorth withdrawalsWorth registeredTotal balanceBytes
+    physicalBalance purchase sale hourly ofAccountHour physical cct valuedHour accountAmount operatorAmount accountsOf
     apply given inputChecks stateChecks checks refusal drawnUp settles answer step workedOut settlement
     position netReading exposureReading
     runs after rowsRegistered heard endsNoBatch

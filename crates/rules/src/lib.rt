@@ -91,10 +91,19 @@ pub struct Placed {
     pub schedule: Schedule,
 }
 
-// An operator's balance: what it gained less what it lost.
+// Money with its sign, as an operator's balance: what is gained less what is lost.
 pub struct Balance {
     pub gained: MilliCents,
     pub lost: MilliCents,
+}
+
+// An account hour valued, figure by figure: its physical balance, purchase, sale, CCT and hourly amount.
+pub struct ValuedHour {
+    pub physical: Net,
+    pub purchase: MilliCents,
+    pub sale: MilliCents,
+    pub cct: Balance,
+    pub amount: Balance,
 }
 
 // A request: its kind, and the field of each bit. A field that the kind has not is 0.

@@ -1,27 +1,26 @@
-// The schedules of a book judged in order of priority: the results by place, and the operators' balances.
+// The schedules of a book judged in order of priority: the results by place, and what they register by account hour.
 ghost use mathlib.Core.Path.{_≡_};
 ghost use mathlib.Core.Bool.{true};
 ghost use lib.ListN.{length, take};
 ghost use Rattle.rules.specs.Settlement.{placed};
-ghost use Rattle.image.specs.Valid.{isBook, bookIn};
+ghost use Rattle.image.specs.Valid.{isBook, bookIn, scheduleOk};
 ghost use Rattle.valuation.specs.Tables.{Priced, setupIn};
-ghost use Rattle.settlement.specs.Judging.{InPlace, RoomFor, noResults, InOrder, NoneJudged, NextJudged, AllJudged, DrawnUp};
+ghost use Rattle.valuation.specs.Registered.{nothingRegistered};
+ghost use Rattle.settlement.specs.Judging.{RoomFor, noResults, InOrder, NoneJudged, Judges, AllJudged, DrawnUp};
 use image::layout::SCHEDULE_WIDTH;
 use image::layout::SCHEDULES_OFFSET;
 use image::schedules::schedule_at;
 use priority::order::in_order;
 use priority::order::no_schedules;
-use rules::Balance;
 use rules::Placed;
+use rules::Schedule;
 use rules::limits::MOST_SCHEDULES;
 use setup::entries::point;
-use valuation::Credit;
-use valuation::balances::OPERATORS;
-use valuation::balances::accounts_worth;
-use valuation::balances::credit_of;
 use valuation::congruity::nothing_used;
 use valuation::congruity::result_of;
 use valuation::congruity::use_up;
+use valuation::registered::carried_by;
+use valuation::registered::gather;
 
 // The `n` schedules of a book, each with its place.
 fn placed_in(book: &[u8], n: usize) -> [Placed; MOST_SCHEDULES]
@@ -39,24 +38,18 @@ fn placed_in(book: &[u8], n: usize) -> [Placed; MOST_SCHEDULES]
     all
 }
 
-// Judges the next schedule: its result, what it uses up of the limits, and what it adds to its operator's balance.
-fn judge_next(
-    book: &[u8],
-    prices: &[u8],
-    used: &mut [u32],
-    results: &mut [u8],
-    next: Placed,
-) -> Credit
-    requires { ⌜ Priced (now book) (now prices) × InPlace (setupIn (now book)) next ⌝ }
-    requires { ⌜ RoomFor next (now used) (now results) ⌝ }
-    ensures { λ r. ⌜ NextJudged (now (book .entry)) (now (prices .entry)) next r (now (used .entry)) (now (used .exit)) (now (results .entry)) (now (results .exit)) ⌝ }
+// Judges a schedule after those that the tables hold: its result, what it uses up of the limits, and what it registers in its account hour.
+fn judge(book: &[u8], prices: &[u8], used: &mut [u32], registered: &mut [u64], x: Schedule) -> u8
+    requires { ⌜ Priced (now book) (now prices) × (scheduleOk (setupIn (now book)) x ≡ true) ⌝ }
+    requires { ⌜ RoomFor x (now used) (now registered) ⌝ }
+    ensures { λ r. ⌜ Judges (now (book .entry)) (now (prices .entry)) x r (now (used .entry)) (now (used .exit)) (now (registered .entry)) (now (registered .exit)) ⌝ }
 {
-    let x = next.schedule;
     let site = point(book, x.point);
     let result = result_of(book, prices, used, site, x);
     use_up(used, site.account, x, result);
-    results[next.place as usize - 1] = result;
-    credit_of(book, prices, site, x, result)
+    let more = carried_by(book, prices, site, x, result);
+    gather(registered, site.account, x.hour, more);
+    result
 }
 
 // Judges the first `n` of an order, one after the other.
@@ -66,24 +59,21 @@ fn judge_all(
     order: [Placed; MOST_SCHEDULES],
     n: usize,
     used: &mut [u32],
+    registered: &mut [u64],
     results: &mut [u8],
-) -> [Balance; OPERATORS]
+)
     requires { ⌜ Priced (now book) (now prices) ⌝ }
     requires { ⌜ InOrder (now book) order n ⌝ }
-    requires { ⌜ NoneJudged (now used) (now results) ⌝ }
-    ensures { λ r. ⌜ AllJudged (now (book .entry)) (now (prices .entry)) (now (used .exit)) r (now (results .exit)) ⌝ }
+    requires { ⌜ NoneJudged (now used) (now registered) (now results) ⌝ }
+    ensures { λ _. ⌜ AllJudged (now (book .entry)) (now (prices .entry)) (now (used .exit)) (now (registered .exit)) (now (results .exit)) ⌝ }
 {
-    let mut all = accounts_worth(book, prices);
     let mut k = 0;
     while k < n {
-        let x = order[k];
-        let credit = judge_next(book, prices, used, results, x);
-        let at = credit.operator as usize - 1;
-        let so_far = all[at];
-        all[at] = so_far.plus(credit.share);
+        let next = order[k];
+        let result = judge(book, prices, used, registered, next.schedule);
+        results[next.place as usize - 1] = result;
         k = k + 1;
     }
-    all
 }
 
 // Judges the `n` schedules of a book in order of priority.
@@ -91,13 +81,15 @@ pub fn judge_schedules(
     book: &[u8],
     prices: &[u8],
     n: usize,
+    registered: &mut [u64],
     results: &mut [u8],
-) -> [Balance; OPERATORS]
-    requires { ⌜ Priced (now book) (now prices) × (n ≡ length (bookIn (now book) .schedules)) × (now results ≡ noResults) ⌝ }
-    ensures { λ r. ⌜ DrawnUp (now (book .entry)) (now (prices .entry)) r (now (results .exit)) ⌝ }
+)
+    requires { ⌜ Priced (now book) (now prices) × (n ≡ length (bookIn (now book) .schedules)) ⌝ }
+    requires { ⌜ (now registered ≡ nothingRegistered) × (now results ≡ noResults) ⌝ }
+    ensures { λ _. ⌜ DrawnUp (now (book .entry)) (now (prices .entry)) (now (registered .exit)) (now (results .exit)) ⌝ }
 {
     let all = placed_in(book, n);
     let order = in_order(all, n);
     let mut used = nothing_used();
-    judge_all(book, prices, order, n, &mut used, results)
+    judge_all(book, prices, order, n, &mut used, registered, results);
 }

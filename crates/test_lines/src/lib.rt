@@ -6,6 +6,7 @@ use rules::ExposureReading;
 use rules::NetReading;
 use rules::Numbers;
 use rules::Position;
+use rules::ValuedHour;
 use rules::verdicts::refusal_numbers;
 use wire::numbers::get_u16;
 
@@ -48,6 +49,15 @@ pub fn small(n: u8) {
 pub fn negative(n: u64) {
     io::write_all(STDOUT_FILENO, b" -");
     io::print_decimal(STDOUT_FILENO, n);
+}
+
+// A number of a line with its sign: the difference of two.
+fn difference(plus: u64, minus: u64) {
+    if plus < minus {
+        negative(minus - plus);
+    } else {
+        number(plus - minus);
+    }
 }
 
 // Ends a line.
@@ -117,5 +127,18 @@ pub fn exposure_line(operator: u8, reading: ExposureReading) {
             number(m.0);
         }
     }
+    end();
+}
+
+// The line of an account hour: physical balance, purchase, sale, CCT and hourly amount.
+pub fn hour_line(account: u8, hour: u8, x: ValuedHour) {
+    begin(b'h');
+    small(account);
+    small(hour);
+    difference(x.physical.bought.0 as u64, x.physical.sold.0 as u64);
+    number(x.purchase.0);
+    number(x.sale.0);
+    difference(x.cct.gained.0, x.cct.lost.0);
+    difference(x.amount.gained.0, x.amount.lost.0);
     end();
 }

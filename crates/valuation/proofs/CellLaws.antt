@@ -84,7 +84,7 @@ nothing-used u net t table e =
 -- ---- one schedule more
 
 -- a cell that is raised, and every other
-raised-cell : (table : List ℕ) (k q i : ℕ) → k < length table
+pub raised-cell : (table : List ℕ) (k q i : ℕ) → k < length table
     → getD (set table k (getD table k 0 + q)) i 0 ≡ (if eqb k i then q else 0) + getD table i 0
 raised-cell table k q i h = go (eqb k i) refl
   where

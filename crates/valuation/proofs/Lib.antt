@@ -1,17 +1,21 @@
--- Laws of what one schedule and the account hours come to.
--- PriceLaws: the prices of a table, one after the other.
+-- Laws of what schedules and account hours come to.
+-- PriceLaws: the prices of a table, by number, by zone and hour, and one after the other.
 pub mod PriceLaws
 -- CellLaws: the table of what is used up, cell by cell.
 pub mod CellLaws
 -- CongruityLaws: the result of a schedule by what is used up.
 pub mod CongruityLaws
--- BalanceLaws: sums of balances, and a share credited to an operator.
-pub mod BalanceLaws
--- ScheduleLaws: what a judged schedule adds to its operator's balance.
+-- RegisteredLaws: the table of what is registered, by account hour.
+pub mod RegisteredLaws
+-- ScheduleLaws: what a judged schedule registers.
 pub mod ScheduleLaws
+-- HourLaws: an account hour valued.
+pub mod HourLaws
+-- BalanceLaws: sums of balances, and an amount credited to an operator.
+pub mod BalanceLaws
+-- AmountLaws: the hourly amounts added up, over hours and accounts.
+pub mod AmountLaws
+-- BalanceTotals: the amounts of the first operators, one after the other.
+pub mod BalanceTotals
 -- WordLaws: a balance as a signed word, and the balances written one after the other.
 pub mod WordLaws
--- WorthLaws: what accounts bought and sold, at PUN.
-pub mod WorthLaws
--- BalanceTotals: the balances of all operators fit their words, and are the definition's.
-pub mod BalanceTotals

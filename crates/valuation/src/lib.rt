@@ -1,12 +1,17 @@
-// What one schedule and the account hours come to at settlement: its result, its share, and the operators' balances.
+// What schedules and account hours come to at settlement: the result of a schedule, what it registers in its account hour, the hour's
+// figures, and the operators' balances.
 pub mod balances;
 pub mod congruity;
+pub mod hours;
 pub mod prices;
+pub mod registered;
 
 use rules::Balance;
+use units::Kwh;
 
-// A share, and the operator to whose balance it is added.
-pub struct Credit {
-    pub operator: u8,
-    pub share: Balance,
+// What a registered schedule injects, withdraws and carries as CCT.
+pub struct Carried {
+    pub injected: Kwh,
+    pub withdrawn: Kwh,
+    pub cct: Balance,
 }

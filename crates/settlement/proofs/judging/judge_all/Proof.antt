@@ -7,74 +7,91 @@ use borrow.Author.Needs.{needs}
 use Rattle.image.specs.Valid.{bookIn}
 use Rattle.rules.specs.Limits.{mostSchedules}
 use Rattle.book.proofs.StateLaws.{schedule-count-high}
-use Rattle.valuation.proofs.BalanceLaws.{credited-made}
 use Rattle.settlement.specs.Judging.{TablesIn}
-use Rattle.settlement.proofs.TurnLaws.{judgedIn, length-unused, length-unjudged, in-turn, tables-begin, tables-end, first-fits, next-ready, next-known, tables-follow}
+use Rattle.settlement.proofs.TurnLaws.{judgedIn, length-unused, length-unregistered, length-unjudged, in-turn, tables-begin, tables-end, in-place, next-room, tables-follow}
 use Rattle.settlement.proofs.judging.judge_all.Statement.{statement}
 use Rattle.settlement.proofs.judging.judge_all.Tie as tie
 
 abbrev Inv-loop : tie.InvT-loop
-Inv-loop book prices n used₀ results₀ order all₀ k₀ used results all k =
-    (k ≤ n) × (n ≤ mostSchedules) × TablesIn book prices (judgedIn book prices k) used all results
+Inv-loop book prices n used₀ registered₀ results₀ order k₀ used registered results k =
+    (k ≤ n) × (n ≤ mostSchedules) × TablesIn book prices (judgedIn book prices k) used registered results
 
 abbrev μ-loop : tie.MeasureT-loop
-μ-loop book prices n used₀ results₀ order all₀ k₀ used results all k = n - k
+μ-loop book prices n used₀ registered₀ results₀ order k₀ used registered results k = n - k
 
 loop-holds : tie.Need-loop-holds Inv-loop μ-loop
 loop-holds c =
-    let start = c .before .before .before .before .before in
-    let few = schedule-count-high _ (start .pre .0 .is-book) in
-    (search needs, omega (arith, start .pre .1 .0 .all-of, few), tables-begin _ _ _ _ _ (start .pre .1 .1 .nothing-used) (start .pre .1 .1 .no-results) (c .accounts-worth .ensures))
+    let pre = c .before .before .before .before .before .pre in
+    let few = schedule-count-high _ (pre .0 .is-book) in
+    let none = pre .1 .1 in
+    (search needs, omega (arith, pre .1 .0 .all-of, few), tables-begin _ _ _ _ _ (none .nothing-used) (none .none-registered) (none .no-results))
 
-judge-next-requires : tie.Need-judge-next-requires Inv-loop μ-loop
-judge-next-requires c κs =
+judge-requires : tie.Need-judge-requires Inv-loop μ-loop
+judge-requires c κs =
     let looped = c .before .before .before .before in
     let l = looped .loop in
     let start = looped .before .before .before .before .before .before in
+    let order = start .pre .1 .0 in
     let here : l .k < start .args .n = omega arith in
-    let ready = next-ready _ _ (start .pre .0) (l .k) (omega (arith, here, start .pre .1 .0 .all-of)) _ (in-turn _ _ _ _ here (start .pre .1 .0 .by-priority)) _ _ _ (l .inv .2) in
-    ((start .pre .0, ready .0), ready .1)
+    let h : l .k < length (bookIn (start .args .book .now) .schedules) = omega (arith, here, order .all-of) in
+    let turn = in-turn _ _ _ _ here (order .by-priority) in
+    ((start .pre .0, in-place _ _ (start .pre .0) (l .k) h _ turn .in-range), next-room _ _ (start .pre .0) (l .k) h _ turn _ _ _ (l .inv .2))
 
-plus-requires : tie.Need-plus-requires Inv-loop μ-loop
-plus-requires c κs =
-    let judged = c .before .before .before .before .before .before in
+sub-results : tie.Need-sub-results Inv-loop μ-loop
+sub-results c =
+    let judged = c .before .before .before .before .before in
     let looped = judged .before .before .before .before .before in
-    let start = looped .before .before .before .before .before .before in
     let l = looped .loop in
-    let credit = judged .judge-next in
-    let h : l .k ≤ length (bookIn (start .args .book .now) .schedules) = omega (arith, start .pre .1 .0 .all-of) in
-    let held = first-fits _ _ (start .pre .0) (l .k) h _ (l .inv .2 .balances-of) (credit .result .operator - 1) in
-    let share = credit .ensures .bounded .share-fits in
-    (omega (arith, held .0, share .0), omega (arith, held .1, share .1))
+    let start = looped .before .before .before .before .before .before in
+    let order = start .pre .1 .0 in
+    let here : l .k < start .args .n = omega (arith, judged .before .before .before .before .loop-test .taken) in
+    let h : l .k < length (bookIn (start .args .book .now) .schedules) = omega (arith, here, order .all-of) in
+    in-place _ _ (start .pre .0) (l .k) h _ (in-turn _ _ _ _ here (order .by-priority)) .place-low
+
+slice-write-results : tie.Need-slice-write-results Inv-loop μ-loop
+slice-write-results c =
+    let judged = c .before .before .before .before .before in
+    let looped = judged .before .before .before .before .before in
+    let l = looped .loop in
+    let start = looped .before .before .before .before .before .before in
+    let order = start .pre .1 .0 in
+    let here : l .k < start .args .n = omega (arith, judged .before .before .before .before .loop-test .taken) in
+    let h : l .k < length (bookIn (start .args .book .now) .schedules) = omega (arith, here, order .all-of) in
+    let place = in-place _ _ (start .pre .0) (l .k) h _ (in-turn _ _ _ _ here (order .by-priority)) in
+    omega (arith, place .place-low, place .place-high, l .inv .2 .results-of .whole)
 
 loop-again : tie.Need-loop-again Inv-loop μ-loop
 loop-again c =
-    let judged = c .before .before .before .before .before .before .before in
+    let judged = c .before .before .before .before .before in
     let looped = judged .before .before .before .before .before in
-    let start = looped .before .before .before .before .before .before in
     let l = looped .loop in
-    let credit = judged .judge-next in
+    let start = looped .before .before .before .before .before .before in
+    let order = start .pre .1 .0 in
     let here : l .k < start .args .n = omega (arith, judged .before .before .before .before .loop-test .taken) in
-    let h : l .k < length (bookIn (start .args .book .now) .schedules) = omega (arith, here, start .pre .1 .0 .all-of) in
-    let turn = in-turn _ _ _ _ here (start .pre .1 .0 .by-priority) in
-    let known = next-known _ _ (start .pre .0) (l .k) h _ turn in
-    let credited = credited-made (l .all) (credit .result .operator) (credit .result .share) (c .plus .result) (c .plus .ensures) in
-    (search needs, search needs, rw credited (tables-follow _ _ (start .pre .0) (l .k) h _ turn _ _ _ (credit .ensures .tables _ _ (l .inv .2) known)))
+    let h : l .k < length (bookIn (start .args .book .now) .schedules) = omega (arith, here, order .all-of) in
+    let turn = in-turn _ _ _ _ here (order .by-priority) in
+    (search needs, search needs, tables-follow _ _ (start .pre .0) (l .k) h _ turn _ _ _ _ _ _ (judged .judge .ensures) (l .inv .2))
 
 same-length : tie.Need-same-length Inv-loop μ-loop
 same-length c =
-    let start = c .before .before .before .before .before .before .before in
-    c .before .loop .inv .2 .used-by .whole ∙ sym (length-unused _ (start .pre .1 .1 .nothing-used))
+    let none = c .before .before .before .before .before .before .before .pre .1 .1 in
+    c .before .loop .inv .2 .used-by .whole ∙ sym (length-unused _ (none .nothing-used))
 
 same-length-2 : tie.Need-same-length-2 Inv-loop μ-loop
 same-length-2 c =
-    let start = c .before .before .before .before .before .before .before in
-    c .before .loop .inv .2 .results-of .whole ∙ sym (length-unjudged _ (start .pre .1 .1 .no-results))
+    let none = c .before .before .before .before .before .before .before .pre .1 .1 in
+    c .before .loop .inv .2 .registered-of .whole ∙ sym (length-unregistered _ (none .none-registered))
+
+same-length-3 : tie.Need-same-length-3 Inv-loop μ-loop
+same-length-3 c =
+    let none = c .before .before .before .before .before .before .before .pre .1 .1 in
+    c .before .loop .inv .2 .results-of .whole ∙ sym (length-unjudged _ (none .no-results))
 
 returns : tie.Need-returns Inv-loop μ-loop
 returns c =
-    let start = c .before .before .before .before .before .before .before in
-    let l = c .before .loop in
+    let looped = c .before in
+    let start = looped .before .before .before .before .before .before in
+    let l = looped .loop in
     let done : l .k ≡ start .args .n = omega arith in
     tables-end _ _ (l .k) _ _ _ (done ∙ start .pre .1 .0 .all-of) (l .inv .2)
 
@@ -84,21 +101,17 @@ judge-all-spec =
     (tie.spec
     Inv-loop
     μ-loop
-    (λ c κs. search needs)
     loop-holds
     (λ c. search needs)
     (λ c. search needs)
-    judge-next-requires
+    judge-requires
     (λ c. search needs)
-    (λ c. search needs)
-    (λ c. search needs)
-    (λ c. search needs)
-    plus-requires
-    (λ c. search needs)
-    (λ c. search needs)
+    sub-results
+    slice-write-results
     (λ c. search needs)
     (λ c. search needs)
     loop-again
     same-length
     same-length-2
+    same-length-3
     returns)

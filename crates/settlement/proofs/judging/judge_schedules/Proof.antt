@@ -1,37 +1,31 @@
--- The schedules are judged in order of priority, from tables with nothing used up and no results, so that at the end all are judged.
+-- The schedules are judged in order of priority, from tables with nothing used up, nothing registered and no results, so that at the end all
+-- are judged.
 use mathlib.Core.Path.{ap, _∙_}
 use native.Mathlib.Omega.{arith}
+use borrow.Author.Needs.{needs}
 use Rattle.rules.specs.Settlement.{prioritised}
 use Rattle.book.proofs.StateLaws.{schedule-count-high}
-use Rattle.settlement.proofs.TurnLaws.{drawn-up}
-use borrow.Author.Needs.{needs}
 use Rattle.settlement.proofs.judging.judge_schedules.Statement.{statement}
 use Rattle.settlement.proofs.judging.judge_schedules.Tie as tie
 
 in-order-requires : tie.Need-in-order-requires
 in-order-requires c κs =
-    let pre = c .before .before .before .before .pre in
-    omega (arith, pre .1, schedule-count-high _ (pre .0 .is-book))
+    let pre = c .before .before .before .before .before .pre in
+    omega (arith, pre .0 .1, schedule-count-high _ (pre .0 .0 .is-book))
 
 judge-all-requires : tie.Need-judge-all-requires
 judge-all-requires c κs =
-    let ordered = c .before .before .before in
+    let unused = c .before .before .before in
+    let ordered = unused .before in
     let placed = ordered .before in
-    let pre = placed .before .before .before .before .pre in
+    let pre = placed .before .before .before .before .before .pre in
     let order = ordered .in-order .ensures ∙ ap prioritised (placed .placed-in .ensures) in (
-      pre .0,
+      pre .0 .0,
       (
-        record { all-of = pre .1; by-priority = order },
-        record { nothing-used = c .before .before .nothing-used .ensures; no-results = pre .2 },
+        record { all-of = pre .0 .1; by-priority = order },
+        record { nothing-used = unused .nothing-used .ensures; none-registered = pre .1 .0; no-results = pre .1 .1 },
       ),
     )
-
-returns : tie.Need-returns
-returns c =
-    let all = c .before .before .before in
-    let placed = all .before .before .before .before .before in
-    let pre = placed .before .before .before .before .pre in
-    drawn-up _ _ (pre .0) _ _ _ (all .judge-all .ensures)
 
 pub judge-schedules-spec : {M : Type 1} → statement M
 judge-schedules-spec =
@@ -43,4 +37,5 @@ judge-schedules-spec =
     (λ c. search needs)
     judge-all-requires
     (λ c. search needs)
-    returns)
+    (λ c. search needs)
+    (λ c. search needs))

@@ -1,0 +1,77 @@
+// The account hours of a book valued at a price table, and the line that each prints.
+ghost use mathlib.Core.Path.{_≡_};
+ghost use mathlib.Core.Bool.{true};
+ghost use Rattle.image.specs.Valid.{isBook, bookIn};
+ghost use Rattle.book.specs.Members.{IsAccount};
+ghost use Rattle.valuation.specs.Tables.{Priced};
+ghost use Rattle.valuation.specs.Registered.{AllRegistered};
+use audit::whole::is_book;
+use book::state::schedule_count;
+use settlement::judging::judge_schedules;
+use settlement::settle::no_results;
+use settlement::settle::price_count;
+use setup::counts::PRICE_WIDTH;
+use setup::counts::counts;
+use test_lines::hour_line;
+use valuation::hours::value_hour;
+use valuation::prices::too_high;
+use valuation::registered::nothing_registered;
+
+// The lines of an account.
+fn show_account(book: &[u8], prices: &[u8], registered: &[u64], number: u8)
+    requires { ⌜ Priced (now book) (now prices) × IsAccount (bookIn (now book)) number ⌝ }
+    requires { ⌜ AllRegistered (now book) (now prices) (now registered) ⌝ }
+{
+    let n = counts(book);
+    let mut hour: u8 = 1;
+    while hour <= n.hours {
+        let valued = value_hour(book, prices, registered, number, hour);
+        hour_line(number, hour, valued);
+        hour = hour + 1;
+    }
+}
+
+// The lines of all accounts.
+fn show_accounts(book: &[u8], prices: &[u8], registered: &[u64])
+    requires { ⌜ Priced (now book) (now prices) ⌝ }
+    requires { ⌜ AllRegistered (now book) (now prices) (now registered) ⌝ }
+{
+    let n = counts(book);
+    let mut number: u8 = 1;
+    while number <= n.accounts {
+        show_account(book, prices, registered, number);
+        number = number + 1;
+    }
+}
+
+// Judges the schedules that stand and values each account hour.
+fn show_valued(book: &[u8], prices: &[u8])
+    requires { ⌜ Priced (now book) (now prices) ⌝ }
+{
+    let standing = schedule_count(book) as usize;
+    let mut results = no_results();
+    let mut registered = nothing_registered();
+    judge_schedules(book, prices, standing, &mut registered, &mut results);
+    show_accounts(book, prices, &registered);
+}
+
+// Prints nothing where the bytes are no book or the price table is not one for it.
+fn show_priced(book: &[u8], prices: &[u8])
+    requires { ⌜ isBook (now book) ≡ true ⌝ }
+{
+    let n = price_count(book);
+    if prices.len() != PRICE_WIDTH * n {
+        return;
+    }
+    if too_high(prices, n) {
+        return;
+    }
+    show_valued(book, prices);
+}
+
+// The lines of every account hour.
+pub fn show_hours(prices: &[u8], book: &[u8]) {
+    if is_book(book) {
+        show_priced(book, prices);
+    }
+}
