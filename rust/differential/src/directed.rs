@@ -1,6 +1,7 @@
-//! Days made by hand: the paper's case and its edges, margins by hour, a full book, batches, greatest numbers, and every byte of a
-//! set-up and of a record put to values beside its own.
+//! Days made by hand: the paper's case and its edges, margins by hour, a full book, batches, greatest numbers, hourly amounts, and
+//! every byte of a set-up and of a record put to values beside its own.
 
+use crate::amounts;
 use crate::damaged::{margins_beyond, records, setups};
 use crate::made::*;
 use crate::margins;
@@ -24,6 +25,7 @@ pub fn days() -> Vec<(String, Day)> {
         (String::from("phases"), phases()),
         (String::from("records"), records()),
     ];
+    days.extend(amounts::days());
     let setups = (0..).zip(setups().into_iter().chain(margins_beyond()));
     days.extend(setups.map(|(number, setup)| {
         let calls = Vec::new();

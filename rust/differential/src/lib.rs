@@ -1,11 +1,13 @@
 //! The proved book and the reference implementation, held against each other.
 //!
 //! A day is played on both ([`play`]): after every call the verdict, its details and both lent buffers are equal, and so are the
-//! readings; with another margin in its set-up, the one is a book exactly if the other is. A day on which they differ is cut down to
-//! the calls that it takes ([`shrink`]) and stored ([`Day`]).
+//! readings; with another margin in its set-up, the one is a book exactly if the other is. The balances that the proved book writes
+//! are also the totals of the reference's hourly amounts. A day on which they differ is cut down to the calls that it takes
+//! ([`shrink`]) and stored ([`Day`]).
 
 #![forbid(unsafe_code)]
 
+mod amounts;
 mod damaged;
 mod day;
 pub mod directed;

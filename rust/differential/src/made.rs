@@ -118,10 +118,18 @@ pub fn lent(request: &Request, prices: Vec<u8>, results: usize, balances: usize)
 
 /// A price table: PUN and every zone's price, the same in all hours.
 pub fn prices(setup: &Setup, national: u32, zonal: u32) -> Vec<u8> {
-    let hours = usize::from(setup.hours());
-    let zones = hours * usize::from(setup.zones);
-    let all = std::iter::repeat_n(national, hours).chain(std::iter::repeat_n(zonal, zones));
-    all.flat_map(u32::to_le_bytes).collect()
+    price_table(setup, |zone, _| if zone == 0 { national } else { zonal })
+}
+
+/// A price table: the price of each zone in each hour, PUN as that of zone 0.
+pub fn price_table(setup: &Setup, price: impl Fn(u8, u8) -> u32) -> Vec<u8> {
+    let mut table = Vec::with_capacity(setup.price_table_length());
+    for zone in 0..=setup.zones {
+        for hour in 1..=setup.hours() {
+            table.extend(price(zone, hour).to_le_bytes());
+        }
+    }
+    table
 }
 
 /// The rows of a full book: 256 over all hours, in turns sales and purchases of 32 accounts.

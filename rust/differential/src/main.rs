@@ -109,6 +109,11 @@ fn report(counts: &Counts) {
     println!("batches undone: {}, calls of the lists without them: {}", counts.undone, counts.without);
     println!("calls on a changed byte: no book {}, still a book {}", counts.damaged, counts.undamaged);
     println!("calls on a changed margin: no book {}, still a book {}", counts.margins_broken, counts.margins_kept);
+    println!("days settled: {}, balances held against the totals of hourly amounts: {}", counts.settled, counts.balances);
+    let [purchases, sales, ccts] = counts.hours;
+    println!("account hours valued: with a purchase {purchases}, with a sale {sales}, with a CCT {ccts}");
+    let [injections, withdrawals, mixed] = counts.registered;
+    println!("schedules registered: injections {injections}, withdrawals {withdrawals}, withdrawals on mixed points {mixed}");
     println!("no difference");
 }
 

@@ -20,6 +20,15 @@ impl Answer {
     pub fn lent(call: &Step) -> Self {
         Self { verdict: Verdict::accepted(0), results: vec![UNWRITTEN; call.results], balances: vec![UNWRITTEN; call.balances] }
     }
+
+    /// The balances that an accepted settle wrote, by operator; after the last one, what else the buffer holds.
+    pub fn written(&self) -> impl Iterator<Item = i64> + '_ {
+        self.balances.chunks_exact(FIGURE_SIZE).map(|bytes| {
+            let mut figure = [0; FIGURE_SIZE];
+            figure.copy_from_slice(bytes);
+            i64::from_le_bytes(figure)
+        })
+    }
 }
 
 /// Refused by 1.

@@ -4,7 +4,7 @@ use crate::made::{margin, margin_at, Margin};
 use crate::ours::{self, Answer, Ours};
 use crate::Day;
 use reference::days::Step;
-use reference::{kind, Book, Request, Verdict, GREATEST_QUANTITY};
+use reference::{kind, valuation, Book, Direction, PointKind, Request, Verdict, GREATEST_QUANTITY};
 use std::ops::AddAssign;
 use std::panic::{catch_unwind, AssertUnwindSafe};
 
@@ -30,6 +30,13 @@ pub struct Counts {
     /// The same of books with another margin, which are held against the reference's.
     pub margins_broken: u64,
     pub margins_kept: u64,
+    /// Accepted settles, and the balances that ours wrote there, each held against the total of the reference's hourly amounts.
+    pub settled: u64,
+    pub balances: u64,
+    /// The account hours of these totals with a purchase, with a sale, and with a CCT.
+    pub hours: [u64; 3],
+    /// The registered schedules in them: injections, withdrawals, and withdrawals on mixed points.
+    pub registered: [u64; 3],
 }
 
 impl AddAssign<&Counts> for Counts {
@@ -47,6 +54,12 @@ impl AddAssign<&Counts> for Counts {
         self.undamaged += more.undamaged;
         self.margins_broken += more.margins_broken;
         self.margins_kept += more.margins_kept;
+        self.settled += more.settled;
+        self.balances += more.balances;
+        for sort in 0..3 {
+            self.hours[sort] += more.hours[sort];
+            self.registered[sort] += more.registered[sort];
+        }
     }
 }
 
@@ -84,6 +97,9 @@ fn both(day: &Day) -> Result<Counts, String> {
         let answer = compare_call(&mut theirs, &mut ours, call).map_err(at)?;
         counts.calls += 1;
         counts.verdicts[usize::from(answer.verdict.number)] += 1;
+        if answer.verdict.is_accepted() && call.record.get(2) == Some(&kind::SETTLE) {
+            compare_amounts(&theirs, call, &answer, &mut counts).map_err(at)?;
+        }
         if number % 64 == 0 {
             check_theirs(&theirs).map_err(at)?;
         }
@@ -120,6 +136,33 @@ fn compare_call(theirs: &mut Book, ours: &mut Ours, call: &Step) -> Result<Answe
     } else {
         Err(format!("the reference {expected:?}, ours {answer:?}"))
     }
+}
+
+/// After an accepted settle: each balance that ours wrote is the total of the hourly amounts that the reference values.
+fn compare_amounts(theirs: &Book, call: &Step, answer: &Answer, counts: &mut Counts) -> Result<(), String> {
+    let setup = theirs.setup();
+    let figures = theirs.figures(&call.prices).map_err(|verdict| format!("the reference values nothing: {verdict:?}"))?;
+    let totals = valuation::totals(setup, &figures);
+    if answer.written().take(totals.len()).ne(totals.iter().copied()) {
+        let written: Vec<i64> = answer.written().take(totals.len()).collect();
+        return Err(format!("the reference's hourly amounts total {totals:?}, ours wrote {written:?}"));
+    }
+    counts.settled += 1;
+    counts.balances += totals.len() as u64;
+    for hour in figures.iter().flatten() {
+        for (count, has) in counts.hours.iter_mut().zip([hour.purchase > 0, hour.sale > 0, hour.cct != 0]) {
+            *count += u64::from(has);
+        }
+    }
+    for (schedule, _) in theirs.schedules().iter().zip(&answer.results).filter(|(_, &result)| result == 0) {
+        let sort = match (schedule.direction, setup.point(schedule.point).kind) {
+            (Direction::Injection, _) => 0,
+            (Direction::Withdrawal, PointKind::Mixed) => 2,
+            (Direction::Withdrawal, _) => 1,
+        };
+        counts.registered[sort] += 1;
+    }
+    Ok(())
 }
 
 /// Reads and writes the record of a call on both.

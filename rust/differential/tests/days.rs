@@ -1,6 +1,6 @@
 //! A short run, the stored days, and the tools of the long run.
 
-use differential::{directed, play, shrink, Day};
+use differential::{directed, play, shrink, Counts, Day};
 use std::fs;
 use std::path::Path;
 
@@ -14,12 +14,40 @@ fn directed_days_show_no_difference() {
 }
 
 #[test]
+fn directed_days_of_hourly_amounts_register_what_they_are_made_for() {
+    // Injections, withdrawals, and withdrawals on mixed points.
+    let expected = [
+        ("amounts-balance-zero", [5, 3, 2]),
+        ("amounts-pun", [12, 4, 8]),
+        ("amounts-two-zones", [7, 2, 8]),
+        ("amounts-greatest", [125, 0, 125]),
+        ("amounts-greatest-zonal", [125, 0, 125]),
+        ("amounts-last-of-23", [3, 1, 3]),
+        ("amounts-last-of-24", [3, 1, 3]),
+        ("amounts-last-of-25", [3, 1, 3]),
+    ];
+    let mut found = directed::days();
+    found.retain(|(name, _)| name.starts_with("amounts-"));
+    assert_eq!(found.len(), expected.len());
+    for ((name, day), (expected_name, registered)) in found.iter().zip(expected) {
+        let counts = play(day).unwrap();
+        assert_eq!(name, expected_name);
+        assert_eq!(counts.registered, registered, "{name}");
+        assert_eq!((counts.settled, counts.verdicts[0]), (1, counts.calls), "{name}");
+    }
+}
+
+#[test]
 fn days_of_some_seeds_show_no_difference() {
+    let mut counts = Counts::default();
     for seed in 1_000_000..1_000_300 {
-        if let Err(why) = play(&Day::of_seed(seed)) {
-            panic!("seed {seed}: {why}");
+        match play(&Day::of_seed(seed)) {
+            Ok(more) => counts += &more,
+            Err(why) => panic!("seed {seed}: {why}"),
         }
     }
+    assert!(counts.settled > 200 && counts.balances > 400);
+    assert!(counts.hours.iter().chain(&counts.registered).all(|&count| count > 100));
 }
 
 #[test]

@@ -4,6 +4,7 @@ mod stands;
 
 use crate::ledger::Ledger;
 use crate::settlement::{self, Prices, Schedule, MOST_SCHEDULES};
+use crate::valuation::{self, Figures};
 use crate::{bit, kind, layout, read, refusal};
 use crate::{Direction, Position, Request, Row, Setup, Verdict};
 use crate::{GREATEST_GUARANTEE, GREATEST_PRICE, GREATEST_QUANTITY};
@@ -110,6 +111,19 @@ impl Book {
         Ok(self.ledger.positions(&self.setup, account)[usize::from(hour) - 1])
     }
 
+    /// What every account hour comes to at a price table, by account and then by
+    /// hour: the figures of a settlement at these prices, in any phase. Refusals
+    /// 5 and 6.
+    pub fn figures(&self, prices: &[u8]) -> Result<Vec<Vec<Figures>>, Verdict> {
+        self.check_prices(prices)?;
+        Ok(valuation::of_day(
+            &self.setup,
+            &self.ledger,
+            &self.schedules,
+            self.prices(prices),
+        ))
+    }
+
     /// What the day was opened with.
     pub fn setup(&self) -> &Setup {
         &self.setup
@@ -143,12 +157,7 @@ impl Book {
         balances: &[u8],
     ) -> Result<(), Verdict> {
         if request.kind == kind::SETTLE {
-            if prices.len() != self.setup.price_table_length() {
-                return Err(Verdict::refused(refusal::LENGTH));
-            }
-            if !Prices::are_allowed(prices) {
-                return Err(out_of_range(bit::PRICE));
-            }
+            self.check_prices(prices)?;
             if results.len() < self.schedules.len()
                 || balances.len() < 8 * self.setup.operators.len()
             {
@@ -163,6 +172,17 @@ impl Book {
             && request.account == request.other
         {
             return Err(Verdict::refused(refusal::SAME_ACCOUNT));
+        }
+        Ok(())
+    }
+
+    /// Whether a price table has its length and its prices are in range: 5, 6.
+    fn check_prices(&self, prices: &[u8]) -> Result<(), Verdict> {
+        if prices.len() != self.setup.price_table_length() {
+            return Err(Verdict::refused(refusal::LENGTH));
+        }
+        if !Prices::are_allowed(prices) {
+            return Err(out_of_range(bit::PRICE));
         }
         Ok(())
     }
@@ -272,15 +292,20 @@ impl Book {
             &self.setup,
             &self.ledger,
             &self.schedules,
-            Prices {
-                table: prices,
-                hours: self.setup.estimates.len(),
-            },
+            self.prices(prices),
             &mut results[..self.schedules.len()],
             &mut balances[..8 * self.setup.operators.len()],
         );
         self.phase = Phase::Settled;
         Verdict::accepted(0)
+    }
+
+    /// The prices of a table of the right length.
+    fn prices<'a>(&self, table: &'a [u8]) -> Prices<'a> {
+        Prices {
+            table,
+            hours: self.setup.estimates.len(),
+        }
     }
 }
 

@@ -6,6 +6,8 @@
 //! taken after the gate closes; settlement judges the schedules and draws up
 //! each operator's balance. Every call answers with a [`Verdict`]. Calls trust
 //! what the book holds; [`Book::stands`] checks it, for one who does not.
+//! [`Book::figures`] says what each account hour comes to, article by article
+//! ([`valuation`]).
 //!
 //! Energy is whole kWh, prices are euro cents per MWh and money is
 //! thousandths of a cent, so energy times price is money without rounding.
@@ -22,6 +24,7 @@ mod request;
 mod settlement;
 mod setup;
 mod trade;
+pub mod valuation;
 mod verdict;
 
 pub use book::{Book, Phase};

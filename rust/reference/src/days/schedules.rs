@@ -2,13 +2,18 @@
 
 use super::random::Random;
 use super::Step;
-use crate::{kind, Book, Direction, Request, GREATEST_PRICE, GREATEST_QUANTITY};
+use crate::{kind, Book, Direction, Point, Request, GREATEST_PRICE, GREATEST_QUANTITY};
 
 /// The prices that schedules and zones share, so that there are ties.
 const PRICES: [u32; 6] = [0, 2_999, 3_000, 3_001, 50_000, GREATEST_PRICE];
 
 /// A schedule; its quantity is often what the point or the account has left.
 pub(crate) fn schedule(random: &mut Random, book: &Book) -> Request {
+    if !book.schedules().is_empty() && random.chance(35) {
+        if let Some(request) = in_another_zone(random, book) {
+            return request;
+        }
+    }
     let setup = book.setup();
     let point = a_point(random, book);
     let hour = an_hour(random, book, point);
@@ -18,10 +23,11 @@ pub(crate) fn schedule(random: &mut Random, book: &Book) -> Request {
         if random.chance(85) {
             side = if net < 0 { 1 } else { 2 };
         }
-        let (direction, greatest) = match side {
-            1 => (Direction::Injection, site.greatest_injection),
-            _ => (Direction::Withdrawal, site.greatest_withdrawal),
+        let direction = match side {
+            1 => Direction::Injection,
+            _ => Direction::Withdrawal,
         };
+        let greatest = greatest(site, direction);
         let used = |same: &dyn Fn(u8) -> bool| -> u64 {
             let schedules = book.schedules().iter();
             schedules
@@ -51,6 +57,50 @@ pub(crate) fn schedule(random: &mut Random, book: &Book) -> Request {
         point,
         price: price(random),
         ..Request::default()
+    }
+}
+
+/// A small schedule of the account, hour and direction of an earlier one, at a
+/// point in another zone and at a price that is never missed; nothing where
+/// the account has no such point or no energy for it.
+fn in_another_zone(random: &mut Random, book: &Book) -> Option<Request> {
+    let setup = book.setup();
+    let earlier = random.pick(book.schedules());
+    let site = setup.point(earlier.point);
+    let net = book.net(site.account, earlier.hour).unwrap_or(0);
+    let (energy, price) = match earlier.direction {
+        Direction::Injection => (-net, 0),
+        Direction::Withdrawal => (net, GREATEST_PRICE),
+    };
+    let points: Vec<(u8, i64)> = (1..)
+        .zip(&setup.points)
+        .filter(|(_, point)| point.account == site.account && point.zone != site.zone)
+        .map(|(number, point)| {
+            let greatest = greatest(point, earlier.direction);
+            (number, energy.min(greatest.into()))
+        })
+        .filter(|&(_, most)| most > 0)
+        .collect();
+    if points.is_empty() {
+        return None;
+    }
+    let (point, most) = random.pick(&points);
+    Some(Request {
+        kind: kind::SCHEDULE,
+        side: earlier.direction as u8,
+        first: earlier.hour,
+        quantity: random.within(1..=most as u64 / 8 + 1) as u32,
+        point,
+        price,
+        ..Request::default()
+    })
+}
+
+/// The most that a point takes in a direction.
+fn greatest(point: &Point, direction: Direction) -> u32 {
+    match direction {
+        Direction::Injection => point.greatest_injection,
+        Direction::Withdrawal => point.greatest_withdrawal,
     }
 }
 
@@ -108,8 +158,19 @@ fn price(random: &mut Random) -> u32 {
 pub(crate) fn settle(random: &mut Random, book: &Book, careless: bool) -> Step {
     let setup = book.setup();
     let count = setup.price_table_length() / 4;
+    let hours = setup.estimates.len();
+    // Often national prices are neither the lowest nor the highest, so that
+    // zones lie on both sides of them.
+    let amid = random.chance(50);
     let mut prices: Vec<u8> = (0..count)
-        .flat_map(|_| price(random).to_le_bytes())
+        .flat_map(|at| {
+            let price = if amid && at < hours {
+                random.pick(&PRICES[1..PRICES.len() - 1])
+            } else {
+                price(random)
+            };
+            price.to_le_bytes()
+        })
         .collect();
     let mut results = book.schedules().len();
     let mut balances = 8 * setup.operators.len();

@@ -31,8 +31,12 @@ pub(crate) fn setup(random: &mut Random, roomy: bool) -> Setup {
         even_out(random, &mut setup);
     }
     for _ in 0..points {
-        let point = point(random, &setup);
+        let account = random.one_of(setup.accounts.len());
+        let point = point(random, &setup, account);
         setup.points.push(point);
+    }
+    if random.chance(25) {
+        spread_out(random, &mut setup);
     }
     setup
 }
@@ -143,8 +147,27 @@ fn margin(random: &mut Random, roomy: bool) -> u32 {
     }
 }
 
-fn point(random: &mut Random, setup: &Setup) -> Point {
-    let account = random.one_of(setup.accounts.len());
+/// Gives each of the first accounts a point more in two zones, where there is
+/// place for them; often both are mixed.
+fn spread_out(random: &mut Random, setup: &mut Setup) {
+    setup.zones = setup.zones.max(3);
+    for account in 1..=setup.accounts.len().min(4) as u8 {
+        let mixed = random.chance(50);
+        let zone = random.one_of(setup.zones.into());
+        for zone in [zone, zone % setup.zones + 1] {
+            if setup.points.len() < 64 {
+                let mut point = point(random, setup, account);
+                point.zone = zone;
+                if mixed {
+                    point.kind = PointKind::Mixed;
+                }
+                setup.points.push(point);
+            }
+        }
+    }
+}
+
+fn point(random: &mut Random, setup: &Setup, account: u8) -> Point {
     let kind = match setup.account(account).kind {
         _ if random.chance(45) => PointKind::Mixed,
         Direction::Injection => PointKind::Injection,
