@@ -5,9 +5,13 @@ ghost use Rattle.image.specs.Valid.{isBook, bookIn};
 ghost use Rattle.book.specs.Members.{IsAccount};
 ghost use Rattle.valuation.specs.Tables.{Priced};
 ghost use Rattle.valuation.specs.Registered.{AllRegistered};
+ghost use Rattle.settlement.specs.Judging.{InOrder};
 use audit::whole::is_book;
 use book::state::schedule_count;
-use settlement::judging::judge_schedules;
+use rules::Placed;
+use rules::limits::MOST_SCHEDULES;
+use settlement::judging::judge_all;
+use settlement::judging::prioritised_in;
 use settlement::settle::no_results;
 use settlement::settle::price_count;
 use setup::counts::PRICE_WIDTH;
@@ -15,44 +19,62 @@ use setup::counts::counts;
 use test_lines::hour_line;
 use valuation::hours::value_hour;
 use valuation::prices::too_high;
-use valuation::registered::nothing_registered;
+use valuation::registered::no_charges;
+use valuation::registered::no_energy;
 
 // The lines of an account.
-fn show_account(book: &[u8], prices: &[u8], registered: &[u64], number: u8)
+fn show_account(book: &[u8], prices: &[u8], energy: &[u32], charges: &[u64], number: u8)
     requires { ⌜ Priced (now book) (now prices) × IsAccount (bookIn (now book)) number ⌝ }
-    requires { ⌜ AllRegistered (now book) (now prices) (now registered) ⌝ }
+    requires { ⌜ AllRegistered (now book) (now prices) (now energy) (now charges) ⌝ }
 {
     let n = counts(book);
     let mut hour: u8 = 1;
     while hour <= n.hours {
-        let valued = value_hour(book, prices, registered, number, hour);
+        let valued = value_hour(book, prices, energy, charges, number, hour);
         hour_line(number, hour, valued);
         hour = hour + 1;
     }
 }
 
 // The lines of all accounts.
-fn show_accounts(book: &[u8], prices: &[u8], registered: &[u64])
+fn show_accounts(book: &[u8], prices: &[u8], energy: &[u32], charges: &[u64])
     requires { ⌜ Priced (now book) (now prices) ⌝ }
-    requires { ⌜ AllRegistered (now book) (now prices) (now registered) ⌝ }
+    requires { ⌜ AllRegistered (now book) (now prices) (now energy) (now charges) ⌝ }
 {
     let n = counts(book);
     let mut number: u8 = 1;
     while number <= n.accounts {
-        show_account(book, prices, registered, number);
+        show_account(book, prices, energy, charges, number);
         number = number + 1;
     }
 }
 
-// Judges the schedules that stand and values each account hour.
+// Judges the schedules in their order and values each account hour.
+fn show_in_order(book: &[u8], prices: &[u8], order: [Placed; MOST_SCHEDULES], n: usize)
+    requires { ⌜ Priced (now book) (now prices) × InOrder (now book) order n ⌝ }
+{
+    let mut results = no_results();
+    let mut energy = no_energy();
+    let mut charges = no_charges();
+    judge_all(
+        book,
+        prices,
+        order,
+        n,
+        &mut energy,
+        &mut charges,
+        &mut results,
+    );
+    show_accounts(book, prices, &energy, &charges);
+}
+
+// The lines of a book at a price table for it.
 fn show_valued(book: &[u8], prices: &[u8])
     requires { ⌜ Priced (now book) (now prices) ⌝ }
 {
-    let standing = schedule_count(book) as usize;
-    let mut results = no_results();
-    let mut registered = nothing_registered();
-    judge_schedules(book, prices, standing, &mut registered, &mut results);
-    show_accounts(book, prices, &registered);
+    let n = schedule_count(book) as usize;
+    let order = prioritised_in(book, n);
+    show_in_order(book, prices, order, n);
 }
 
 // Prints nothing where the bytes are no book or the price table is not one for it.

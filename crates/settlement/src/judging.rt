@@ -5,8 +5,8 @@ ghost use lib.ListN.{length, take};
 ghost use Rattle.rules.specs.Settlement.{placed};
 ghost use Rattle.image.specs.Valid.{isBook, bookIn, scheduleOk};
 ghost use Rattle.valuation.specs.Tables.{Priced, setupIn};
-ghost use Rattle.valuation.specs.Registered.{nothingRegistered};
-ghost use Rattle.settlement.specs.Judging.{RoomFor, noResults, InOrder, NoneJudged, Judges, AllJudged, DrawnUp};
+ghost use Rattle.valuation.specs.Congruity.{nothingUsed};
+ghost use Rattle.settlement.specs.Judging.{RoomFor, InOrder, NoneJudged, Judges, Adds, AllJudged};
 use image::layout::SCHEDULE_WIDTH;
 use image::layout::SCHEDULES_OFFSET;
 use image::schedules::schedule_at;
@@ -20,7 +20,8 @@ use valuation::congruity::nothing_used;
 use valuation::congruity::result_of;
 use valuation::congruity::use_up;
 use valuation::registered::carried_by;
-use valuation::registered::gather;
+use valuation::registered::gather_cct;
+use valuation::registered::gather_energy;
 
 // The `n` schedules of a book, each with its place.
 fn placed_in(book: &[u8], n: usize) -> [Placed; MOST_SCHEDULES]
@@ -39,57 +40,80 @@ fn placed_in(book: &[u8], n: usize) -> [Placed; MOST_SCHEDULES]
 }
 
 // Judges a schedule after those that the tables hold: its result, what it uses up of the limits, and what it registers in its account hour.
-fn judge(book: &[u8], prices: &[u8], used: &mut [u32], registered: &mut [u64], x: Schedule) -> u8
+fn judge(
+    book: &[u8],
+    prices: &[u8],
+    used: &mut [u32],
+    energy: &mut [u32],
+    charges: &mut [u64],
+    x: Schedule,
+) -> u8
     requires { ⌜ Priced (now book) (now prices) × (scheduleOk (setupIn (now book)) x ≡ true) ⌝ }
-    requires { ⌜ RoomFor x (now used) (now registered) ⌝ }
-    ensures { λ r. ⌜ Judges (now (book .entry)) (now (prices .entry)) x r (now (used .entry)) (now (used .exit)) (now (registered .entry)) (now (registered .exit)) ⌝ }
+    requires { ⌜ RoomFor x (now used) (now energy) (now charges) ⌝ }
+    ensures limits { λ r. ⌜ Judges (now (book .entry)) (now (prices .entry)) x r (now (used .entry)) (now (used .exit)) ⌝ }
+    ensures sums { λ r. ⌜ Adds (now (book .entry)) (now (prices .entry)) x r (now (energy .entry)) (now (energy .exit)) (now (charges .entry)) (now (charges .exit)) ⌝ }
 {
     let site = point(book, x.point);
     let result = result_of(book, prices, used, site, x);
     use_up(used, site.account, x, result);
     let more = carried_by(book, prices, site, x, result);
-    gather(registered, site.account, x.hour, more);
+    let injected = more.injected;
+    let withdrawn = more.withdrawn;
+    let cct = more.cct;
+    gather_energy(energy, site.account, x.hour, injected, withdrawn);
+    gather_cct(charges, site.account, x.hour, cct);
     result
 }
 
-// Judges the first `n` of an order, one after the other.
-fn judge_all(
+// Judges the first `n` of an order, one after the other, with `used` for what they use up.
+fn judge_each(
     book: &[u8],
     prices: &[u8],
     order: [Placed; MOST_SCHEDULES],
     n: usize,
     used: &mut [u32],
-    registered: &mut [u64],
+    energy: &mut [u32],
+    charges: &mut [u64],
     results: &mut [u8],
 )
     requires { ⌜ Priced (now book) (now prices) ⌝ }
     requires { ⌜ InOrder (now book) order n ⌝ }
-    requires { ⌜ NoneJudged (now used) (now registered) (now results) ⌝ }
-    ensures { λ _. ⌜ AllJudged (now (book .entry)) (now (prices .entry)) (now (used .exit)) (now (registered .exit)) (now (results .exit)) ⌝ }
+    requires { ⌜ (now used ≡ nothingUsed) × NoneJudged (now energy) (now charges) (now results) ⌝ }
+    ensures { λ _. ⌜ AllJudged (now (book .entry)) (now (prices .entry)) (now (energy .exit)) (now (charges .exit)) (now (results .exit)) ⌝ }
 {
     let mut k = 0;
     while k < n {
         let next = order[k];
-        let result = judge(book, prices, used, registered, next.schedule);
+        let result = judge(book, prices, used, energy, charges, next.schedule);
         results[next.place as usize - 1] = result;
         k = k + 1;
     }
 }
 
-// Judges the `n` schedules of a book in order of priority.
-pub fn judge_schedules(
+// Judges the first `n` of an order, which are all schedules of the book.
+pub fn judge_all(
     book: &[u8],
     prices: &[u8],
+    order: [Placed; MOST_SCHEDULES],
     n: usize,
-    registered: &mut [u64],
+    energy: &mut [u32],
+    charges: &mut [u64],
     results: &mut [u8],
 )
-    requires { ⌜ Priced (now book) (now prices) × (n ≡ length (bookIn (now book) .schedules)) ⌝ }
-    requires { ⌜ (now registered ≡ nothingRegistered) × (now results ≡ noResults) ⌝ }
-    ensures { λ _. ⌜ DrawnUp (now (book .entry)) (now (prices .entry)) (now (registered .exit)) (now (results .exit)) ⌝ }
+    requires { ⌜ Priced (now book) (now prices) ⌝ }
+    requires { ⌜ InOrder (now book) order n ⌝ }
+    requires { ⌜ NoneJudged (now energy) (now charges) (now results) ⌝ }
+    ensures { λ _. ⌜ AllJudged (now (book .entry)) (now (prices .entry)) (now (energy .exit)) (now (charges .exit)) (now (results .exit)) ⌝ }
+{
+    let mut used = nothing_used();
+    judge_each(book, prices, order, n, &mut used, energy, charges, results);
+}
+
+// The `n` schedules of a book in order of priority.
+pub fn prioritised_in(book: &[u8], n: usize) -> [Placed; MOST_SCHEDULES]
+    requires { ⌜ (isBook (now book) ≡ true) × (n ≡ length (bookIn (now book) .schedules)) ⌝ }
+    ensures { λ r. ⌜ InOrder (now (book .entry)) r n ⌝ }
 {
     let all = placed_in(book, n);
-    let order = in_order(all, n);
-    let mut used = nothing_used();
-    judge_all(book, prices, order, n, &mut used, registered, results);
+    in_order(all, n)
 }

@@ -1,4 +1,4 @@
--- The result is the rules' after the schedules before it, and both tables are brought up to date by that result.
+-- The result is the rules' after the schedules before it, and the tables are brought up to date by that result.
 use mathlib.Core.Path.{sym, ap}
 use borrow.Author.Needs.{needs}
 use Rattle.rules.specs.declared.Point.{Point}
@@ -9,19 +9,19 @@ use Rattle.settlement.proofs.judging.judge.Tie as tie
 
 point-requires : tie.Need-point-requires
 point-requires c κs =
-    let pre = c .before .before .before .before .pre in
+    let pre = c .before .before .before .before .before .pre in
     point-stands _ (pre .0 .0 .is-book) _ (pre .0 .1)
 
 result-of-requires : tie.Need-result-of-requires
 result-of-requires c κs =
     let read = c .before in
-    let pre = read .before .before .before .before .before .pre in
+    let pre = read .before .before .before .before .before .before .pre in
     (pre .0 .0, (on-point _ (pre .0 .0 .is-book) _ (pre .0 .1) _ (read .point .ensures), pre .1 .used-whole))
 
 use-up-requires : tie.Need-use-up-requires
 use-up-requires c κs =
     let read = c .before .before .before in
-    let pre = read .before .before .before .before .before .pre in
+    let pre = read .before .before .before .before .before .before .pre in
     let h = pre .0 .0 .is-book in
     let ok = pre .0 .1 in
     let on = on-point _ h _ ok _ (read .point .ensures) in
@@ -30,35 +30,47 @@ use-up-requires c κs =
 carried-by-requires : tie.Need-carried-by-requires
 carried-by-requires c κs =
     let read = c .before .before .before .before .before .before in
-    let pre = read .before .before .before .before .before .pre in
+    let pre = read .before .before .before .before .before .before .pre in
     (pre .0 .0, on-point _ (pre .0 .0 .is-book) _ (pre .0 .1) _ (read .point .ensures))
 
-gather-requires : tie.Need-gather-requires
-gather-requires c κs =
-    let carried = c .before in
+gather-energy-requires : tie.Need-gather-energy-requires
+gather-energy-requires c κs =
+    let carried = c .before .before .before .before in
     let read = carried .before .before .before .before .before .before .before in
-    let start = read .before .before .before .before .before in
+    let start = read .before .before .before .before .before .before in
     let pre = start .pre in
-    let on = on-point _ (pre .0 .0 .is-book) _ (pre .0 .1) _ (read .point .ensures) in (
-      (pre .1 .registered-whole, in-lanes (pre .0 .0) on),
-      carried-fits (pre .0 .0) on _ _ (carried .carried-by .ensures) (start .args .registered .now) (pre .1 .registered-room),
-    )
+    let on = on-point _ (pre .0 .0 .is-book) _ (pre .0 .1) _ (read .point .ensures) in
+    let fits = carried-fits (pre .0 .0) on _ _ (carried .carried-by .ensures) (start .args .energy .now) (start .args .charges .now) (pre .1 .energy-room) (pre .1 .charges-room) in
+    ((pre .1 .energy-whole, in-lanes (pre .0 .0) on), fits .0)
+
+gather-cct-requires : tie.Need-gather-cct-requires
+gather-cct-requires c κs =
+    let carried = c .before .before .before .before .before .before .before .before in
+    let read = carried .before .before .before .before .before .before .before in
+    let start = read .before .before .before .before .before .before in
+    let pre = start .pre in
+    let on = on-point _ (pre .0 .0 .is-book) _ (pre .0 .1) _ (read .point .ensures) in
+    let fits = carried-fits (pre .0 .0) on _ _ (carried .carried-by .ensures) (start .args .energy .now) (start .args .charges .now) (pre .1 .energy-room) (pre .1 .charges-room) in
+    ((pre .1 .charges-whole, in-lanes (pre .0 .0) on), fits .1)
 
 returns : tie.Need-returns
 returns c =
-    let gathered = c .before .before in
-    let carried = gathered .before .before in
+    let charged = c .before .before in
+    let gathered = charged .before .before .before .before in
+    let carried = gathered .before .before .before .before .before in
     let used = carried .before .before .before in
     let judgement = used .before .before in
     let read = judgement .before .before in
-    let pre = read .before .before .before .before .before .pre in
+    let pre = read .before .before .before .before .before .before .pre in
     let on = on-point _ (pre .0 .0 .is-book) _ (pre .0 .1) _ (read .point .ensures) in
-    let account = ap (λ (p : Point). p .account) (sym (on .its-point)) in
-    record {
-      result-is = judgement .result-of .ensures .0;
-      uses-up = λ before place by. used .use-up .ensures _ _ _ before place account by;
-      registers = λ before place by. carried-next (pre .0 .0) on _ _ (carried .carried-by .ensures) _ _ before place (gathered .gather .ensures) by;
-    }
+    let account = ap (λ (p : Point). p .account) (sym (on .its-point)) in (
+      record {
+        result-is = judgement .result-of .ensures .0;
+        uses-up = λ before place by. used .use-up .ensures _ _ _ before place account by;
+      },
+      λ before place by.
+          carried-next (pre .0 .0) on _ _ (carried .carried-by .ensures) _ _ _ _ before place (gathered .gather-energy .ensures) (charged .gather-cct .ensures) by,
+    )
 
 pub judge-spec : {M : Type 1} → statement M
 judge-spec =
@@ -68,7 +80,9 @@ judge-spec =
     result-of-requires
     use-up-requires
     carried-by-requires
-    gather-requires
+    gather-energy-requires
+    gather-cct-requires
+    (λ c. search needs)
     (λ c. search needs)
     (λ c. search needs)
     returns)
