@@ -26,7 +26,7 @@ use units::CentsPerMwh;
 use units::Kwh;
 
 // The results.
-const REGISTERED: u8 = 0;
+pub const REGISTERED: u8 = 0;
 
 const OVER_POINT: u8 = 1;
 
@@ -168,7 +168,7 @@ fn share(quantity: Kwh, result: u8) -> Kwh
 }
 
 // Adds `q` to a cell.
-fn add_to(table: &mut [u32], k: usize, q: u32)
+pub fn add_to(table: &mut [u32], k: usize, q: u32)
     requires { ⌜ (k < length (now table)) × (getD (now table) k 0 + q < 2 ^ 32) ⌝ }
     ensures { λ _. ⌜ now (table .exit) ≡ set (now (table .entry)) k (getD (now (table .entry)) k 0 + q) ⌝ }
 {
