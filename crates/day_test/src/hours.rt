@@ -77,7 +77,7 @@ fn show_valued(book: &[u8], prices: &[u8])
     show_in_order(book, prices, order, n);
 }
 
-// Prints nothing where the bytes are no book or the price table is not one for it.
+// The lines of a book, where the price table is one for it.
 fn show_priced(book: &[u8], prices: &[u8])
     requires { ⌜ isBook (now book) ≡ true ⌝ }
 {
@@ -91,7 +91,7 @@ fn show_priced(book: &[u8], prices: &[u8])
     show_valued(book, prices);
 }
 
-// The lines of every account hour.
+// The lines of every account hour: none where the bytes are no book, or the price table is not one for it.
 pub fn show_hours(prices: &[u8], book: &[u8]) {
     if is_book(book) {
         show_priced(book, prices);
