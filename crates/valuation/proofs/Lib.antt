@@ -9,10 +9,10 @@ pub mod CongruityLaws
 pub mod RegisteredLaws
 -- ScheduleLaws: what a judged schedule registers.
 pub mod ScheduleLaws
--- HourLaws: an account hour valued.
-pub mod HourLaws
 -- BalanceLaws: sums of balances, and an amount credited to an operator.
 pub mod BalanceLaws
+-- HourLaws: an account hour valued.
+pub mod HourLaws
 -- AmountLaws: the hourly amounts added up, over hours and accounts.
 pub mod AmountLaws
 -- BalanceTotals: the amounts of the first operators, one after the other.
