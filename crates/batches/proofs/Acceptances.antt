@@ -2,7 +2,7 @@
 -- checks that it passed keep the book sound.
 use Prim.Native.Nat.{ℕ, _+_, _-_}
 use mathlib.Core.Path.{_≡_, refl, sym, ap, _∙_}
-use mathlib.Core.List.{List}
+use mathlib.Core.List.{List, [], _∷_}
 use mathlib.Core.Option.{none, some}
 use mathlib.Core.Bool.{Bool, true}
 use native.Mathlib.Omega.{arith}
@@ -41,7 +41,7 @@ module _ (s t : List ℕ) (h : isBook s ≡ true) where
       (e
       ∙ ap batchOpened (book-image s h)
       ∙ write-saved mostHours bookSize (bookIn s) (book-fits s h) (omega arith))
-      (apply-keeps savePart (bookIn s) (book-is-sound s h) (passed-11 (bookIn s) q openBatch (decided-clear openBatch (bookIn s) q (d q)))))
+      (apply-keeps savePart (bookIn s) (book-is-sound s h) (passed-11 (bookIn s) (q ∷ []) openBatch (decided-clear openBatch (bookIn s) q (d q)))))
 
   -- by what is wrong with it
   pub opening-answered : (fault : Checked) → ((q : Request) → fault ≡ checked (decided openBatch (bookIn s) q))
@@ -59,12 +59,12 @@ module _ (s t : List ℕ) (h : isBook s ≡ true) where
   undone-answered n d g e =
       answered-all undo s (accepted n) t (λ q.
       let clear = decided-clear undo (bookIn s) q (d q) in
-      let (p, saved) = passed-13 (bookIn s) q undo refl clear in
+      let (p, saved) = passed-13 (bookIn s) (q ∷ []) undo refl clear in
       accepted-answered undo s q h t n (d q) g
       (e
       ∙ ap (λ (x : List ℕ). batchEnded (partCopied x (savedOffset mostHours) presentOffset)) (book-image s h)
       ∙ write-restored mostHours bookSize (bookIn s) (book-fits s h) p (omega arith) saved)
-      (apply-keeps restorePart (bookIn s) (book-is-sound s h) (passed-11 (bookIn s) q undo clear)))
+      (apply-keeps restorePart (bookIn s) (book-is-sound s h) (passed-11 (bookIn s) (q ∷ []) undo clear)))
 
   -- 7: the saved part cleared, and the flag
   pub kept-answered : ((q : Request) → decided keep (bookIn s) q ≡ none) → t ≡ batchEnded s → AnsweredAll keep s (accepted 0) t
@@ -74,7 +74,7 @@ module _ (s t : List ℕ) (h : isBook s ≡ true) where
       (e
       ∙ ap batchEnded (book-image s h)
       ∙ write-dropped mostHours bookSize (bookIn s) (book-fits s h))
-      (apply-keeps dropSaved (bookIn s) (book-is-sound s h) (passed-11 (bookIn s) q keep (decided-clear keep (bookIn s) q (d q)))))
+      (apply-keeps dropSaved (bookIn s) (book-is-sound s h) (passed-11 (bookIn s) (q ∷ []) keep (decided-clear keep (bookIn s) q (d q)))))
 
   -- 8: a loop over the rows, and the phase
   pub closed-answered : (n : ℕ) → ((q : Request) → decided closeGate (bookIn s) q ≡ none) → n ≡ length (bookIn s .part .rows)
@@ -87,4 +87,4 @@ module _ (s t : List ℕ) (h : isBook s ≡ true) where
       ∙ ap (λ (x : List ℕ). splice (sweep ended rowWidth x (presentOffset + rowOffset 0) n) phaseOffset (le 1 2)) (book-image s h)
       ∙ write-closed mostHours bookSize (bookIn s) (book-fits s h) n (presentOffset + rowOffset 0) count
       (statuses-small (book-is-sound s h .part-sound .rows-sound)) refl)
-      (apply-keeps shutGate (bookIn s) (book-is-sound s h) (passed-12 (bookIn s) q closeGate refl (decided-clear closeGate (bookIn s) q (d q)))))
+      (apply-keeps shutGate (bookIn s) (book-is-sound s h) (passed-12 (bookIn s) (q ∷ []) closeGate refl (decided-clear closeGate (bookIn s) q (d q)))))

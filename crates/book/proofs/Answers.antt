@@ -2,7 +2,7 @@
 -- them the image of the next one, which is sound.
 use Prim.Native.Nat.{ℕ}
 use mathlib.Core.Path.{_≡_}
-use mathlib.Core.List.{List, []}
+use mathlib.Core.List.{List, [], _∷_}
 use mathlib.Core.Option.{none, some}
 use mathlib.Core.Bool.{true}
 use native.Mathlib.Omega.{arith}
@@ -24,9 +24,9 @@ use Rattle.book.specs.Kinds.{decided, outcomeOn, bookAfter}
 use Rattle.book.proofs.StateLaws.{book-image}
 
 -- where nothing is decided every check passed
-pub decided-clear : (k : Kind) (b : Book) (q : Request) → decided k b q ≡ none → Clear (stateChecks b k q)
+pub decided-clear : (k : Kind) (b : Book) (q : Request) → decided k b q ≡ none → Clear (stateChecks b k (q ∷ []))
 unfolding decided
-decided-clear k b q e = clear (stateChecks b k q) e
+decided-clear k b q e = clear (stateChecks b k (q ∷ [])) e
 
 -- 11, of every kind
 pub in-wrong-phase : (b : Book) (q : Request) (k : Kind) → (b .phase ≡ phaseOf k → ⊥) → decided k b q ≡ some WrongPhase
@@ -45,8 +45,8 @@ module _ (k : Kind) (s : List ℕ) (q : Request) (h : isBook s ≡ true) where
   refused-answered r e = (rw e, (rw e (book-image s h), h))
 
   -- an acceptance that wrote the next book
-  pub accepted-answered : (t : List ℕ) (n : ℕ) → decided k (bookIn s) q ≡ none → n ≡ given k (bookIn s) q
-      → t ≡ bookBytes (next k (bookIn s) q) → SoundBook (next k (bookIn s) q) → Answered k s q (accepted n) t
+  pub accepted-answered : (t : List ℕ) (n : ℕ) → decided k (bookIn s) q ≡ none → n ≡ given k (bookIn s) (q ∷ [])
+      → t ≡ bookBytes (next k (bookIn s) (q ∷ [])) → SoundBook (next k (bookIn s) (q ∷ [])) → Answered k s q (accepted n) t
   unfolding outcomeOn bookAfter
   accepted-answered t n e g w sound =
       (rw (e, g), (rw (e, w), rw w (image-is-book mostHours bookSize _ (omega arith) (book-sound _ sound))))

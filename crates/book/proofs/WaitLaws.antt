@@ -1,7 +1,7 @@
 -- The pending rows of one account, row by row: what the table holds and the pending sums of the rows that are left make those of all rows.
 use Prim.Native.Nat.{ℕ, zero, suc, _+_, _-_, _*_, _≤_}
 use mathlib.Core.Path.{_≡_, refl, sym, ap, _∙_}
-use mathlib.Core.List.{List, [], _∷_}
+use mathlib.Core.List.{List, [], _∷_, _++_}
 use mathlib.Core.Bool.{Bool, true, false, _&&_, _||_, and-true, and-false, or-assoc, or-false}
 use native.Mathlib.Nat.{add-zero}
 use native.Mathlib.Omega.{arith}
@@ -15,13 +15,14 @@ use Rattle.rules.specs.Basics.{if_then_else_, total, anyPasses, nth}
 use Rattle.rules.specs.Limits.{mostEnergy, mostHours}
 use Rattle.rules.specs.Books.{noRow}
 use Rattle.rules.specs.Registration.{pending, includesHour, alike, waiting}
+use Rattle.rules.proofs.Basics.Totals.{total-append}
 use Rattle.image.specs.Layout.{presentOffset, rowOffset}
 use Rattle.image.specs.Valid.{isBook, bookIn}
 use Rattle.image.specs.Tables.{cellOf, InTable, Tabled, Raised}
 use Rattle.image.proofs.Tables.SumLaws.{raised-cell, raised-most, zero-at}
 use Rattle.image.proofs.Reading.RowBytes.{row-at}
 use Rattle.book.specs.Members.{IsHour, IsRow, numberedRow}
-use Rattle.book.specs.Waits.{waitCell, Waits, WaitsOf, noWaits, WaitAdded, waitsSize}
+use Rattle.book.specs.Waits.{waitCell, Waits, WaitsOf, noWaits, WaitAdded, waitsSize, tabledHour, nettedHour}
 use Rattle.book.proofs.StateLaws.{book-is-sound, numbered-row-stands}
 
 -- ---- one row
@@ -116,6 +117,35 @@ waiting-last a rows k table e n f =
       bounded = λ j. omega (arith, all .bounded j);
     }
 
+-- ---- rows more, behind those that the table holds
+
+waiting-append : (side a h : ℕ) (xs ys : List Row) → waiting side (xs ++ ys) a h ≡ waiting side xs a h + waiting side ys a h
+unfolding waiting
+waiting-append side a h xs ys = total-append _ xs ys
+
+pub waits-with : (a : ℕ) (rows added : List Row) (table : List ℕ) → WaitsOf rows a table → Waiting a (rows ++ added) added table (length rows * mostEnergy)
+waits-with a rows added table w =
+    record {
+      sums = λ side h i. omega (arith, w .waits-at side h i, waiting-append side a h rows added);
+      bounded = λ k. omega (arith, w .bounded k);
+    }
+
+pub waits-next : (a : ℕ) (all left : List Row) (r : Row) (before after : List ℕ) (n : ℕ) → WaitAdded before after r a
+    → Waiting a all (r ∷ left) before (n * mostEnergy) → Waiting a all left after ((n + 1) * mostEnergy)
+waits-next a all left r before after n w f =
+    record {
+      sums = λ side h i. omega (arith, w .share side h i, f .sums side h i, waiting-step side a h r left);
+      bounded = λ k. omega (arith, w .grown k, f .bounded k);
+    }
+
+pub waits-all : (a : ℕ) (all : List Row) (table : List ℕ) → length table ≡ waitsSize → Waiting a all [] table (length all * mostEnergy) → WaitsOf all a table
+waits-all a all table n f =
+    record {
+      whole = n;
+      waits-at = λ side h i. omega (arith, f .sums side h i, waiting-done side a h);
+      bounded = λ k. omega (arith, f .bounded k);
+    }
+
 -- ---- a book
 
 -- the first byte of a row is its proposer, the last its status
@@ -179,3 +209,9 @@ module _ (p : Row → Bool) (rows : List Row) where
 pub side-hour : (s : List ℕ) → isBook s ≡ true → (side h : ℕ) → 1 ≤ side → side ≤ 2 → IsHour (bookIn s) h → Waits side h
 side-hour s b side h low high i =
     record { side-low = low; side-high = high; hour-low = i .0; hour-high = omega (arith, i .1, book-is-sound s b .setup-sound .hours-high) }
+
+-- what is read off a table of the account's pending sums among the rows
+pub tabled-netted : (s : List ℕ) → isBook s ≡ true → (rows : List Row) (a h : ℕ) (table : List ℕ) → WaitsOf rows a table → IsHour (bookIn s) h
+    → tabledHour rows table a h ≡ nettedHour rows a h
+tabled-netted s b rows a h table w i =
+    rw (w .waits-at 1 h (side-hour s b 1 h (omega arith) (omega arith) i), w .waits-at 2 h (side-hour s b 2 h (omega arith) (omega arith) i))

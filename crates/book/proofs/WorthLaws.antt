@@ -16,7 +16,7 @@ use Rattle.rules.specs.Books.{Setup, noRow, estimateAt, operatorOf, accountCoun
 use Rattle.rules.specs.Registration.{pending, includesHour, buyer, seller, counted, waiting, withStatus, mark, bought, sold, netOf, pendingSales, accountHour, afterTrade, exposed, ofOperator, exposureOf, exposure, exposureWith}
 use Rattle.rules.proofs.Basics.Totals.{total-zero, total-append, total-add, total-times, total-cong, shared}
 use Rattle.rules.proofs.Basics.Searches.{each-append}
-use Rattle.rules.proofs.Rows.AccountHours.{moved-confirm, waiting-end, hour-takes-all, exposure-added}
+use Rattle.rules.proofs.Rows.AccountHours.{moved-confirm, waiting-end, hour-takes-all, exposure-added, pending-move-nothing}
 use Rattle.book.specs.Worth.{netWith, shortWorth, accountShort, spanPrice, saleWorth}
 
 -- ---- tests
@@ -144,6 +144,15 @@ module _ (u : Setup) (o : ℕ) where
       let nets : shortWorth u (netOf (rows ++ added)) o ≡ shortWorth u (netWith rows added) o =
       ap (λ (net : ℕ → ℕ → Net). shortWorth u net o) (λ i a h. hour-takes-all rows added a h i .net) in
       omega (arith, exposure-added u rows added o, exposure-parts (each-append known new), nets, total-append (saleWorth u o) rows added)
+
+  -- pending rows more add what each adds as a sale
+  pub exposure-more : (rows added : List Row) → Each Known rows → Each Known added → Each (λ r. pending r ≡ true) added
+      → exposureWith u rows added o ≡ exposureWith u rows [] o + total (saleWorth u o) added
+  unfolding total
+  exposure-more rows added known new waits =
+      let nets : shortWorth u (netWith rows added) o ≡ shortWorth u (netWith rows []) o =
+      ap (λ (net : ℕ → ℕ → Net). shortWorth u net o) (λ i a h. pending-move-nothing rows a h waits i) in
+      omega (arith, exposure-split rows added known new, exposure-split rows [] known nil, nets)
 
   -- an hour that takes a row once confirmed, while the pending row is still counted, is exposed to that row twice
   confirmed-hour : (rows : List Row) (n a h : ℕ) → pending (nth rows n noRow) ≡ true

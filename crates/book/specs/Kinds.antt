@@ -1,6 +1,8 @@
--- What a request that was read and is in range is answered on a book, and the book after it (document 01, "Registration", "Verdicts").
+-- What a request that was read by itself and is in range is answered on a book, and the book after it (document 01, "Registration",
+-- "Verdicts").
 use Prim.Native.Nat.{_^_, _<_}
 use mathlib.Core.Path.{_≡_}
+use mathlib.Core.List.{[], _∷_}
 use mathlib.Core.Option.{Option, none}
 use mathlib.Core.Bool.{false}
 use Rattle.rules.specs.declared.Request.{Request}
@@ -13,15 +15,15 @@ use Rattle.rules.specs.Calls.{stateChecks, next, given}
 
 -- what the state refuses it for, if anything: 11 to 20
 unfoldable pub decided : Kind → Book → Request → Option Refusal
-decided k b q = firstToApply (stateChecks b k q)
+decided k b q = firstToApply (stateChecks b k (q ∷ []))
 
 -- the answer
 unfoldable pub outcomeOn : Kind → Book → Request → Outcome
-outcomeOn k b q = outcomeOf (decided k b q) (given k b q)
+outcomeOn k b q = outcomeOf (decided k b q) (given k b (q ∷ []))
 
 -- the book after it: a refusal changes nothing
 unfoldable pub bookAfter : Kind → Book → Request → Book
-bookAfter k b q = unlessRefused (decided k b q) b (next k b q)
+bookAfter k b q = unlessRefused (decided k b q) b (next k b (q ∷ []))
 
 -- a request of that kind whose fields are in range of the book
 pub record Ready (k : Kind) (b : Book) (q : Request) : Type 0 where

@@ -7,6 +7,7 @@ use Rattle.units.specs.Units.{kwh}
 use Rattle.rules.specs.declared.Row.{Row}
 use Rattle.rules.specs.declared.AccountHour.{AccountHour}
 use Rattle.rules.specs.Limits.{mostHours, mostEnergy}
+use Rattle.rules.specs.Books.{sellingSide, buyingSide}
 use Rattle.rules.specs.Registration.{waiting, netOf, pendingSales, pendingPurchases}
 use Rattle.image.specs.Tables.{Room}
 use Rattle.book.specs.Netted.{netted}
@@ -48,6 +49,15 @@ pub record WaitAdded (before after : List ℕ) (r : Row) (a : ℕ) : Type 0 wher
   pub grown : (k : ℕ) → getD after k 0 ≤ getD before k 0 + mostEnergy
 
 -- ---- what is read off it
+
+-- the net position of an account hour by itself, and the pending sums that the table has for the hour
+abbrev pub tabledHour : List Row → List ℕ → ℕ → ℕ → AccountHour
+tabledHour rows table a h =
+    record {
+      net = netted (netOf rows a h);
+      sales = kwh (getD table (waitCell sellingSide h) 0);
+      purchases = kwh (getD table (waitCell buyingSide h) 0);
+    }
 
 -- the account hour, with its net position by itself
 abbrev pub nettedHour : List Row → ℕ → ℕ → AccountHour

@@ -9,7 +9,7 @@ ghost use Rattle.rules.specs.Registration.{alike};
 ghost use Rattle.image.specs.Valid.{isBook, bookIn};
 ghost use Rattle.image.specs.Tables.{Tabled, Raised};
 ghost use Rattle.book.specs.Members.{IsAccount, IsHour, IsRow, numberedRow};
-ghost use Rattle.book.specs.Waits.{waitCell, Waits, WaitsOf, RoomInWaits, noWaits, WaitAdded, nettedHour, waitsSize};
+ghost use Rattle.book.specs.Waits.{waitCell, Waits, WaitsOf, RoomInWaits, noWaits, WaitAdded, tabledHour, waitsSize};
 use crate::positions::net_at;
 use crate::state::row_count;
 use crate::state::row_offset;
@@ -37,7 +37,7 @@ fn wait_cell(side: u8, hour: u8) -> usize
 }
 
 // Adds the row's quantity to the cells of its hours, on its side.
-fn add_waiting(table: &mut [u32], r: Row)
+pub fn add_waiting(table: &mut [u32], r: Row)
     requires { ⌜ RoomInWaits (now table) (r .quantity .0) × Tabled mostHours r × (1 ≤ r .side) × (r .side ≤ 2) ⌝ }
     ensures { λ _. ⌜ Raised (now (table .entry)) (now (table .exit)) (waitCell (r .side) (r .first)) (r .last - r .first + 1) (r .quantity .0) ⌝ }
 {
@@ -108,9 +108,9 @@ fn wait_at(waits: &[u32], side: u8, hour: u8) -> u32
 
 // The net position of an account in an hour, from the book, with its pending sales and purchases, from the table.
 pub fn account_hour(book: &[u8], waits: &[u32], account: u8, hour: u8) -> AccountHour
-    requires { ⌜ (isBook (now book) ≡ true) × WaitsOf (bookIn (now book) .part .rows) account (now waits) ⌝ }
+    requires { ⌜ (isBook (now book) ≡ true) × (length (now waits) ≡ waitsSize) ⌝ }
     requires { ⌜ IsAccount (bookIn (now book)) account × IsHour (bookIn (now book)) hour ⌝ }
-    ensures { λ r. ⌜ r ≡ nettedHour (bookIn (now (book .entry)) .part .rows) account hour ⌝ }
+    ensures { λ r. ⌜ r ≡ tabledHour (bookIn (now (book .entry)) .part .rows) (now (waits .entry)) account hour ⌝ }
 {
     let net = net_at(book, account, hour);
     AccountHour {

@@ -59,7 +59,7 @@ fn fill_operators(operators: &mut [u8], book: &[u8])
 }
 
 // The operators of all accounts, side by side: entry a is that of account a.
-fn account_operators(book: &[u8]) -> [u8; ACCOUNT_OPERATORS]
+pub fn account_operators(book: &[u8]) -> [u8; ACCOUNT_OPERATORS]
     requires { ⌜ isBook (now book) ≡ true ⌝ }
     ensures { λ r. ⌜ AccountOperators (bookIn (now (book .entry)) .setup) r ⌝ }
 {
@@ -95,7 +95,7 @@ fn fill_prices(sums: &mut [u64], book: &[u8])
 }
 
 // The sums of the estimated prices: entry k is that of the hours 1 to k.
-fn price_sums(book: &[u8]) -> [u64; PRICE_SUMS]
+pub fn price_sums(book: &[u8]) -> [u64; PRICE_SUMS]
     requires { ⌜ isBook (now book) ≡ true ⌝ }
     ensures { λ r. ⌜ PriceSums (bookIn (now (book .entry)) .setup) r ⌝ }
 {
@@ -117,7 +117,7 @@ fn span_worth(sums: &[u64], first: u8, last: u8, quantity: Kwh) -> MilliCents
 }
 
 // What a row adds to the operator's exposure as a pending sale.
-fn sale_of(book: &[u8], sums: &[u64], operators: &[u8], operator: u8, r: Row) -> MilliCents
+pub fn sale_of(book: &[u8], sums: &[u64], operators: &[u8], operator: u8, r: Row) -> MilliCents
     requires { ⌜ SaleInputs (now book) (now sums) (now operators) × TradeInRange (bookIn (now book) .setup) r ⌝ }
     ensures meaning { λ m. ⌜ m .0 ≡ saleWorth (bookIn (now (book .entry)) .setup) operator r ⌝ }
     ensures bounded { λ m. ⌜ m .0 ≤ mostSaleWorth ⌝ }

@@ -2,8 +2,10 @@
 -- settle is always the same three bytes, so that the call is the settle of what it was lent.
 use Prim.Native.Nat.{ℕ}
 use mathlib.Core.Path.{_≡_, refl, sym, ap, _∙_}
-use mathlib.Core.List.{List}
+use mathlib.Core.List.{List, [], _∷_}
+use mathlib.Core.Option.{some}
 use mathlib.Core.Bool.{true, false}
+use borrow.Author.Tests.{eqb-true}
 use Rattle.wire.specs.Numbers.{Bytes, le}
 use Rattle.rules.specs.declared.Request.{Request}
 use Rattle.rules.specs.declared.Outcome.{Outcome}
@@ -12,15 +14,17 @@ use Rattle.rules.specs.declared.Refusal.the-variants.{NotABook}
 use Rattle.rules.specs.declared.Reading.the-variants.{Read, Unread}
 use Rattle.rules.specs.Basics.{bit}
 use Rattle.rules.specs.Verdicts.{refused}
-use Rattle.rules.specs.Requests.{room, reading, fieldBytes, write}
-use Rattle.rules.specs.Calls.{Call, Answer, Gives, carried, step}
+use Rattle.rules.specs.Requests.{settle, room, fieldIn, reading, isStrip, fieldBytes, write}
+use Rattle.rules.specs.Calls.{Call, Answer, Gives, carried, callKind, _oneOf_, refusal, step}
 use Rattle.rules.proofs.Records.RoundTrip.{read-writes-back}
 use Rattle.image.specs.Valid.{bookBytes, isBook, bookIn}
 use Rattle.settlement.specs.Settling.{settleRecord, settleCall}
 use Rattle.day.specs.Answers.{callAnswer, callWith}
 use Rattle.day.proofs.AnswerLaws.{call-on-book, call-on-no-book}
-use Rattle.day.proofs.Stages.{record-refused, call-refused}
-use Rattle.day.proofs.RequestLaws.{unread-checks, buffers-stay, other-kind, AnsweredSaying}
+use Rattle.rules.proofs.Checks.Stages.{bytes-refused}
+use Rattle.strips.proofs.CallLaws.{AnsweredStrip}
+use Rattle.day.proofs.Stages.{call-refused, call-decided}
+use Rattle.day.proofs.RequestLaws.{unread-checks, single-checks, buffers-stay, other-kind, AnsweredSaying}
 
 -- ---- settle
 
@@ -55,9 +59,11 @@ no-book-given s c h = rw (call-on-no-book s c h) (given _)
 
 module _ (s : List ℕ) (c : Call) (h : isBook s ≡ true) where
   -- of a record that says nothing
-  pub unread-given : (r : Refusal) → reading (c .bytes) ≡ Unread r → GivesBook (callAnswer s c) (refused r) s (c .results) (c .balances)
-  unread-given r e =
-      rw (call-refused s c h r (record-refused (bookIn s) c r (unread-checks (c .bytes) r e))) (given _, h)
+  pub unread-given : (r : Refusal) → isStrip (c .bytes) ≡ false → reading (c .bytes) ≡ Unread r
+      → GivesBook (callAnswer s c) (refused r) s (c .results) (c .balances)
+  unread-given r single e =
+      let checks = single-checks (c .bytes) (some r) single (unread-checks (c .bytes) r e) in
+      rw (call-refused s c h r (bytes-refused (bookIn s) c r checks)) (given _, h)
 
   -- of a request of kinds 1 to 9
   pub said-given : (q : Request) → reading (c .bytes) ≡ Read q → (q .kind ≡ 10 → ⊥) → (o : Outcome) (t : List ℕ) → AnsweredSaying q s o t
@@ -66,6 +72,22 @@ module _ (s : List ℕ) (c : Call) (h : isBook s ≡ true) where
       let n = other-kind (c .bytes) q e other in
       let stay = buffers-stay s c h q e (n .0) (n .1) in
       (record { outcome-given = x .0 c e; book-left = x .1 .0 c e; results-left = sym (stay .0); balances-left = sym (stay .1) }, x .1 .1)
+
+-- of a strip
+pub strip-given : (s : List ℕ) (c : Call) → isBook s ≡ true → isStrip (c .bytes) ≡ true → (o : Outcome) (t : List ℕ) → AnsweredStrip s (c .bytes) o t
+    → GivesBook (callAnswer s c) o t (c .results) (c .balances)
+strip-given s c h is o t x =
+    let other : callKind c oneOf (settle ∷ []) ≡ false = rw (eqb-true (fieldIn (c .bytes) 0) 11 is) in
+    let stay = call-decided s c h other (refusal (bookIn s) c) refl in
+    let on = call-on-book s c h in (
+      record {
+        outcome-given = x .0 c refl ∙ ap (λ (a : Answer (List ℕ)). a .outcome) (sym on);
+        book-left = x .1 .0 c refl ∙ ap (λ (a : Answer (List ℕ)). a .book) (sym on);
+        results-left = ap (λ (a : Answer (List ℕ)). a .results) (sym stay);
+        balances-left = ap (λ (a : Answer (List ℕ)). a .balances) (sym stay);
+      },
+      x .1 .1,
+    )
 
 -- of a settle
 pub settle-given : (s bytes prices results balances : List ℕ) (q : Request) → isBook s ≡ true → Bytes bytes → reading bytes ≡ Read q → q .kind ≡ 10

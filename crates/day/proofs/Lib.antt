@@ -1,9 +1,9 @@
 -- Laws of a day's calls.
 -- Images: calls on the bytes of a valid book are those on the book.
 pub mod Images
--- DoorLaws: a call on any bytes; a refused one changes no lent byte.
+-- AnswerLaws: a call on any bytes; a refused one changes no lent byte.
 pub mod AnswerLaws
--- Stages: what a call is refused for, stage by stage.
+-- Stages: what a call on the bytes of a book answers, by what it is refused for.
 pub mod Stages
 -- RequestLaws: what a request of kinds 1 to 9 is answered on a book, whatever record says it.
 pub mod RequestLaws
@@ -15,5 +15,7 @@ pub mod SettleLaws
 pub mod Readings
 -- Refusals: the numbers of a call's checks, of which none is 1.
 pub mod Refusals
+-- StripLaws: a strip of one record answers as that register, and an accepted strip leaves what its registers in turn would leave.
+pub mod StripLaws
 -- Theorem: demand 3 whole, and that no call of such a list answers 1.
 pub mod Theorem

@@ -7,7 +7,7 @@ use mathlib.Core.Option.{Option, none, some}
 use mathlib.Core.Bool.{Bool, true, false}
 use native.Mathlib.Omega.{arith}
 use lib.Dec.{eqb}
-use borrow.Author.Tests.{ne-eqb}
+use borrow.Author.Tests.{eq-eqb, ne-eqb}
 use Rattle.wire.specs.Numbers.{Bytes}
 use Rattle.rules.specs.declared.Checked.{Checked}
 use Rattle.rules.specs.declared.Counts.{Counts}
@@ -19,18 +19,19 @@ use Rattle.rules.specs.declared.Reading.the-variants.{Read, Unread}
 use Rattle.rules.specs.Verdicts.{_⇒_, _⇒↑_, firstToApply, checked, refused}
 use Rattle.rules.specs.Books.{Book, countsOf}
 use Rattle.rules.specs.Opening.{countsIn}
-use Rattle.rules.specs.Requests.{Kind, settle, kindNumber, kindOf, requestOf, readChecks, readingOf, reading, Fits, faultyBit, sameAccounts, rangeChecks}
-use Rattle.rules.specs.Calls.{Call, Answer, refusedOn, callRequest, callKind, _oneOf_, inputChecks, refusal}
+use Rattle.rules.specs.Requests.{Kind, settle, strip, kindNumber, kindOf, fieldIn, requestOf, readChecks, readingOf, reading, isStrip, Fits, faultyBit, faultyBitAmong, sameAccounts, rangeChecks}
+use Rattle.rules.specs.Calls.{Call, Answer, refusedOn, callRequests, callKind, _oneOf_, bytesChecks, inputChecks, refusal}
 use Rattle.rules.proofs.Basics.Tests.{within-true}
 use Rattle.rules.proofs.Checks.Clearing.{checked-same, clear, spared, spared↑}
-use Rattle.rules.proofs.Checks.Passed.{kind-number}
+use Rattle.rules.proofs.Checks.Passed.{kind-number, single-requests}
 use Rattle.rules.proofs.Records.RoundTrip.{read-as, read-is-known, read-fits}
 use Rattle.image.specs.Valid.{isBook, bookIn, bookBytes}
 use Rattle.book.specs.Kinds.{decided, outcomeOn, bookAfter, Ready}
 use Rattle.book.proofs.BookRows.{counts-in}
 use Rattle.book.proofs.Answers.{Answered as KindAnswered}
 use Rattle.day.specs.Answers.{callAnswer}
-use Rattle.day.proofs.Stages.{input-refused, state-decides, call-refused, call-decided}
+use Rattle.rules.proofs.Checks.Stages.{input-refused, state-decides}
+use Rattle.day.proofs.Stages.{call-refused, call-decided}
 
 -- ---- what a record reads as, and what its own checks find
 
@@ -52,6 +53,21 @@ read-checks : (s : List ℕ) (q : Request) → reading s ≡ Read q → firstToA
 unfolding reading
 read-checks s q h = read-finds (firstToApply (readChecks s)) (requestOf s) q h
 
+-- it is of the request's kind
+read-kind : (s : List ℕ) (q : Request) → reading s ≡ Read q → fieldIn s 0 ≡ q .kind
+unfolding requestOf
+read-kind s q h = ap (λ (p : Request). p .kind) (read-as s q h .1)
+
+-- and no strip
+pub read-single : (s : List ℕ) (q : Request) → reading s ≡ Read q → isStrip s ≡ false
+read-single s q h =
+    let known = within-true 1 (q .kind) 10 .0 (read-is-known s q h) in
+    ne-eqb (fieldIn s 0) (kindNumber strip) (λ e. omega (arith, read-kind s q h))
+
+-- what the bytes of a single record are refused for
+pub single-checks : (s : List ℕ) (o : Option Refusal) → isStrip s ≡ false → firstToApply (readChecks s) ≡ o → firstToApply (bytesChecks s) ≡ o
+single-checks s o e h = rw e h
+
 -- ---- 6 and 7 are all that the input of another kind than settle is refused for
 
 sift : (f : Option ℕ) (same : Bool) (a b d : Refusal)
@@ -63,9 +79,9 @@ sift none true a b d = refl
 sift none false a b d = refl
 
 input-is-ranges : (b : Book) (c : Call) (k : Kind) (q : Request) → k oneOf (settle ∷ []) ≡ false
-    → firstToApply (inputChecks b c k q) ≡ firstToApply (rangeChecks (countsOf (b .setup)) q)
-unfolding inputChecks
-input-is-ranges b c k q e = rw e (sift (faultyBit (countsOf (b .setup)) q) (sameAccounts q) WrongLength (OutOfRange 12) BufferShort)
+    → firstToApply (inputChecks b c k (q ∷ [])) ≡ firstToApply (rangeChecks (countsOf (b .setup)) q)
+unfolding inputChecks faultyBitAmong
+input-is-ranges b c k q e = rw (e, eq-eqb (q .account) (q .account) refl) (sift (faultyBit (countsOf (b .setup)) q) (sameAccounts q) WrongLength (OutOfRange 12) BufferShort)
 
 -- a kind of 1 to 9 is not settle
 others : (n : ℕ) → 1 ≤ n → n ≤ 9 → kindOf n oneOf (settle ∷ []) ≡ false
@@ -77,19 +93,25 @@ others n low high =
 -- ---- the answer on a book
 
 module _ (s : List ℕ) (c : Call) (h : isBook s ≡ true) (q : Request) (e : reading (c .bytes) ≡ Read q) where
-  says : callRequest c ≡ q
-  says = read-as (c .bytes) q e .1
+  says : callRequests c ≡ q ∷ []
+  says = single-requests (c .bytes) (read-single (c .bytes) q e) ∙ ap (λ (p : Request). p ∷ []) (read-as (c .bytes) q e .1)
+
+  of-kind : fieldIn (c .bytes) 0 ≡ q .kind
+  of-kind = read-kind (c .bytes) q e
+
+  read-clear : firstToApply (bytesChecks (c .bytes)) ≡ none
+  read-clear = single-checks (c .bytes) none (read-single (c .bytes) q e) (read-checks (c .bytes) q e)
 
   module _ (low : 1 ≤ q .kind) (high : q .kind ≤ 9) where
     other : callKind c oneOf (settle ∷ []) ≡ false
-    other = rw says (others (q .kind) low high)
+    other = rw of-kind (others (q .kind) low high)
 
-    ranges : firstToApply (inputChecks (bookIn s) c (callKind c) (callRequest c)) ≡ firstToApply (rangeChecks (countsOf (bookIn s .setup)) q)
-    ranges = input-is-ranges (bookIn s) c (callKind c) (callRequest c) other ∙ ap (λ (p : Request). firstToApply (rangeChecks (countsOf (bookIn s .setup)) p)) says
+    ranges : firstToApply (inputChecks (bookIn s) c (callKind c) (callRequests c)) ≡ firstToApply (rangeChecks (countsOf (bookIn s .setup)) q)
+    ranges = rw says (input-is-ranges (bookIn s) c (callKind c) q other)
 
     -- out of range
     range-answered : (r : Refusal) → firstToApply (rangeChecks (countsOf (bookIn s .setup)) q) ≡ some r → callAnswer s c ≡ refusedOn r s c
-    range-answered r f = call-refused s c h r (input-refused (bookIn s) c (read-checks (c .bytes) q e) r (ranges ∙ f))
+    range-answered r f = call-refused s c h r (input-refused (bookIn s) c read-clear r (ranges ∙ f))
 
     -- in range: what the state decides
     kind-answered : firstToApply (rangeChecks (countsOf (bookIn s .setup)) q) ≡ none
@@ -102,7 +124,7 @@ module _ (s : List ℕ) (c : Call) (h : isBook s ≡ true) (q : Request) (e : re
         }
     unfolding outcomeOn bookAfter decided
     kind-answered f =
-        call-decided s c h other _ (state-decides (bookIn s) c (read-checks (c .bytes) q e) (ranges ∙ f)) ∙ rw says
+        call-decided s c h other _ (state-decides (bookIn s) c read-clear (ranges ∙ f)) ∙ rw (says, of-kind)
 
     -- either way both buffers are as they were
     pub buffers-stay : (callAnswer s c .results ≡ c .results) × (callAnswer s c .balances ≡ c .balances)
@@ -112,7 +134,7 @@ module _ (s : List ℕ) (c : Call) (h : isBook s ≡ true) (q : Request) (e : re
 
 -- ---- a request that was read is ready where it is in range
 
--- its kind is one of the ten, so where it is not settle it is one of the first nine
+-- its kind is that of a single record, so where it is not settle it is one of the first nine
 pub other-kind : (s : List ℕ) (q : Request) → reading s ≡ Read q → (q .kind ≡ 10 → ⊥) → (1 ≤ q .kind) × (q .kind ≤ 9)
 other-kind s q e other = let n = within-true 1 (q .kind) 10 .0 (read-is-known s q e) in (n .0, omega arith)
 

@@ -17,7 +17,7 @@ use Rattle.rules.specs.Books.{Book, operatorCount}
 use Rattle.rules.specs.Requests.{Kind, settle, filled}
 use Rattle.rules.specs.Registration.{netOf}
 use Rattle.rules.specs.Settlement.{pricesIn, settled, balance, results, balances, balanceFigure, balanceBytes, figuresIn}
-use Rattle.rules.specs.Calls.{Call, Settled, drawnUp, callKind, callRequest, workedOut, settles, refusal, answer, balancesAfter, _oneOf_, inputChecks, step, settlement}
+use Rattle.rules.specs.Calls.{Call, Settled, drawnUp, callKind, callRequests, workedOut, settles, refusal, answer, balancesAfter, _oneOf_, inputChecks, step, settlement}
 use Rattle.rules.specs.Lists.{isAcceptance, accepts, acceptsAs}
 use Rattle.rules.proofs.Basics.Tests.{and-both}
 use Rattle.rules.proofs.Basics.Searches.{each-map, any-none, counting-length}
@@ -77,8 +77,8 @@ module _ (b : Book) (c : Call) where
     pub prices-in-range : Each (λ p. p .0 ≤ mostPrice) lentPrices
     prices-in-range =
         let p = accepts-passed b c (both .0) in
-        let i : Clear (inputChecks b c settle (callRequest c)) = rw is-settle at (p .input) in
-        each-map (λ x e. ltb-false _ _ e) (any-none _ lentPrices (passed-6-prices b c (callRequest c) i))
+        let i : Clear (inputChecks b c settle (callRequests c)) = rw is-settle at (p .input) in
+        each-map (λ x e. ltb-false _ _ e) (any-none _ lentPrices (passed-6-prices b c (callRequests c) i))
 
     module _ (v : valid b ≡ true) where
       -- no balance goes beyond what a day can move

@@ -13,6 +13,8 @@ use rules::Refusal;
 use rules::Verdict;
 use rules::kinds::SETTLE;
 use settlement::settle::settle;
+use strip_rows::record::is_strip;
+use strips::strip::strip;
 
 // A call on bytes that are known to be a book. It leaves a book.
 pub fn call_in(
@@ -28,6 +30,9 @@ pub fn call_in(
         o (now (book .exit)) (now (results .exit)) (now (balances .exit)) ⌝ }
     ensures still { λ _. ⌜ isBook (now (book .exit)) ≡ true ⌝ }
 {
+    if is_strip(bytes) {
+        return strip(book, bytes);
+    }
     let said = read(bytes);
     match said {
         Reading::Unread(r) => Outcome {

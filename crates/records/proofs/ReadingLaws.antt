@@ -11,7 +11,7 @@ use Rattle.rules.specs.declared.Reading.the-variants.{Unread}
 use Rattle.rules.specs.declared.Refusal.the-variants.{Unreadable, UnknownKind, WrongMap, WrongLength}
 use Rattle.rules.specs.Basics.{total, counting}
 use Rattle.rules.specs.Verdicts.{firstToApply}
-use Rattle.rules.specs.Requests.{isKind, wantedMap, wantedLength, mapOf, offset, fieldIn, more, unreadable, readChecks, reading}
+use Rattle.rules.specs.Requests.{isSingle, wantedMap, wantedLength, mapOf, offset, fieldIn, more, unreadable, readChecks, reading}
 use Rattle.rules.proofs.Checks.Passed.{readable}
 use Rattle.rules.proofs.Records.RoundTrip.{Readable}
 
@@ -25,11 +25,11 @@ unfolding reading readChecks firstToApply
 reads-nothing s h = rw h
 
 module _ (s : List ℕ) (k : ℕ) (h : unreadable s ≡ false) (e : k ≡ fieldIn s 0) where
-  pub reads-no-kind : isKind k ≡ false → Unread UnknownKind ≡ reading s
+  pub reads-no-kind : isSingle k ≡ false → Unread UnknownKind ≡ reading s
   unfolding reading readChecks firstToApply
   reads-no-kind n = rw (← e, h, n)
 
-  module _ (n : isKind k ≡ true) {given : ℕ} (g : given ≡ mapOf s) where
+  module _ (n : isSingle k ≡ true) {given : ℕ} (g : given ≡ mapOf s) where
     pub reads-other-map : (given ≡ wantedMap k → ⊥) → Unread (WrongMap (more (wantedMap k) given) (more given (wantedMap k))) ≡ reading s
     unfolding reading readChecks firstToApply
     reads-other-map o = let f : eqb given (wantedMap k) ≡ false = ne-eqb given (wantedMap k) o in rw (← e, ← g, h, n, f)

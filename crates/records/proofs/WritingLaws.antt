@@ -15,7 +15,7 @@ use Rattle.wire.proofs.RegionLaws.{splice-take-drop, splice-one, splice-none, s
 use Rattle.rules.specs.declared.Request.{Request}
 use Rattle.rules.specs.declared.Refusal.the-variants.{UnknownKind, BufferShort}
 use Rattle.rules.specs.Verdicts.{firstToApply, accepted, refused}
-use Rattle.rules.specs.Requests.{isKind, wantedLength, wantedMap, fieldCount, room, fieldOf, fieldBytes, writeChecks, writeOutcome, write, written, filled}
+use Rattle.rules.specs.Requests.{isSingle, wantedLength, wantedMap, fieldCount, room, fieldOf, fieldBytes, writeChecks, writeOutcome, write, written, filled}
 use Rattle.rules.proofs.Checks.Clearing.{accepted-none, clear, spared}
 
 -- ---- a number put byte by byte
@@ -55,29 +55,29 @@ record-put q s m e =
 -- ---- the writer's ways out
 
 module _ (q : Request) (buffer : List ℕ) where
-  pub writes-no-kind : isKind (q .kind) ≡ false → (refused UnknownKind ≡ writeOutcome q buffer) × (buffer ≡ written q buffer)
+  pub writes-no-kind : isSingle (q .kind) ≡ false → (refused UnknownKind ≡ writeOutcome q buffer) × (buffer ≡ written q buffer)
   unfolding writeOutcome written firstToApply
   writes-no-kind k = (rw k, rw k)
 
-  pub writes-no-room : isKind (q .kind) ≡ true → length buffer < wantedLength (q .kind)
+  pub writes-no-room : isSingle (q .kind) ≡ true → length buffer < wantedLength (q .kind)
       → (refused BufferShort ≡ writeOutcome q buffer) × (buffer ≡ written q buffer)
   unfolding writeOutcome written firstToApply
   writes-no-room k h = let t = lt-ltb (length buffer) (wantedLength (q .kind)) h in (rw (k, t), rw (k, t))
 
-  pub writes-front : isKind (q .kind) ≡ true → wantedLength (q .kind) ≤ length buffer
+  pub writes-front : isSingle (q .kind) ≡ true → wantedLength (q .kind) ≤ length buffer
       → (accepted 0 ≡ writeOutcome q buffer) × (filled (write q) buffer ≡ written q buffer)
   unfolding writeOutcome written firstToApply
   writes-front k h = let t = le-ltb (length buffer) (wantedLength (q .kind)) h in (rw (k, t), rw (k, t))
 
   -- the same, as a region replaced
-  pub writes-record : isKind (q .kind) ≡ true → wantedLength (q .kind) ≤ length buffer
+  pub writes-record : isSingle (q .kind) ≡ true → wantedLength (q .kind) ≤ length buffer
       → (accepted 0 ≡ writeOutcome q buffer) × (splice buffer 0 (write q) ≡ written q buffer)
   writes-record k h =
       let w = writes-front k h in
       (w .0, splice-take-drop buffer 0 (write q) ∙ rw (zero-add (length (write q))) (w .1))
 
   -- what is accepted has a kind and room
-  pub accepted-writing : writeOutcome q buffer ≡ accepted 0 → (isKind (q .kind) ≡ true) × (wantedLength (q .kind) ≤ length buffer)
+  pub accepted-writing : writeOutcome q buffer ≡ accepted 0 → (isSingle (q .kind) ≡ true) × (wantedLength (q .kind) ≤ length buffer)
   unfolding writeOutcome
   accepted-writing h =
       let c = clear (writeChecks q buffer) (accepted-none (firstToApply (writeChecks q buffer)) 0 h) in

@@ -4,8 +4,8 @@ ghost use mathlib.Core.Bool.{not};
 ghost use Rattle.rules.specs.Basics.{if_then_else_};
 ghost use Rattle.rules.specs.declared.Checked.the-variants.{Clear, Fails};
 ghost use Rattle.rules.specs.declared.Refusal.the-variants.{OutOfRange, SameAccount};
-ghost use Rattle.rules.specs.Verdicts.{firstToApply, checked};
-ghost use Rattle.rules.specs.Requests.{wantedMap, rangeChecks};
+ghost use Rattle.rules.specs.Verdicts.{_⇒↑_, applies, firstToApply, checked, orElse};
+ghost use Rattle.rules.specs.Requests.{wantedMap, faultyBit, rangeChecks};
 use rules::Checked;
 use rules::Counts;
 use rules::Refusal;
@@ -17,6 +17,7 @@ use rules::kinds::OPEN_BATCH;
 use rules::kinds::REGISTER;
 use rules::kinds::SCHEDULE;
 use rules::kinds::SETTLE;
+use rules::kinds::STRIP;
 use rules::kinds::WITHDRAW;
 use rules::limits::MOST_ENERGY;
 use rules::limits::MOST_GUARANTEE;
@@ -49,22 +50,25 @@ fn accounts_differ(same: bool) -> Checked
     }
 }
 
-// The fields of a trade: accounts, side, hours and quantity.
-fn trade_fields(q: Request, n: Counts) -> Checked
+// The fields of a trade, accounts, side, hours and quantity, and then what follows.
+pub fn trade_ranges(q: Request, n: Counts, rest: Checked) -> Checked
     requires { ⌜ wantedMap (q .kind) ≡ 0x00FF ⌝ }
-    ensures { λ r. ⌜ r ≡ checked (firstToApply (rangeChecks n q)) ⌝ }
+    ensures { λ r. ⌜ r ≡ orElse (applies (faultyBit n q ⇒↑ OutOfRange)) rest ⌝ }
 {
-    let differ = accounts_differ(q.account == q.other);
-    let quantity = field(
-        (1 <= q.quantity.0) & (q.quantity.0 <= MOST_ENERGY),
-        7,
-        differ,
-    );
+    let quantity = field((1 <= q.quantity.0) & (q.quantity.0 <= MOST_ENERGY), 7, rest);
     let last = field((q.first <= q.last) & (q.last <= n.hours), 6, quantity);
     let first = field((1 <= q.first) & (q.first <= n.hours), 5, last);
     let side = field((SELLS <= q.side) & (q.side <= BUYS), 4, first);
     let other = field((1 <= q.other) & (q.other <= n.accounts), 2, side);
     field((1 <= q.account) & (q.account <= n.accounts), 1, other)
+}
+
+// The fields of a trade, and that its accounts are two.
+fn trade_fields(q: Request, n: Counts) -> Checked
+    requires { ⌜ wantedMap (q .kind) ≡ 0x00FF ⌝ }
+    ensures { λ r. ⌜ r ≡ checked (firstToApply (rangeChecks n q)) ⌝ }
+{
+    trade_ranges(q, n, accounts_differ(q.account == q.other))
 }
 
 // The fields of a withdrawal: account and number.
@@ -112,7 +116,7 @@ pub fn check_ranges(request: Request, counts: Counts) -> Checked
         GUARANTEE => guarantee_fields(request, counts),
         OPEN_BATCH..=CLOSE_GATE => Checked::Clear,
         SCHEDULE => schedule_fields(request, counts),
-        SETTLE => Checked::Clear,
+        SETTLE..=STRIP => Checked::Clear,
         _ => Checked::Clear,
     }
 }

@@ -5,12 +5,12 @@ ghost use Prim.Native.Nat.{_+_, _≤_};
 ghost use mathlib.Core.List.{map};
 ghost use lib.ListN.{length};
 ghost use Rattle.wire.specs.Numbers.{numberAt};
-ghost use Rattle.rules.specs.Requests.{fieldCount, mapOf, offset, bits, fieldIn, requestOf, isKind, unreadable, reading};
+ghost use Rattle.rules.specs.Requests.{fieldCount, mapOf, offset, bits, fieldIn, requestOf, isSingle, unreadable, reading};
 use crate::tables::FIELDS;
 use crate::tables::PAST_FIELDS;
 use crate::tables::fields_more;
 use crate::tables::has_field;
-use crate::tables::is_kind;
+use crate::tables::is_single;
 use crate::tables::room_of;
 use crate::tables::wanted_length;
 use crate::tables::wanted_map;
@@ -79,7 +79,7 @@ fn request(bytes: &[u8]) -> Request
 }
 
 // Whether a record is under 3 bytes, or its map has bit 0 clear or a bit of 13 to 15 set.
-fn no_map(bytes: &[u8]) -> bool
+pub fn no_map(bytes: &[u8]) -> bool
     ensures { λ r. ⌜ r ≡ unreadable (now (bytes .entry)) ⌝ }
 {
     if bytes.len() < 3 {
@@ -91,7 +91,7 @@ fn no_map(bytes: &[u8]) -> bool
 
 // What a record of this kind reads as.
 fn read_as(bytes: &[u8], kind: u8) -> Reading
-    requires { ⌜ (unreadable (now bytes) ≡ false) × (kind ≡ fieldIn (now bytes) 0) × (isKind kind ≡ true) ⌝ }
+    requires { ⌜ (unreadable (now bytes) ≡ false) × (kind ≡ fieldIn (now bytes) 0) × (isSingle kind ≡ true) ⌝ }
     ensures { λ r. ⌜ r ≡ reading (now (bytes .entry)) ⌝ }
 {
     let given = get_u16(bytes, 0);
@@ -115,7 +115,7 @@ pub fn read(bytes: &[u8]) -> Reading
         return Reading::Unread(Refusal::Unreadable);
     }
     let kind = get_u8(bytes, 2);
-    if !is_kind(kind) {
+    if !is_single(kind) {
         return Reading::Unread(Refusal::UnknownKind);
     }
     read_as(bytes, kind)

@@ -1,11 +1,11 @@
-// The tables of the ten kinds and of the thirteen fields, and what they say of a map.
+// The tables of the kinds and of the thirteen fields, and what they say of a map.
 ghost use mathlib.Core.Path.{_≡_};
 ghost use Prim.Native.Nat.{_≤_, _<_, _^_};
 ghost use Rattle.rules.specs.Basics.{bit};
-ghost use Rattle.rules.specs.Requests.{isKind, wantedMap, wantedLength, fieldCount, widthOf, room, more};
+ghost use Rattle.rules.specs.Requests.{isSingle, wantedMap, wantedLength, fieldCount, widthOf, room, more};
 
-// The map and the length of a record, by kind. No kind is 0.
-const MAPS: [u16; 11] = [
+// The map and the length of a record, by kind. No kind is 0. The length of a strip is that before its rows.
+const MAPS: [u16; 12] = [
     0,
     0x00FF,
     0x00FF,
@@ -17,9 +17,10 @@ const MAPS: [u16; 11] = [
     0x0001,
     0x18B1,
     0x0001,
+    0x0001,
 ];
 
-const LENGTHS: [u8; 11] = [0, 20, 20, 6, 12, 3, 3, 3, 3, 14, 3];
+const LENGTHS: [u8; 12] = [0, 20, 20, 6, 12, 3, 3, 3, 3, 14, 3, 4];
 
 // Bits 0 to 12 have fields.
 pub const FIELDS: usize = 13;
@@ -30,16 +31,16 @@ pub const PAST_FIELDS: u16 = 0x2000;
 // The bytes of a field, by bit.
 const WIDTHS: [u8; FIELDS] = [1, 1, 1, 8, 1, 1, 1, 4, 2, 1, 8, 1, 4];
 
-// Whether a number is one of the ten kinds.
-pub fn is_kind(number: u8) -> bool
-    ensures { λ r. ⌜ r ≡ isKind number ⌝ }
+// Whether a number is the kind of a single record: of any kind but the strip.
+pub fn is_single(number: u8) -> bool
+    ensures { λ r. ⌜ r ≡ isSingle number ⌝ }
 {
     (1 <= number) & (number <= 10)
 }
 
 // The map of a kind's records.
 pub fn wanted_map(kind: u8) -> u16
-    requires { ⌜ kind ≤ 10 ⌝ }
+    requires { ⌜ kind ≤ 11 ⌝ }
     ensures { λ r. ⌜ r ≡ wantedMap kind ⌝ }
 {
     let k = kind as usize;
@@ -48,7 +49,7 @@ pub fn wanted_map(kind: u8) -> u16
 
 // The length of a kind's records.
 pub fn wanted_length(kind: u8) -> usize
-    requires { ⌜ kind ≤ 10 ⌝ }
+    requires { ⌜ kind ≤ 11 ⌝ }
     ensures { λ r. ⌜ r ≡ wantedLength kind ⌝ }
 {
     let k = kind as usize;

@@ -5,9 +5,9 @@ ghost use Prim.Native.Nat.{_+_, _≤_, _<_};
 ghost use lib.ListN.{length};
 ghost use Rattle.wire.specs.Numbers.{le};
 ghost use Rattle.wire.specs.Regions.{splice};
-ghost use Rattle.rules.specs.Requests.{fieldCount, isKind, wantedLength, offset, fieldsOf, fieldOf, fieldBytes, write as bytesOf, writeOutcome, written};
+ghost use Rattle.rules.specs.Requests.{fieldCount, isSingle, wantedLength, offset, fieldsOf, fieldOf, fieldBytes, write as bytesOf, writeOutcome, written};
 use crate::tables::FIELDS;
-use crate::tables::is_kind;
+use crate::tables::is_single;
 use crate::tables::room_of;
 use crate::tables::wanted_length;
 use crate::tables::wanted_map;
@@ -81,7 +81,7 @@ fn put_fields(q: Request, map: u16, buffer: &mut [u8])
 
 // Puts the record of a request into the first bytes of the buffer.
 fn put_record(q: Request, buffer: &mut [u8])
-    requires { ⌜ (isKind (q .kind) ≡ true) × (wantedLength (q .kind) ≤ length (now buffer)) ⌝ }
+    requires { ⌜ (isSingle (q .kind) ≡ true) × (wantedLength (q .kind) ≤ length (now buffer)) ⌝ }
     ensures { λ _. ⌜ now (buffer .exit) ≡ splice (now (buffer .entry)) 0 (bytesOf q) ⌝ }
 {
     let kind = q.kind;
@@ -96,7 +96,7 @@ pub fn write(request: Request, buffer: &mut [u8]) -> Outcome
     ensures filled { λ _. ⌜ now (buffer .exit) ≡ written request (now (buffer .entry)) ⌝ }
 {
     let kind = request.kind;
-    if !is_kind(kind) {
+    if !is_single(kind) {
         return Outcome {
             verdict: Verdict::Refused(Refusal::UnknownKind),
         };

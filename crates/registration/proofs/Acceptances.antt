@@ -2,7 +2,7 @@
 -- checks that it passed keep the book sound.
 use Prim.Native.Nat.{ℕ, suc, _+_, _-_, _≤_}
 use mathlib.Core.Path.{_≡_, refl, sym, ap, _∙_}
-use mathlib.Core.List.{List}
+use mathlib.Core.List.{List, [], _∷_}
 use mathlib.Core.Option.{none, some}
 use mathlib.Core.Bool.{true}
 use native.Mathlib.Numerals.{add-one}
@@ -43,7 +43,7 @@ module _ (s t : List ℕ) (h : isBook s ≡ true) where
       let b : Book = bookIn s in
       let sound = book-is-sound s h in
       let clear = decided-clear confirm b q d in
-      let w = passed-confirm b q clear in
+      let w = passed-confirm b (q ∷ []) clear in
       let number : confirmedNumber b q ≡ suc i = rw named in
       let here : r ≡ nth (b .part .rows) (confirmedNumber b q) noRow = rw number row in
       let pend : pending r ≡ true = rw here (w .row .is-pending) in
@@ -56,7 +56,7 @@ module _ (s t : List ℕ) (h : isBook s ≡ true) where
       ∙ ap (λ (x : List ℕ). netsMoved (markedConfirmed x (i + 1)) r) (book-image s h)
       ∙ write-confirmed mostHours bookSize b (book-fits s h) (confirmedNumber b q) i (r .last - r .first + 1) (presentOffset + rowOffset (i + 1 - 1) + statusOffset) _ _ r
       number here pend fit (omega arith) (omega arith) refl refl)
-      (apply-keeps _ b sound (confirm-allowed b q sound clear))
+      (apply-keeps _ b sound (confirm-allowed b (q ∷ []) sound clear))
 
   -- 3: the row's status
   pub withdrawn-answered : (q : Request) (at : ℕ) → decided withdraw (bookIn s) q ≡ none → at ≡ presentOffset + rowOffset (q .number - 1) + statusOffset
@@ -64,10 +64,10 @@ module _ (s t : List ℕ) (h : isBook s ≡ true) where
   unfolding given
   withdrawn-answered q at d place e =
       let clear = decided-clear withdraw (bookIn s) q d in
-      let pend = passed-withdraw (bookIn s) q clear .0 in
+      let pend = passed-withdraw (bookIn s) (q ∷ []) clear .0 in
       let low = pending-inside (bookIn s .part .rows) (q .number) pend .0 in
       accepted-answered withdraw s q h t 0 d refl
       (e
       ∙ ap (λ (x : List ℕ). splice x at (le 1 3)) (book-image s h)
       ∙ write-withdrawn mostHours bookSize (bookIn s) (book-fits s h) (q .number) (q .number - 1) at (omega arith) pend place)
-      (apply-keeps _ (bookIn s) (book-is-sound s h) (withdraw-allowed (bookIn s) q (book-is-sound s h) clear))
+      (apply-keeps _ (bookIn s) (book-is-sound s h) (withdraw-allowed (bookIn s) (q ∷ []) (book-is-sound s h) clear))

@@ -168,7 +168,7 @@ module _ (s : List ℕ) (q : Request) (r : Row) (h : isBook s ≡ true) (w : Con
   not-own : eqb (r .proposer) (q .account) ≡ false
   not-own = ne-eqb _ _ (λ e. named-sound .two-accounts (e ∙ sym (named-alike .counterparty)))
 
-  broken-next : brokenHour (bookIn s .setup) (next confirm (bookIn s) q .part .rows) (q .account)
+  broken-next : brokenHour (bookIn s .setup) (next confirm (bookIn s) (q ∷ []) .part .rows) (q .account)
       ≡ brokenBy (bookIn s .setup) (bookIn s .part .rows) (withStatus 2 r ∷ []) (q .account)
   unfolding apply
   broken-next =
@@ -192,7 +192,7 @@ module _ (s : List ℕ) (q : Request) (r : Row) (h : isBook s ≡ true) (w : Con
 
     module _ (kept : Nowhere ≡ broken (brokenBy (bookIn s .setup) (bookIn s .part .rows) (trade ∷ []) (q .account))) (t : Bool)
         (test : t ≡ coveredWithTrade (bookIn s) r (operatorOf (bookIn s .setup) (q .account))) where
-      covered-next : covered (bookIn s .setup) (next confirm (bookIn s) q .part) (operatorOf (bookIn s .setup) (q .account)) ≡ t
+      covered-next : covered (bookIn s .setup) (next confirm (bookIn s) (q ∷ []) .part) (operatorOf (bookIn s .setup) (q .account)) ≡ t
       unfolding apply
       covered-next =
           let o : ℕ = operatorOf (bookIn s .setup) (q .account) in
@@ -215,7 +215,7 @@ module _ (s : List ℕ) (q : Request) (number : ℕ) (h : isBook s ≡ true) (fr
     (same : number ≡ confirmedNumber (bookIn s) q) where
   pub accepted-number : IsRow (bookIn s) number
   accepted-number =
-      let w = passed-confirm (bookIn s) q (decided-clear confirm (bookIn s) q free) in
+      let w = passed-confirm (bookIn s) (q ∷ []) (decided-clear confirm (bookIn s) q free) in
       (omega (arith, same, w .low), omega (arith, same, w .high))
 
   module _ (r : Row) (row : r ≡ nth (bookIn s .part .rows) number noRow) where
@@ -230,7 +230,7 @@ module _ (s : List ℕ) (q : Request) (number : ℕ) (h : isBook s ≡ true) (fr
 
     pub trade-answered : (t : List ℕ) → t ≡ netsMoved (markedConfirmed s number) r → Answered confirm s q (accepted number) t
     trade-answered t e =
-        let (i, named) = passed-16-confirm (bookIn s) q (decided-clear confirm (bookIn s) q free) in
+        let (i, named) = passed-16-confirm (bookIn s) (q ∷ []) (decided-clear confirm (bookIn s) q free) in
         let next-one : number ≡ suc i = same ∙ ap numberFrom named in
         let here : r ≡ getD (bookIn s .part .rows) i noRow = row ∙ ap (λ (n : ℕ). nth (bookIn s .part .rows) n noRow) next-one in
         let given : number ≡ i + 1 = omega (arith, next-one) in

@@ -1,7 +1,7 @@
 -- A guarantee replaced: the rows stay, so that the exposure is that of the present ones, and only the 8 bytes of the guarantee change.
 use Prim.Native.Nat.{ℕ, zero, suc, _+_, _-_, _*_, _≤_}
 use mathlib.Core.Path.{_≡_, refl, sym, ap, _∙_}
-use mathlib.Core.List.{List}
+use mathlib.Core.List.{List, [], _∷_}
 use mathlib.Core.Option.{none, some}
 use mathlib.Core.Bool.{Bool, true, false}
 use native.Mathlib.Nat.{mul-le-mul-right}
@@ -32,7 +32,7 @@ use Rattle.book.specs.Members.{IsOperator}
 use Rattle.book.specs.Kinds.{decided, Ready}
 use Rattle.book.proofs.StateLaws.{book-image, book-fits, book-is-sound}
 use Rattle.book.proofs.Answers.{decided-clear, Answered, accepted-answered}
-use Rattle.book.proofs.Readiness.{bare, ready-field, ready-input, ready-operator}
+use Rattle.book.proofs.Readiness.{bare, ready-field, ready-input, ready-operator, ready-asked}
 use Rattle.registration.specs.Cover.{coveredUnder}
 use Rattle.registration.proofs.CoverLaws.{covered-at-guarantee, exposure-available}
 
@@ -51,11 +51,11 @@ put-same gs zero g l h = absurd (omega arith)
 put-same gs (suc i) g l h = getD-set-same gs i g (cents 0) (omega arith)
 
 module _ (b : Book) (q : Request) (first : b .phase ≡ 1) (low : 1 ≤ q .operator) (high : q .operator ≤ length (b .part .guarantees)) where
-  new-guarantee-covered : covered (b .setup) (next guarantee b q .part) (q .operator)
+  new-guarantee-covered : covered (b .setup) (next guarantee b (q ∷ []) .part) (q .operator)
       ≡ coveredUnder b (q .guarantee .0) (q .operator)
   unfolding apply
   new-guarantee-covered =
-      covered-at-guarantee (b .setup) (next guarantee b q .part) (q .operator) (q .guarantee .0)
+      covered-at-guarantee (b .setup) (next guarantee b (q ∷ []) .part) (q .operator) (q .guarantee .0)
       (ap (λ (g : Cents). g .0) (put-same (b .part .guarantees) (q .operator) (q .guarantee) low high))
 
   -- refusal 19: the exposure is not covered
@@ -97,4 +97,4 @@ guarantee-answered s t h q at r d place e =
     ∙ ap (λ (x : List ℕ). splice x at (le 8 (q .guarantee .0))) (book-image s h)
     ∙ write-guarantee mostHours bookSize (bookIn s) (book-fits s h) (q .operator) (q .operator - 1) at (q .guarantee) (omega arith) (omega arith) (omega arith))
     (apply-keeps _ (bookIn s) (book-is-sound s h)
-    (guarantee-allowed (bookIn s) q (book-is-sound s h) bare (sym (r .of-kind)) (ready-input guarantee (bookIn s) q r bare refl) (decided-clear guarantee (bookIn s) q d)))
+    (guarantee-allowed (bookIn s) (q ∷ []) (book-is-sound s h) bare (ready-asked guarantee (bookIn s) q r refl) (ready-input guarantee (bookIn s) q r bare refl) (decided-clear guarantee (bookIn s) q d)))

@@ -13,11 +13,15 @@ pub mod PendingLaws
 pub mod MarginLaws
 -- CoverLaws: the guarantee in force and the maintenance of an operator, and what covers its exposure.
 pub mod CoverLaws
--- LodgingLaws: what the state refuses a guarantee for, and what an accepted one writes.
+-- GuaranteeLaws: what the state refuses a guarantee for, and what an accepted one writes.
 pub mod GuaranteeLaws
--- ProposalLaws: what the state refuses a register for, and what an accepted one writes.
+-- AddingLaws: what the state decides on requests that add rows, of a register or of a strip.
+pub mod AddingLaws
+-- AppendLaws: rows put behind those that stand make the image of the book with them in.
+pub mod AppendLaws
+-- RegisterLaws: what the state refuses a register for, and what an accepted one writes.
 pub mod RegisterLaws
--- ConfirmationLaws: the row that a confirm names, what the state refuses a confirm for, and what an accepted one writes.
+-- ConfirmLaws: the row that a confirm names, what the state refuses a confirm for, and what an accepted one writes.
 pub mod ConfirmLaws
 -- PositionLaws: what moving the nets of a trade writes.
 pub mod PositionLaws

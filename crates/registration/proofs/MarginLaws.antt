@@ -2,7 +2,7 @@
 -- definition's, by the sums of what was bought and sold. Only the trade's hours are searched: in a book the others break no margin.
 use Prim.Native.Nat.{ℕ, _+_, _-_, _^_, _≤_, _<_}
 use mathlib.Core.Path.{_≡_, refl, sym, ap, _∙_}
-use mathlib.Core.List.{List, [], _∷_}
+use mathlib.Core.List.{List, [], _∷_, _++_}
 use mathlib.Core.Option.{Option, none, some}
 use mathlib.Core.Bool.{Bool, true, false, not, and-false}
 use native.Mathlib.Nat.{add-zero}
@@ -12,16 +12,18 @@ use borrow.Author.Tests.{le-leb, leb-true, lt-leb}
 use Rattle.rules.specs.declared.Margins.{Margins}
 use Rattle.rules.specs.declared.AccountHour.{AccountHour}
 use Rattle.rules.specs.declared.Row.{Row}
-use Rattle.rules.specs.Basics.{find, counting}
+use Rattle.rules.specs.declared.Net.{Net}
+use Rattle.rules.specs.Basics.{find, counting, Each}
 use Rattle.rules.specs.Limits.{mostEnergy}
 use Rattle.rules.specs.Books.{Setup, Book, periods, marginsAt}
-use Rattle.rules.specs.Registration.{pending, confirmed, includesHour, bought, sold, netOf, pendingSales, pendingPurchases, accountHour, afterTrade, keepsMargins, brokenBy}
+use Rattle.rules.specs.Registration.{pending, confirmed, includesHour, bought, sold, netOf, pendingSales, pendingPurchases, accountHour, afterTrade, afterTrades, keepsMargins, brokenBy}
 use Rattle.rules.proofs.Basics.Tests.{test-same}
+use Rattle.rules.proofs.Rows.AccountHours.{hour-takes-all, nets-stay}
 use Rattle.image.specs.Valid.{isBook, bookIn}
 use Rattle.image.proofs.Sound.Soundness.{SoundRow}
 use Rattle.book.specs.Members.{IsAccount, IsHour}
 use Rattle.book.specs.Netted.{netted}
-use Rattle.book.specs.Waits.{waitCell, WaitsOf, nettedHour}
+use Rattle.book.specs.Waits.{waitCell, Waits, WaitsOf, tabledHour, nettedHour}
 use Rattle.book.proofs.StateLaws.{book-is-sound, row-count-high}
 use Rattle.book.proofs.ReadingLaws.{net-near}
 use Rattle.book.proofs.NettedLaws.{netted-difference}
@@ -87,6 +89,35 @@ unfolding afterTrade
 keeps-netted margins rows trade a h =
     keeps-alike margins (afterTrade a h (nettedHour rows a h) trade) (afterTrade a h (accountHour rows a h) trade) refl refl
     (omega (arith, netted-difference (netOf rows a h)))
+
+-- the same with pending rows more, whose sums the table has and which move no net
+keeps-tabled : (margins : Margins) (rows added : List Row) (table : List ℕ) (a h : ℕ) → Each (λ r. pending r ≡ true) added → WaitsOf (rows ++ added) a table
+    → Waits 1 h → Waits 2 h
+    → keepsMargins margins (tabledHour rows table a h) ≡ keepsMargins margins (afterTrades a h (accountHour rows a h) added)
+keeps-tabled margins rows added table a h waits w sales purchases =
+    let net = nets-stay rows a h waits in
+    keeps-alike margins (tabledHour rows table a h) (accountHour (rows ++ added) a h) (w .waits-at 1 h sales) (w .waits-at 2 h purchases)
+    (omega (arith, netted-difference (netOf rows a h), ap (λ (n : Net). n .bought .0) net, ap (λ (n : Net). n .sold .0) net))
+    ∙ ap (keepsMargins margins) (hour-takes-all rows added a h)
+
+-- the account breaks a margin in the hour after these rows
+unfoldable pub breaksWith : Setup → List Row → List Row → ℕ → ℕ → Bool
+breaksWith u rows added a h = not (keepsMargins (marginsAt u a h) (afterTrades a h (accountHour rows a h) added))
+
+pub broken-by-hours : (u : Setup) (rows added : List Row) (a n : ℕ) → n ≡ periods u → brokenBy u rows added a ≡ find (breaksWith u rows added a) (counting (n + 1 - 1) 1)
+unfolding brokenBy breaksWith
+broken-by-hours u rows added a n e = let same : n + 1 - 1 ≡ n = omega arith in rw (same, e)
+
+-- the test as code makes it
+pub breaks-with-tested : (s : List ℕ) → isBook s ≡ true → (added : List Row) (a h : ℕ) (table : List ℕ) (margins : Margins) (held : AccountHour) (t : Bool)
+    → Each (λ r. pending r ≡ true) added → WaitsOf (bookIn s .part .rows ++ added) a table → IsHour (bookIn s) h
+    → margins ≡ marginsAt (bookIn s .setup) a h → held ≡ tabledHour (bookIn s .part .rows) table a h → t ≡ keepsMargins margins held
+    → breaksWith (bookIn s .setup) (bookIn s .part .rows) added a h ≡ not t
+unfolding breaksWith
+breaks-with-tested s b added a h table margins held t waits w i eo eh et =
+    ap not (sym (keeps-tabled (marginsAt (bookIn s .setup) a h) (bookIn s .part .rows) added table a h waits w
+    (side-hour s b 1 h (omega arith) (omega arith) i) (side-hour s b 2 h (omega arith) (omega arith) i)))
+    ∙ rw (← eo, ← eh, ← et)
 
 -- the account breaks a margin in the hour after the trade
 unfoldable pub breaks : Setup → List Row → Row → ℕ → ℕ → Bool

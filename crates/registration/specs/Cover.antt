@@ -1,6 +1,6 @@
 -- What covers an exposure (document 01, "Registration"): `coveredBy` of the rules, at the exposure and the guarantee that a call asks about.
 use Prim.Native.Nat.{ℕ, _-_}
-use mathlib.Core.List.{[], _∷_}
+use mathlib.Core.List.{List, [], _∷_}
 use mathlib.Core.Bool.{Bool}
 use Rattle.rules.specs.declared.Row.{Row}
 use Rattle.rules.specs.Books.{Setup, Book, guaranteeAt, confirmedStatus}
@@ -15,9 +15,13 @@ coveredInForce b exposure o = coveredBy (b .setup) exposure (guaranteeAt (b .par
 abbrev pub coveredUnder : Book → ℕ → ℕ → Bool
 coveredUnder b guarantee o = coveredBy (b .setup) (exposure (b .setup) (b .part .rows) o) guarantee o
 
--- the exposure once the row is added is covered
+-- the exposure once the rows are added is covered
+abbrev pub coveredWithRows : Book → List Row → ℕ → Bool
+coveredWithRows b rows o = coveredInForce b (exposureWith (b .setup) (b .part .rows) rows o) o
+
+-- the same of one row
 abbrev pub coveredWithRow : Book → Row → ℕ → Bool
-coveredWithRow b row o = coveredInForce b (exposureWith (b .setup) (b .part .rows) (row ∷ []) o) o
+coveredWithRow b row o = coveredWithRows b (row ∷ []) o
 
 -- the exposure once the pending row is confirmed: the trade is added, and a sale is pending no longer
 abbrev pub exposureWithTrade : Book → Row → ℕ → ℕ

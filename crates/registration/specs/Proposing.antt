@@ -1,7 +1,7 @@
 -- The row that a register proposes, and what is written of it (document 01, "Registration"; docs/LAYOUT.md).
-use Prim.Native.Nat.{ℕ, _+_, _<_}
+use Prim.Native.Nat.{ℕ, _+_, _≤_, _<_}
 use mathlib.Core.Path.{_≡_}
-use mathlib.Core.List.{List}
+use mathlib.Core.List.{List, [], _∷_}
 use mathlib.Core.Bool.{false}
 use lib.ListN.{length}
 use Rattle.wire.specs.Numbers.{le}
@@ -12,10 +12,17 @@ use Rattle.rules.specs.Basics.{anyPasses}
 use Rattle.rules.specs.Limits.{mostRows}
 use Rattle.rules.specs.Books.{Book, registrationPhase}
 use Rattle.rules.specs.Requests.{register}
-use Rattle.rules.specs.Registration.{alike}
+use Rattle.rules.specs.Registration.{alike, hasTwin, twins}
 use Rattle.image.specs.Layout.{presentOffset, rowOffset, rowCountOffset}
 use Rattle.image.specs.Image.{rowBytes}
 use Rattle.book.specs.Kinds.{Ready}
+
+-- in the phase of registration, requests whose rows are like none that is pending and like no other, and there is a number for each
+pub record Addable (b : Book) (qs : List Request) : Type 0 where
+  pub in-registration : b .phase ≡ registrationPhase
+  pub none-standing : anyPasses (hasTwin (b .part .rows)) qs ≡ false
+  pub none-alike : twins qs ≡ false
+  pub has-room : length (b .part .rows) + length qs ≤ mostRows
 
 -- in the phase of registration, the request proposes a row that is no twin of a pending one, and there is a number for it
 pub record Proposing (b : Book) (q : Request) : Type 0 where
@@ -27,3 +34,8 @@ pub record Proposing (b : Book) (q : Request) : Type 0 where
 -- the row put after the n that there are, and counted
 abbrev pub rowAppended : List ℕ → ℕ → Row → List ℕ
 rowAppended s n r = splice (splice s (presentOffset + rowOffset n) (rowBytes r)) (presentOffset + rowCountOffset) (le 2 (n + 1))
+
+-- rows put one after the other behind the n that there are, each counted
+unfoldable pub rowsAppended : List ℕ → ℕ → List Row → List ℕ
+rowsAppended s n [] = s
+rowsAppended s n (r ∷ rs) = rowsAppended (rowAppended s n r) (n + 1) rs

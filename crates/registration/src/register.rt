@@ -44,7 +44,7 @@ use wire::numbers::put_u16;
 use wire::regions::copy_in;
 
 // The row that the request proposes.
-fn proposed_row(request: Request) -> Row
+pub fn proposed_row(request: Request) -> Row
     ensures { λ r. ⌜ r ≡ proposed request ⌝ }
 {
     let quantity = request.quantity;
@@ -119,7 +119,7 @@ fn register_fault(book: &[u8], request: Request) -> Checked
 }
 
 // Puts a row after the `n` that there are, and counts it.
-fn append_row(book: &mut [u8], n: u16, r: Row)
+pub fn append_row(book: &mut [u8], n: u16, r: Row)
     requires { ⌜ (length (now book) ≡ bookSize) × (n < mostRows) ⌝ }
     ensures { λ _. ⌜ now (book .exit) ≡ rowAppended (now (book .entry)) n r ⌝ }
 {

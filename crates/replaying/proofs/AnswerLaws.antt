@@ -9,19 +9,21 @@ use native.Mathlib.Omega.{arith}
 use lib.ListN.{length, getD, length-map, List·getD-eq-default}
 use lib.Seq.{getD-take, length-take-le}
 use lib.Dec.{eqb}
+use borrow.Author.Tests.{eqb-true}
 use Rattle.wire.proofs.NumberLaws.{number-at-one}
 use Rattle.rules.specs.declared.Outcome.{Outcome}
 use Rattle.rules.specs.declared.Refusal.{Refusal}
-use Rattle.rules.specs.Basics.{Each, upTo}
+use Rattle.rules.specs.Basics.{if_then_else_, Each, upTo}
 use Rattle.rules.specs.Verdicts.{Numbers, numbers}
 use Rattle.rules.specs.Books.{Book, operatorCount}
-use Rattle.rules.specs.Requests.{Kind, register, confirm, withdraw, guarantee, openBatch, undo, keep, closeGate, schedule, settle, kindNumber, requestOf}
+use Rattle.rules.specs.Requests.{Kind, register, confirm, withdraw, guarantee, openBatch, undo, keep, closeGate, schedule, settle, strip, kindNumber, kindOf, fieldIn, unreadable, readChecks, isStrip, stripChecks}
 use Rattle.rules.specs.Settlement.{results, figuresIn}
-use Rattle.rules.specs.Calls.{Call, callKind, settles, refusal, answer, resultsAfter, _oneOf_, step, workedOut, settlement}
+use Rattle.rules.specs.Calls.{Call, callKind, bytesChecks, settles, refusal, answer, resultsAfter, _oneOf_, step, workedOut, settlement}
 use Rattle.rules.specs.Lists.{isAcceptance, accepts, acceptsAs}
 use Rattle.rules.specs.Replay.{callOf, answered, answerLines, settledLines, lineText, text}
 use Rattle.rules.proofs.Basics.Searches.{each-map, counting-length}
-use Rattle.rules.proofs.Checks.Passed.{Passed, passed-2, passed-kind, readable}
+use Rattle.rules.proofs.Checks.Clearing.{Clear}
+use Rattle.rules.proofs.Checks.Passed.{Passed, passed-2, passed-3, kind-number, strip-readable, readable}
 use Rattle.rules.proofs.Lists.CallLists.{accepts-passed}
 use Rattle.records.proofs.ReadingLaws.{kind-third}
 use Rattle.items.specs.Stream.{recordLength}
@@ -36,17 +38,25 @@ use Rattle.replaying.specs.Lent.{answerText}
 
 -- ---- which items settle
 
+-- bytes that are not refused can be read, and say the number of their kind
+read-kind : (s : List ℕ) → Clear (bytesChecks s) → (unreadable s ≡ false) × (kindNumber (kindOf (fieldIn s 0)) ≡ fieldIn s 0)
+read-kind s h = go (isStrip s) refl h
+  where
+    go : (t : Bool) → isStrip s ≡ t → Clear (if t then stripChecks s else readChecks s)
+        → (unreadable s ≡ false) × (kindNumber (kindOf (fieldIn s 0)) ≡ fieldIn s 0)
+    go true e h = (strip-readable s h, rw (eqb-true (fieldIn s 0) (kindNumber strip) e))
+    go false e h = (passed-2 s h, kind-number (fieldIn s 0) (passed-3 s h))
+
 module _ (b : Book) (item : List ℕ) where
   -- the kind that a call passed with is the item's third byte
   third-byte : Passed b (callOf item) → kindNumber (callKind (callOf item)) ≡ getD item 2 0
-  unfolding requestOf
   third-byte p =
       let s : List ℕ = callOf item .bytes in
-      let read = passed-2 s (p .read) in
+      let (read, kind) = read-kind s (p .read) in
       let r = readable s read in
       let n = length-take-le (recordLength item) item (record-within item) in
       let l : 2 < recordLength item = omega (arith, ap length (record-bytes item)) in
-      passed-kind p
+      kind
       ∙ kind-third s read
       ∙ number-at-one s 2
       ∙ ap (λ (x : List ℕ). getD x 2 0) (sym (record-bytes item))
@@ -82,6 +92,7 @@ module _ (b : Book) (c : Call) where
   others keep h = refl
   others closeGate h = refl
   others schedule h = refl
+  others strip h = refl
   others settle h = let z : _≡_ {A = ℕ} 0 1 = cc in absurd (omega arith)
 
   unsettled-go : (o : Option Refusal) → (isAcceptance (answer b c o .outcome .verdict) && callKind c oneOf (settle ∷ [])) ≡ false

@@ -3,3 +3,5 @@
 pub mod Fields
 -- RoundTrip: a request that is written reads back, and a record that is read writes back.
 pub mod RoundTrip
+-- StripRows: the rows of a strip.
+pub mod StripRows

@@ -5,6 +5,8 @@ pub mod SignedReading
 pub mod Balanced
 -- AccountHours: what one row more, or a row marked, does to an account hour.
 pub mod AccountHours
+-- Easing: what eases an account hour keeps its margins and its cover.
+pub mod Easing
 -- RowTests: what the tests on rows say, and the rows that an accepted confirm and withdraw name.
 pub mod RowTests
 -- RowChanges: what marking a row and closing the gate keep.

@@ -1,8 +1,8 @@
--- The ten calls (document 01, "Registration", "Schedules and settlement", "Verdicts"): what each is refused for, in rank, and what
--- an accepted one gives and makes of the book and of the buffers that it was lent.
+-- The calls (document 01, "Registration", "Schedules and settlement", "Verdicts"; document 02, note 3): what each is refused for, in
+-- rank, and what an accepted one gives and makes of the book and of the buffers that it was lent.
 use Prim.Native.Nat.{ℕ, suc, _-_, _*_}
 use mathlib.Core.Path.{_≡_}
-use mathlib.Core.List.{List, [], _∷_, _++_}
+use mathlib.Core.List.{List, [], _∷_, _++_, map}
 use mathlib.Core.Option.{Option, none, some}
 use mathlib.Core.Bool.{Bool, true, false, not, _&&_, _||_}
 use lib.ListN.{length}
@@ -14,13 +14,13 @@ use Rattle.rules.specs.declared.Balance.{Balance}
 use Rattle.rules.specs.declared.Request.{Request}
 use Rattle.rules.specs.declared.Outcome.{Outcome}
 use Rattle.rules.specs.declared.Refusal.{Refusal}
-use Rattle.rules.specs.declared.Refusal.the-variants.{WrongLength, OutOfRange, SameAccount, BufferShort, WrongPhase, BatchOpen, NoBatch, AlreadyPending, RowsFull, NoSuchRow, NotMirrored, MarginBroken, Uncovered, SchedulesFull}
+use Rattle.rules.specs.declared.Refusal.the-variants.{WrongLength, OutOfRange, SameAccount, BufferShort, WrongPhase, BatchOpen, NoBatch, AlreadyPending, RowsFull, NoSuchRow, NotMirrored, MarginBroken, Uncovered, SchedulesFull, StripTwins}
 use Rattle.rules.specs.Basics.{if_then_else_, anyPasses, isSome, nth, put}
-use Rattle.rules.specs.Limits.{mostPrice, mostRows, mostSchedules}
+use Rattle.rules.specs.Limits.{mostPrice, mostSchedules}
 use Rattle.rules.specs.Verdicts.{Check, _⇒_, _⇒↑_, firstToApply, accepted, refused}
 use Rattle.rules.specs.Books.{Setup, Part, Book, withPhase, withPart, withSchedules, withSaved, withGuarantees, withRows, noRow, operatorOf, operatorCount, countsOf, confirmedStatus, withdrawnStatus, registrationPhase, schedulesPhase, settledPhase}
-use Rattle.rules.specs.Requests.{Kind, register, confirm, withdraw, guarantee, openBatch, undo, keep, closeGate, schedule, settle, kindNumber, kindOf, requestOf, readChecks, faultyBit, sameAccounts, filled}
-use Rattle.rules.specs.Registration.{proposed, alike, confirms, withdraws, mirrors, mark, closed, brokenHour, covered, netOf}
+use Rattle.rules.specs.Requests.{Kind, register, confirm, withdraw, guarantee, openBatch, undo, keep, closeGate, schedule, settle, strip, kindNumber, kindOf, fieldIn, isStrip, readChecks, stripChecks, requestsOf, firstOf, faultyBitAmong, sameAccounts, filled}
+use Rattle.rules.specs.Registration.{proposed, hasTwin, twins, rowsPass, confirms, withdraws, mirrors, mark, closed, brokenHour, covered, netOf}
 use Rattle.rules.specs.Settlement.{priceCount, pricesIn, results, balances, balanceBytes}
 
 -- ---- a call: a record, and what only settle looks at: the price table and two output buffers
@@ -31,11 +31,12 @@ pub record Call : Type 0 where
   pub results : List ℕ
   pub balances : List ℕ
 
-abbrev pub callRequest : Call → Request
-callRequest c = requestOf (c .bytes)
-
 abbrev pub callKind : Call → Kind
-callKind c = kindOf (callRequest c .kind)
+callKind c = kindOf (fieldIn (c .bytes) 0)
+
+-- a strip's rows, or the request of its record
+abbrev pub callRequests : Call → List Request
+callRequests c = requestsOf (c .bytes)
 
 -- ---- what an accepted call does
 
@@ -67,17 +68,18 @@ abbrev pub scheduled : Request → Schedule
 scheduled q = record { point = q .point; side = q .side; hour = q .first; quantity = q .quantity; price = q .price }
 
 -- the change that a kind makes
-abbrev pub change : Kind → Book → Request → Change
-change register b q = addRows (proposed q ∷ [])
-change confirm b q = setStatus (confirmedNumber b q) confirmedStatus
-change withdraw b q = setStatus (q .number) withdrawnStatus
-change guarantee b q = setGuarantee (q .operator) (q .guarantee)
-change openBatch b q = savePart
-change undo b q = restorePart
-change keep b q = dropSaved
-change closeGate b q = shutGate
-change schedule b q = addSchedule (scheduled q)
-change settle b q = endDay
+abbrev pub change : Kind → Book → List Request → Change
+change register b qs = addRows (map proposed qs)
+change confirm b qs = setStatus (confirmedNumber b (firstOf qs)) confirmedStatus
+change withdraw b qs = setStatus (firstOf qs .number) withdrawnStatus
+change guarantee b qs = setGuarantee (firstOf qs .operator) (firstOf qs .guarantee)
+change openBatch b qs = savePart
+change undo b qs = restorePart
+change keep b qs = dropSaved
+change closeGate b qs = shutGate
+change schedule b qs = addSchedule (scheduled (firstOf qs))
+change settle b qs = endDay
+change strip b qs = addRows (map proposed qs)
 
 -- the part as it was saved
 abbrev pub restored : Option Part → Part → Part
@@ -97,21 +99,22 @@ apply (addSchedule x) b = withSchedules b (b .schedules ++ x ∷ [])
 apply endDay b = withPhase b settledPhase
 
 -- the book after an accepted call
-abbrev pub next : Kind → Book → Request → Book
-next k b q = apply (change k b q) b
+abbrev pub next : Kind → Book → List Request → Book
+next k b qs = apply (change k b qs) b
 
--- the number that it gives: the row's, the rows registered since the open, the schedule's place
-unfoldable pub given : Kind → Book → Request → ℕ
-given register b q = suc (length (b .part .rows))
-given confirm b q = confirmedNumber b q
-given withdraw b q = 0
-given guarantee b q = 0
-given openBatch b q = 0
-given undo b q = length (b .part .rows) - length (restored (b .saved) (b .part) .rows)
-given keep b q = 0
-given closeGate b q = 0
-given schedule b q = suc (length (b .schedules))
-given settle b q = 0
+-- the number that it gives: the first added row's, the confirmed row's, the rows registered since the open, the schedule's place
+unfoldable pub given : Kind → Book → List Request → ℕ
+given register b qs = suc (length (b .part .rows))
+given confirm b qs = confirmedNumber b (firstOf qs)
+given withdraw b qs = 0
+given guarantee b qs = 0
+given openBatch b qs = 0
+given undo b qs = length (b .part .rows) - length (restored (b .saved) (b .part) .rows)
+given keep b qs = 0
+given closeGate b qs = 0
+given schedule b qs = suc (length (b .schedules))
+given settle b qs = 0
+given strip b qs = suc (length (b .part .rows))
 
 -- ---- what a call is refused for
 
@@ -120,19 +123,27 @@ abbrev pub _oneOf_ : Kind → List Kind → Bool
 k oneOf [] = false
 k oneOf (j ∷ js) = eqb (kindNumber k) (kindNumber j) || k oneOf js
 
+-- the kinds that add rows
+abbrev pub adding : List Kind
+adding = register ∷ strip ∷ []
+
 -- what was found, where the test holds
 abbrev pub when : Bool → Option ℕ → Option ℕ
 when true found = found
 when false found = none
 
--- 5 to 10, beside what the record itself is refused for
-unfoldable pub inputChecks : Book → Call → Kind → Request → List Check
-inputChecks b c k q =
+-- what its bytes are refused for themselves: 2 to 5; of a strip also 21, and 2 to 4 of its rows
+abbrev pub bytesChecks : List ℕ → List Check
+bytesChecks s = if isStrip s then stripChecks s else readChecks s
+
+-- 5 to 10, beside what the bytes themselves are refused for; of several requests the first that a check applies to gives the details
+unfoldable pub inputChecks : Book → Call → Kind → List Request → List Check
+inputChecks b c k qs =
     (k oneOf (settle ∷ []) && not (eqb (length (c .prices)) (4 * priceCount (b .setup))) ⇒ WrongLength)
-    ∷ (faultyBit (countsOf (b .setup)) q ⇒↑ OutOfRange)
-    ∷ (k oneOf (settle ∷ []) && anyPasses (λ p. ltb mostPrice (p .0)) (pricesIn (b .setup) (c .prices)) ⇒ OutOfRange 12)
-    ∷ (sameAccounts q ⇒ SameAccount)
-    ∷ (k oneOf (settle ∷ [])
+    ∷ map (λ q. faultyBitAmong (countsOf (b .setup)) (firstOf qs .account) q ⇒↑ OutOfRange) qs
+    ++ (k oneOf (settle ∷ []) && anyPasses (λ p. ltb mostPrice (p .0)) (pricesIn (b .setup) (c .prices)) ⇒ OutOfRange 12)
+    ∷ map (λ q. sameAccounts q ⇒ SameAccount) qs
+    ++ (k oneOf (settle ∷ [])
     && (ltb (length (c .results)) (length (b .schedules)) || ltb (length (c .balances)) (8 * operatorCount (b .setup)))
     ⇒ BufferShort)
     ∷ []
@@ -145,26 +156,28 @@ phaseOf k = if k oneOf (schedule ∷ settle ∷ []) then schedulesPhase else reg
 abbrev pub exposedOperator : Kind → Setup → Request → ℕ
 exposedOperator k u q = if k oneOf (guarantee ∷ []) then q .operator else operatorOf u (q .account)
 
--- 11 to 20; margins and exposure are judged on the book as it would be
-unfoldable pub stateChecks : Book → Kind → Request → List Check
-stateChecks b k q =
+-- 11 to 20, with 22 after 14; margins and exposure are judged on the book as it would be, with every row in
+unfoldable pub stateChecks : Book → Kind → List Request → List Check
+stateChecks b k qs =
+    let q = firstOf qs in
     (not (eqb (b .phase) (phaseOf k)) ⇒ WrongPhase)
     ∷ (k oneOf (openBatch ∷ closeGate ∷ []) && isSome (b .saved) ⇒ BatchOpen)
     ∷ (k oneOf (undo ∷ keep ∷ []) && not (isSome (b .saved)) ⇒ NoBatch)
-    ∷ (k oneOf (register ∷ []) && anyPasses (alike (q .account) (q .other) (q .code)) (b .part .rows) ⇒ AlreadyPending)
-    ∷ (k oneOf (register ∷ []) && leb mostRows (length (b .part .rows)) ⇒ RowsFull)
+    ∷ (k oneOf adding && anyPasses (hasTwin (b .part .rows)) qs ⇒ AlreadyPending)
+    ∷ (k oneOf adding && twins qs ⇒ StripTwins)
+    ∷ (k oneOf adding && not (rowsPass (b .part .rows) (length qs)) ⇒ RowsFull)
     ∷ (k oneOf (confirm ∷ []) && not (isSome (confirms (b .part .rows) q)) ⇒ NoSuchRow)
     ∷ (k oneOf (withdraw ∷ []) && not (withdraws (b .part .rows) q) ⇒ NoSuchRow)
     ∷ (k oneOf (confirm ∷ []) && not (mirrors q (nth (b .part .rows) (confirmedNumber b q) noRow)) ⇒ NotMirrored)
-    ∷ (when (k oneOf (register ∷ confirm ∷ [])) (brokenHour (b .setup) (next k b q .part .rows) (q .account)) ⇒↑ MarginBroken)
-    ∷ (k oneOf (register ∷ confirm ∷ guarantee ∷ []) && not (covered (b .setup) (next k b q .part) (exposedOperator k (b .setup) q)) ⇒ Uncovered)
+    ∷ (when (k oneOf (confirm ∷ adding)) (brokenHour (b .setup) (next k b qs .part .rows) (q .account)) ⇒↑ MarginBroken)
+    ∷ (k oneOf (confirm ∷ guarantee ∷ adding) && not (covered (b .setup) (next k b qs .part) (exposedOperator k (b .setup) q)) ⇒ Uncovered)
     ∷ (k oneOf (schedule ∷ []) && leb mostSchedules (length (b .schedules)) ⇒ SchedulesFull)
     ∷ []
 
 -- every check, in rank
 unfoldable pub checks : Book → Call → List Check
 checks b c =
-    readChecks (c .bytes) ++ inputChecks b c (callKind c) (callRequest c) ++ stateChecks b (callKind c) (callRequest c)
+    bytesChecks (c .bytes) ++ inputChecks b c (callKind c) (callRequests c) ++ stateChecks b (callKind c) (callRequests c)
 
 -- what a call is refused for, if anything
 unfoldable pub refusal : Book → Call → Option Refusal
@@ -224,8 +237,8 @@ answer b c (some r) = refusedOn r b c
 answer b c none =
     let w = settles (callKind c) b c in
     record {
-      outcome = accepted (given (callKind c) b (callRequest c));
-      book = next (callKind c) b (callRequest c);
+      outcome = accepted (given (callKind c) b (callRequests c));
+      book = next (callKind c) b (callRequests c);
       results = resultsAfter w (c .results);
       balances = balancesAfter w (c .balances);
     }

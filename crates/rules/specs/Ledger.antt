@@ -1,4 +1,4 @@
--- The ledger (document 01, "What demand 3 compares"): fed only the set-up's bytes, each record and whether it was accepted.
+-- The ledger (document 01, "What demand 3 compares"; document 02, note 3): fed only the set-up's bytes, each record and whether it was accepted.
 use Prim.Native.Nat.{ℕ, suc}
 use mathlib.Core.List.{List, [], _∷_, _++_}
 use mathlib.Core.Bool.{Bool, true, false, _&&_}
@@ -15,7 +15,7 @@ use Rattle.rules.specs.declared.Request.{Request}
 use Rattle.rules.specs.Basics.{if_then_else_, total, put, within}
 use Rattle.rules.specs.Books.{Setup, estimateAt, guaranteeAt, sellingSide, buyingSide}
 use Rattle.rules.specs.Opening.{setupOf, guaranteesOf}
-use Rattle.rules.specs.Requests.{Kind, register, confirm, withdraw, guarantee, openBatch, undo, keep, closeGate, schedule, settle, kindOf, requestOf}
+use Rattle.rules.specs.Requests.{Kind, register, confirm, withdraw, guarantee, openBatch, undo, keep, closeGate, schedule, settle, strip, kindOf, requestsOf}
 use Rattle.rules.specs.Registration.{proposed, alike, counted, includesHour, exposureOf, availableOf}
 use Rattle.rules.specs.Settlement.{Judged, settled}
 use Rattle.rules.specs.Lists.{heard}
@@ -97,9 +97,10 @@ tradeOf q =
 abbrev pub entered : Page → Row → Page
 entered p r = pageNext (pagePending p (p .pending ++ record { number = p .nextNumber; row = r } ∷ [])) (suc (p .nextNumber))
 
--- an accepted record on a page, with the copy beside it: register adds a pending row with the next number; confirm ends the pending
+-- an accepted request on a page, with the copy beside it: register adds a pending row with the next number; confirm ends the pending
 -- row with its code and its accounts exchanged, and adds its trade; withdraw ends the row of its number, close all pending;
--- guarantee replaces the old one; undo puts the copy back; schedule adds itself
+-- guarantee replaces the old one; undo puts the copy back; schedule adds itself. No request is
+-- of the kind of a strip
 unfoldable pub pageAfter : Kind → Request → Page → Page → Page
 pageAfter register q copy p = entered p (proposed q)
 pageAfter confirm q copy p =
@@ -112,8 +113,9 @@ pageAfter keep q copy p = p
 pageAfter closeGate q copy p = pagePending p []
 pageAfter schedule q copy p = pageSchedules p (p .schedules ++ scheduled q ∷ [])
 pageAfter settle q copy p = p
+pageAfter strip q copy p = p
 
--- an accepted record on the ledger; open copies the whole page, next number too
+-- an accepted request on the ledger; open copies the whole page, next number too
 unfoldable pub feed : Kind → Request → Ledger → Ledger
 feed k q l =
     record {
@@ -122,9 +124,14 @@ feed k q l =
       copy = if k oneOf (openBatch ∷ []) then l .page else l .copy;
     }
 
--- a record, and whether it was accepted: a refused one leaves the ledger unchanged
+-- several, one after the other
+unfoldable pub feedEach : List Request → Ledger → Ledger
+feedEach [] l = l
+feedEach (q ∷ qs) l = feedEach qs (feed (kindOf (q .kind)) q l)
+
+-- a record, and whether it was accepted: a strip enters as its registers in turn; a refused one leaves the ledger unchanged
 unfoldable pub fed : List ℕ → Bool → Ledger → Ledger
-fed record′ true l = feed (kindOf (requestOf record′ .kind)) (requestOf record′) l
+fed record′ true l = feedEach (requestsOf record′) l
 fed record′ false l = l
 
 -- ---- a list of calls

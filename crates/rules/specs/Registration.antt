@@ -3,7 +3,8 @@
 use Prim.Native.Nat.{ℕ, _+_, _-_, _*_}
 use mathlib.Core.List.{List, [], _∷_, map}
 use mathlib.Core.Option.{Option}
-use mathlib.Core.Bool.{Bool, not, _&&_}
+use mathlib.Core.Bool.{Bool, false, not, _&&_, _||_}
+use lib.ListN.{length}
 use lib.Dec.{eqb, leb}
 use lib.IntN.{ℤ, pos, subℕ, _+ℤ_, _-ℤ_}
 use Rattle.units.specs.declared.CentsPerMwh.{CentsPerMwh}
@@ -13,8 +14,8 @@ use Rattle.rules.specs.declared.Row.{Row}
 use Rattle.rules.specs.declared.Net.{Net}
 use Rattle.rules.specs.declared.AccountHour.{AccountHour}
 use Rattle.rules.specs.declared.Request.{Request}
-use Rattle.rules.specs.Basics.{if_then_else_, total, find, indexOf, nth, put, upTo, within}
-use Rattle.rules.specs.Limits.{thousand}
+use Rattle.rules.specs.Basics.{if_then_else_, total, anyPasses, find, indexOf, nth, put, upTo, within}
+use Rattle.rules.specs.Limits.{thousand, mostRows}
 use Rattle.rules.specs.Books.{Setup, Part, periods, marginsAt, estimateAt, maintenanceAt, guaranteeAt, operatorOf, accountCount, noRow, pendingStatus, confirmedStatus, withdrawnStatus, sellingSide, buyingSide}
 
 -- ---- rows
@@ -77,6 +78,23 @@ proposed q =
 unfoldable pub alike : ℕ → ℕ → ℕ → Row → Bool
 alike proposer counterparty code r =
     pending r && eqb (r .proposer) proposer && eqb (r .counterparty) counterparty && eqb (r .code) code
+
+-- a row that stands is alike the one that the request proposes
+abbrev pub hasTwin : List Row → Request → Bool
+hasTwin rows q = anyPasses (alike (q .account) (q .other) (q .code)) rows
+
+-- a request with this counterparty and code
+abbrev pub ofCode : ℕ → ℕ → Request → Bool
+ofCode counterparty code q = eqb (q .other) counterparty && eqb (q .code) code
+
+-- two of the requests are alike in counterparty and code
+unfoldable pub twins : List Request → Bool
+twins [] = false
+twins (q ∷ qs) = anyPasses (ofCode (q .other) (q .code)) qs || twins qs
+
+-- numbers enough are left for n rows more; withdrawn rows keep theirs
+abbrev pub rowsPass : List Row → ℕ → Bool
+rowsPass rows n = leb (length rows + n) mostRows
 
 -- the index of the row that confirm names: the caller is its counterparty, the other account its proposer
 unfoldable pub confirms : List Row → Request → Option ℕ

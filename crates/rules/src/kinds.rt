@@ -19,3 +19,6 @@ pub const SCHEDULE: u8 = 9;
 
 // It alone is lent a price table and two buffers.
 pub const SETTLE: u8 = 10;
+
+// Its record holds others: up to 24 registers.
+pub const STRIP: u8 = 11;

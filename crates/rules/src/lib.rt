@@ -123,7 +123,7 @@ pub struct Request {
     pub price: CentsPerMwh,
 }
 
-// Why a call is refused, with the details that go with it. In the order of the paper's numbers, 1 to 20.
+// Why a call is refused, with the details that go with it. In the order of their numbers, 1 to 22.
 pub enum Refusal {
     NotABook,
     Unreadable,
@@ -145,6 +145,8 @@ pub enum Refusal {
     MarginBroken { hour: u8 },
     Uncovered,
     SchedulesFull,
+    StripCount,
+    StripTwins,
 }
 
 // What a row of checks comes to: nothing applies, or a refusal does.

@@ -15,6 +15,9 @@ pub const THOUSAND: u16 = 1000;
 // Rows that may have numbers in a day, withdrawn ones too.
 pub const MOST_ROWS: u16 = 256;
 
+// Rows that a strip may have.
+pub const MOST_STRIP: u8 = 24;
+
 // Schedules that a book has room for.
 pub const MOST_SCHEDULES: usize = 256;
 

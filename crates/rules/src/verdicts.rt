@@ -42,6 +42,8 @@ pub fn refusal_numbers(r: Refusal) -> Numbers
         Refusal::MarginBroken { hour } => numbered(18, hour as u16, 0),
         Refusal::Uncovered => numbered(19, 0, 0),
         Refusal::SchedulesFull => numbered(20, 0, 0),
+        Refusal::StripCount => numbered(21, 0, 0),
+        Refusal::StripTwins => numbered(22, 0, 0),
     }
 }
 

@@ -1,6 +1,7 @@
 -- What the state refuses a schedule for, test by test: the checks of other kinds vanish, and the first that is left and holds decides.
 use Prim.Native.Nat.{_≤_, _<_}
 use mathlib.Core.Path.{_≡_}
+use mathlib.Core.List.{[], _∷_}
 use mathlib.Core.Option.{none, some}
 use lib.ListN.{length}
 use borrow.Author.Tests.{eq-eqb, le-leb, lt-leb}
@@ -27,4 +28,4 @@ module _ (b : Book) (q : Request) (second : b .phase ≡ 2) where
 
 -- an accepted schedule has a place
 pub few-schedules : (b : Book) (q : Request) → decided schedule b q ≡ none → length (b .schedules) < mostSchedules
-few-schedules b q d = passed-20 b q (decided-clear schedule b q d)
+few-schedules b q d = passed-20 b (q ∷ []) (decided-clear schedule b q d)

@@ -1,7 +1,7 @@
 -- A schedule handed in: its 11 bytes with the count are all that is written, and they make the image of the next book.
 use Prim.Native.Nat.{ℕ, _+_, _*_}
 use mathlib.Core.Path.{_≡_, refl, sym, ap, _∙_}
-use mathlib.Core.List.{List}
+use mathlib.Core.List.{List, [], _∷_}
 use mathlib.Core.Option.{none}
 use mathlib.Core.Bool.{true}
 use native.Mathlib.Omega.{arith}
@@ -20,7 +20,7 @@ use Rattle.image.proofs.Keeping.KeepsKinds.{schedule-allowed}
 use Rattle.book.specs.Kinds.{decided, Ready}
 use Rattle.book.proofs.StateLaws.{book-image, book-fits, book-is-sound}
 use Rattle.book.proofs.Answers.{decided-clear, Answered, accepted-answered}
-use Rattle.book.proofs.Readiness.{bare, ready-input}
+use Rattle.book.proofs.Readiness.{bare, ready-asked, ready-input}
 use Rattle.settlement.specs.Scheduling.{scheduleAppended}
 use Rattle.settlement.proofs.Decisions.{few-schedules}
 
@@ -37,4 +37,4 @@ scheduled-answered s t h q n r d e w =
     ∙ ap (λ (x : List ℕ). scheduleAppended x n (scheduled q)) (book-image s h)
     ∙ write-schedule mostHours bookSize (bookIn s) (book-fits s h) (scheduled q) n (schedulesOffset + scheduleWidth * n) e (omega (arith, e, few)) refl)
     (apply-keeps _ (bookIn s) (book-is-sound s h)
-    (schedule-allowed (bookIn s) q (book-is-sound s h) bare (sym (r .of-kind)) (ready-input schedule (bookIn s) q r bare refl) (decided-clear schedule (bookIn s) q d)))
+    (schedule-allowed (bookIn s) (q ∷ []) (book-is-sound s h) bare (ready-asked schedule (bookIn s) q r refl) (ready-input schedule (bookIn s) q r bare refl) (decided-clear schedule (bookIn s) q d)))

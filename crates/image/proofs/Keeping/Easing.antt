@@ -1,117 +1,24 @@
--- What eases an account hour: low no lower, high no higher, no more exposed. A confirm eases every account but its caller, for what
--- the proposer has pending turns into net; rows added every account but their proposer; a withdrawal and the close of the gate all.
--- A purchase that waits and a sale that is confirmed expose no operator more.
-use Prim.Native.Nat.{ℕ, _+_, _*_, _≤_}
+-- What eases account hours. A confirm eases every account but its caller, for what the proposer has pending turns into net; rows added
+-- every account but their proposer; a withdrawal and the close of the gate all. A purchase that waits and a sale that is confirmed expose
+-- no operator more.
+use Prim.Native.Nat.{ℕ, _≤_}
 use mathlib.Core.Path.{_≡_, refl, sym, ap, _∙_}
 use mathlib.Core.Logic.{_⊎_, inl, inr, ⊎-elim}
 use mathlib.Core.List.{List, [], _∷_, _++_}
 use mathlib.Core.Bool.{Bool, true, false, _&&_, and-false, and-true}
-use native.Mathlib.Nat.{add-zero, mul-le-mul-left}
+use native.Mathlib.Nat.{add-zero}
 use native.Mathlib.Omega.{arith}
 use lib.Dec.{eqb}
-use lib.IntN.{subℕ}
 use lib.Signed.{_≤ℤ_}
-use borrow.Author.Tests.{eqb-true, eqb-false, leb-true, le-leb, eq-eqb, ne-eqb}
-use Rattle.units.specs.declared.Cents.{Cents}
-use Rattle.units.specs.declared.CentsPerMwh.{CentsPerMwh}
-use Rattle.rules.specs.declared.Margins.{Margins}
+use borrow.Author.Tests.{eqb-true, eqb-false, eq-eqb, ne-eqb}
 use Rattle.rules.specs.declared.Row.{Row}
-use Rattle.rules.specs.declared.AccountHour.{AccountHour}
-use Rattle.rules.specs.Basics.{if_then_else_, total, nth, upTo, Each}
-use Rattle.rules.specs.Books.{Setup, noRow, accountCount, estimateAt, operatorOf, periods}
-use Rattle.rules.specs.Registration.{pending, includesHour, seller, buyer, mark, closed, bought, sold, accountHour, afterTrade, low, high, keepsMargins, exposed, ofOperator, exposureOf, exposure, available, covered, exposureWith}
-use Rattle.rules.proofs.Basics.Tests.{and-both}
+use Rattle.rules.specs.Basics.{if_then_else_, nth, Each}
+use Rattle.rules.specs.Books.{Setup, noRow, estimateAt, operatorOf}
+use Rattle.rules.specs.Registration.{pending, includesHour, seller, buyer, mark, closed, bought, sold, accountHour, afterTrade, low, high, exposed, exposure, exposureWith}
 use Rattle.rules.proofs.Basics.Searches.{each-map}
-use Rattle.rules.proofs.Basics.Differences.{difference-order, order-by, difference-more, difference-less}
 use Rattle.rules.proofs.Rows.AccountHours.{share, weight, moved-confirm, moved-withdraw, moved-close, waiting-end, waiting-close, hour-added, hour-confirm}
+use Rattle.rules.proofs.Rows.Easing.{Eased, eased-refl, eased-low, eased-high, no-more-exposure, eased-exposure}
 use Rattle.image.proofs.Sound.Soundness.{SoundRow}
-
--- ---- one account hour and the next, in natural numbers
-
-pub record Eased (x y : AccountHour) : Type 0 where
-  pub low-no-lower : y .net .sold .0 + y .sales .0 + x .net .bought .0 ≤ x .net .sold .0 + x .sales .0 + y .net .bought .0
-  pub high-no-higher : y .net .bought .0 + y .purchases .0 + x .net .sold .0 ≤ x .net .bought .0 + x .purchases .0 + y .net .sold .0
-  pub no-more-exposed : exposed y ≤ exposed x
-
-eased-refl : (x : AccountHour) → Eased x x
-eased-refl x = record { low-no-lower = omega arith; high-no-higher = omega arith; no-more-exposed = omega arith }
-
--- the same of the paper's signed figures
-difference-le : (a b c d : ℕ) → a + d ≤ c + b → subℕ a b ≤ℤ subℕ c d
-difference-le a b c d h = order-by (subℕ a b) (subℕ c d) _ (difference-order a b c d) .0 (le-leb (a + d) (c + b) h)
-
-pub eased-low : (x y : AccountHour) → Eased x y → low x ≤ℤ low y
-eased-low x y e =
-    simp difference-less
-    (difference-le
-    (x .net .bought .0)
-    (x .net .sold .0 + x .sales .0)
-    (y .net .bought .0)
-    (y .net .sold .0 + y .sales .0)
-    (omega (arith, e .low-no-lower)))
-
-pub eased-high : (x y : AccountHour) → Eased x y → high y ≤ℤ high x
-eased-high x y e =
-    simp difference-more
-    (difference-le
-    (y .net .bought .0 + y .purchases .0)
-    (y .net .sold .0)
-    (x .net .bought .0 + x .purchases .0)
-    (x .net .sold .0)
-    (omega (arith, e .high-no-higher)))
-
-margins-true : (margins : Margins) (x : AccountHour) → keepsMargins margins x ≡ true
-    → (x .net .sold .0 + x .sales .0 ≤ x .net .bought .0 + margins .lower .0)
-    × (x .net .bought .0 + x .purchases .0 ≤ x .net .sold .0 + margins .upper .0)
-unfolding keepsMargins
-margins-true margins x h = let w = and-both _ _ .0 h in (leb-true _ _ (w .0), leb-true _ _ (w .1))
-
--- margins that were kept are kept
-pub eased-margins : (margins : Margins) (x y : AccountHour) → Eased x y → keepsMargins margins x ≡ true → keepsMargins margins y ≡ true
-unfolding keepsMargins
-eased-margins margins x y e h =
-    let (l, u) = margins-true margins x h in
-    rw (
-      le-leb (y .net .sold .0 + y .sales .0) (y .net .bought .0 + margins .lower .0) (omega (arith, e .low-no-lower)),
-      le-leb (y .net .bought .0 + y .purchases .0) (y .net .sold .0 + margins .upper .0) (omega (arith, e .high-no-higher)),
-    )
-
--- ---- an operator
-
-total-le : (f g : ℕ → ℕ) (xs : List ℕ) → ((x : ℕ) → f x ≤ g x) → total f xs ≤ total g xs
-unfolding total
-total-le f g [] h = omega arith
-total-le f g (x ∷ xs) h = omega (arith, h x, total-le f g xs h)
-
--- where an operator's accounts are exposed no more in any hour, neither is it
-no-more-exposure : (u : Setup) (prices : ℕ → CentsPerMwh) (before after : ℕ → ℕ → AccountHour) (o : ℕ)
-    → ((a h : ℕ) → operatorOf u a ≡ o → exposed (after a h) ≤ exposed (before a h))
-    → exposureOf u prices after o ≤ exposureOf u prices before o
-unfolding exposureOf ofOperator
-no-more-exposure u prices before after o no-more = total-le _ _ (upTo (accountCount u)) (λ a. go a (eqb (operatorOf u a) o) refl)
-  where
-    go : (a : ℕ) (t : Bool) → eqb (operatorOf u a) o ≡ t
-        → (if t then total (λ h. prices h .0 * exposed (after a h)) (upTo (periods u)) else 0)
-        ≤ (if t then total (λ h. prices h .0 * exposed (before a h)) (upTo (periods u)) else 0)
-    go a true w = total-le _ _ (upTo (periods u)) (λ h. mul-le-mul-left (prices h .0) (no-more a h (eqb-true _ _ w)))
-    go a false w = omega arith
-
--- so it is where they are all eased
-eased-exposure : (u : Setup) (rows later : List Row) (o : ℕ)
-    → ((a h : ℕ) → operatorOf u a ≡ o → Eased (accountHour rows a h) (accountHour later a h))
-    → exposure u later o ≤ exposure u rows o
-eased-exposure u rows later o eased =
-    no-more-exposure u (estimateAt u) (accountHour rows) (accountHour later) o (λ a h owns. eased a h owns .no-more-exposed)
-
--- and covered if it was
-pub eased-covered : (u : Setup) (gs : List Cents) (rows later : List Row) (o : ℕ)
-    → ((a h : ℕ) → operatorOf u a ≡ o → Eased (accountHour rows a h) (accountHour later a h))
-    → covered u (record { guarantees = gs; rows = rows }) o ≡ true
-    → covered u (record { guarantees = gs; rows = later }) o ≡ true
-unfolding covered available
-eased-covered u gs rows later o eased h =
-    le-leb (exposure u later o) (available u (record { guarantees = gs; rows = later }) o)
-    (omega (arith, leb-true (exposure u rows o) (available u (record { guarantees = gs; rows = rows }) o) h, eased-exposure u rows later o eased))
 
 -- ---- rows added
 

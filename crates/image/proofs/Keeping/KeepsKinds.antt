@@ -1,41 +1,41 @@
 -- Each kind brings what its change needs: the checks that an accepted call passed say so of a sound book.
 use Prim.Native.Nat.{ℕ, _^_, _<_}
 use mathlib.Core.Path.{_≡_, refl}
-use mathlib.Core.Bool.{true}
+use mathlib.Core.List.{List}
+use mathlib.Core.Option.{none}
+use mathlib.Core.Bool.{true, false}
 use native.Mathlib.Omega.{arith}
 use lib.ListN.{getD}
 use borrow.Author.Tests.{leb-true}
 use Rattle.rules.specs.declared.Request.{Request}
-use Rattle.rules.specs.Basics.{bit}
+use Rattle.rules.specs.Basics.{bit, Each, nil, cons}
 use Rattle.rules.specs.Limits.{mostEnergy, mostPrice, mostGuarantee}
 use Rattle.rules.specs.Books.{Setup, Book, countsOf, periods, accountCount, pointCount}
-use Rattle.rules.specs.Requests.{Kind, register, confirm, withdraw, guarantee, openBatch, undo, keep, closeGate, schedule, settle, kindNumber, wantedMap, fieldCount, inRange}
+use Rattle.rules.specs.Requests.{Kind, register, confirm, withdraw, guarantee, openBatch, undo, keep, closeGate, schedule, settle, strip, kindNumber, wantedMap, firstOf, fieldCount, inRange, faultyBit, sameAccounts}
 use Rattle.rules.specs.Registration.{proposed}
 use Rattle.rules.specs.Calls.{Call, confirmedNumber, scheduled, change, apply, inputChecks, stateChecks}
 use Rattle.rules.proofs.Basics.Tests.{within-true}
 use Rattle.rules.proofs.Checks.Clearing.{Clear}
-use Rattle.rules.proofs.Checks.Passed.{field-in-range, two-accounts, passed-6, passed-7, passed-11, passed-12, passed-14, passed-15, passed-18, passed-19, passed-20}
+use Rattle.rules.proofs.Checks.Passed.{Asked, first-has, first-kind, field-in-range, two-accounts, passed-6, passed-6-proposer, passed-7, passed-11, passed-12, passed-14, passed-22, passed-15, passed-18, passed-19, passed-20}
 use Rattle.rules.proofs.Rows.RowTests.{passed-confirm, passed-withdraw}
 use Rattle.image.proofs.Sound.Soundness.{SoundRow, SoundSchedule}
 use Rattle.image.proofs.Sound.SoundBooks.{SoundBook}
-use Rattle.image.proofs.Keeping.KeepsParts.{register-addable, confirm-endable, withdraw-endable}
+use Rattle.image.proofs.Keeping.KeepsParts.{requests-addable, confirm-endable, withdraw-endable}
 use Rattle.image.proofs.Keeping.KeepsChanges.{Allowed}
 
 -- ---- what an accepted request's fields hold
 
 -- each field of the kind is in range
-module _ (b : Book) (c : Call) (k : Kind) (q : Request) (named : kindNumber k ≡ q .kind) (input : Clear (inputChecks b c k q)) where
-  pub passed-field : (i : ℕ) → i < fieldCount → bit (wantedMap (kindNumber k)) i ≡ true
-      → getD (inRange (countsOf (b .setup)) q) i true ≡ true
-  passed-field i l e = field-in-range (countsOf (b .setup)) q i (passed-6 b c q k input) l (rw (← named) e)
+module _ (u : Setup) (k : Kind) (q : Request) (named : q .kind ≡ kindNumber k) (fine : faultyBit (countsOf u) q ≡ none) where
+  passed-field : (i : ℕ) → i < fieldCount → bit (wantedMap (kindNumber k)) i ≡ true → getD (inRange (countsOf u) q) i true ≡ true
+  passed-field i l e = field-in-range (countsOf u) q i fine l (rw named e)
 
 -- what register proposes is a row of the book
-pub proposed-sound : (b : Book) (c : Call) (q : Request) → kindNumber register ≡ q .kind → q .code < 256 ^ 8
-    → Clear (inputChecks b c register q) → SoundRow (b .setup) (proposed q)
+pub proposed-sound : (u : Setup) (q : Request) → q .kind ≡ kindNumber register → q .code < 256 ^ 8 → faultyBit (countsOf u) q ≡ none
+    → sameAccounts q ≡ false → SoundRow u (proposed q)
 unfolding bit inRange
-proposed-sound b c q named code input =
-    let u : Setup = b .setup in
-    let field = passed-field b c register q named input in
+proposed-sound u q named code fine differ =
+    let field = passed-field u register q named fine in
     let account = within-true 1 (q .account) (accountCount u) .0 (field 1 (omega arith) refl) in
     let other = within-true 1 (q .other) (accountCount u) .0 (field 2 (omega arith) refl) in
     let side = within-true 1 (q .side) 2 .0 (field 4 (omega arith) refl) in
@@ -47,7 +47,7 @@ proposed-sound b c q named code input =
       proposer-high = account .1;
       counterparty-low = other .0;
       counterparty-high = other .1;
-      two-accounts = two-accounts q (passed-7 b c q register input) (rw (← named));
+      two-accounts = two-accounts q differ (rw named);
       code-fits = code;
       side-low = side .0;
       side-high = side .1;
@@ -61,12 +61,10 @@ proposed-sound b c q named code input =
     }
 
 -- what schedule adds is a schedule of the book
-pub scheduled-sound : (b : Book) (c : Call) (q : Request) → kindNumber schedule ≡ q .kind → Clear (inputChecks b c schedule q)
-    → SoundSchedule (b .setup) (scheduled q)
+pub scheduled-sound : (u : Setup) (q : Request) → q .kind ≡ kindNumber schedule → faultyBit (countsOf u) q ≡ none → SoundSchedule u (scheduled q)
 unfolding bit inRange
-scheduled-sound b c q named input =
-    let u : Setup = b .setup in
-    let field = passed-field b c schedule q named input in
+scheduled-sound u q named fine =
+    let field = passed-field u schedule q named fine in
     let side = within-true 1 (q .side) 2 .0 (field 4 (omega arith) refl) in
     let hour = within-true 1 (q .first) (periods u) .0 (field 5 (omega arith) refl) in
     let quantity = within-true 1 (q .quantity .0) mostEnergy .0 (field 7 (omega arith) refl) in
@@ -85,57 +83,87 @@ scheduled-sound b c q named input =
 
 -- ---- each kind
 
-module _ (b : Book) (q : Request) (s : SoundBook b) where
-  pub register-allowed : (c : Call) → kindNumber register ≡ q .kind → q .code < 256 ^ 8 → Clear (inputChecks b c register q)
-      → Clear (stateChecks b register q) → Allowed b (change register b q)
+-- the codes of a call's requests fit their 8 bytes
+abbrev pub CodesFit : List Request → Type 0
+CodesFit qs = Each (λ q. q .code < 256 ^ 8) qs
+
+-- each row that is proposed is one of the book
+pub each-proposed-sound : (u : Setup) {qs : List Request} → Each (λ q. q .kind ≡ kindNumber register) qs → CodesFit qs
+    → Each (λ q. faultyBit (countsOf u) q ≡ none) qs → Each (λ q. sameAccounts q ≡ false) qs → Each (λ q. SoundRow u (proposed q)) qs
+each-proposed-sound u nil nil nil nil = nil
+each-proposed-sound u (cons {x = q} named kinds) (cons code codes) (cons fine fines) (cons differ differs) =
+    cons (proposed-sound u q named code fine differ) (each-proposed-sound u kinds codes fines differs)
+
+module _ (b : Book) (qs : List Request) (s : SoundBook b) where
+  rows-sound : (k : Kind) (c : Call) → Each (λ q. q .kind ≡ kindNumber register) qs → CodesFit qs → Clear (inputChecks b c k qs)
+      → Each (λ q. SoundRow (b .setup) (proposed q)) qs
+  rows-sound k c kinds codes input = each-proposed-sound (b .setup) kinds codes (passed-6 b c qs k input) (passed-7 b c qs k input)
+
+  pub register-allowed : (c : Call) → Each (λ q. q .kind ≡ kindNumber register) qs → CodesFit qs → Clear (inputChecks b c register qs)
+      → Clear (stateChecks b register qs) → Allowed b (change register b qs)
   unfolding apply
-  register-allowed c named code input state = (
-    passed-11 b q register state,
-    register-addable (b .setup) (b .part) (s .part-sound) q (proposed-sound b c q named code input) (passed-14 b q state) (passed-15 b q state)
-        (passed-18 b q register refl state) (passed-19 b q register refl state),
+  register-allowed c kinds codes input state = (
+    passed-11 b qs register state,
+    requests-addable (b .setup) (b .part) (s .part-sound) qs (firstOf qs .account) (passed-6-proposer b c qs register input) (rows-sound register c kinds codes input)
+        (passed-14 b qs register refl state) (passed-22 b qs register refl state) (passed-15 b qs register refl state)
+        (passed-18 b qs register refl state) (passed-19 b qs register refl state),
   )
 
-  pub confirm-allowed : Clear (stateChecks b confirm q) → Allowed b (change confirm b q)
+  pub strip-allowed : (c : Call) → Each (λ q. q .kind ≡ kindNumber register) qs → CodesFit qs → Clear (inputChecks b c strip qs)
+      → Clear (stateChecks b strip qs) → Allowed b (change strip b qs)
+  unfolding apply
+  strip-allowed c kinds codes input state = (
+    passed-11 b qs strip state,
+    requests-addable (b .setup) (b .part) (s .part-sound) qs (firstOf qs .account) (passed-6-proposer b c qs strip input) (rows-sound strip c kinds codes input)
+        (passed-14 b qs strip refl state) (passed-22 b qs strip refl state) (passed-15 b qs strip refl state)
+        (passed-18 b qs strip refl state) (passed-19 b qs strip refl state),
+  )
+
+  pub confirm-allowed : Clear (stateChecks b confirm qs) → Allowed b (change confirm b qs)
   unfolding apply
   confirm-allowed state =
-      let row = passed-confirm b q state .row in (
-        passed-11 b q confirm state,
+      let q : Request = firstOf qs in
+      let row = passed-confirm b qs state .row in (
+        passed-11 b qs confirm state,
         confirm-endable (b .setup) (b .part) (s .part-sound) (confirmedNumber b q) (q .account) (row .is-pending) (row .counterparty)
-            (passed-18 b q confirm refl state) (passed-19 b q confirm refl state),
+            (passed-18 b qs confirm refl state) (passed-19 b qs confirm refl state),
       )
 
-  pub withdraw-allowed : Clear (stateChecks b withdraw q) → Allowed b (change withdraw b q)
+  pub withdraw-allowed : Clear (stateChecks b withdraw qs) → Allowed b (change withdraw b qs)
   withdraw-allowed state =
-      (passed-11 b q withdraw state, withdraw-endable (b .setup) (b .part) (s .part-sound) (q .number) (passed-withdraw b q state .0))
+      (passed-11 b qs withdraw state, withdraw-endable (b .setup) (b .part) (s .part-sound) (firstOf qs .number) (passed-withdraw b qs state .0))
 
-  pub guarantee-allowed : (c : Call) → kindNumber guarantee ≡ q .kind → Clear (inputChecks b c guarantee q)
-      → Clear (stateChecks b guarantee q) → Allowed b (change guarantee b q)
+  pub guarantee-allowed : (c : Call) → Asked guarantee qs → Clear (inputChecks b c guarantee qs)
+      → Clear (stateChecks b guarantee qs) → Allowed b (change guarantee b qs)
   unfolding apply bit inRange
-  guarantee-allowed c named input state =
-      let high = leb-true (q .guarantee .0) mostGuarantee (passed-field b c guarantee q named input 10 (omega arith) refl) in
-      (passed-11 b q guarantee state, record { high = high; backed = passed-19 b q guarantee refl state })
+  guarantee-allowed c asked input state =
+      let q : Request = firstOf qs in
+      let fine = first-has asked (passed-6 b c qs guarantee input) in
+      let high = leb-true (q .guarantee .0) mostGuarantee (passed-field (b .setup) guarantee q (first-kind asked) fine 10 (omega arith) refl) in
+      (passed-11 b qs guarantee state, record { high = high; backed = passed-19 b qs guarantee refl state })
 
-  pub schedule-allowed : (c : Call) → kindNumber schedule ≡ q .kind → Clear (inputChecks b c schedule q)
-      → Clear (stateChecks b schedule q) → Allowed b (change schedule b q)
-  schedule-allowed c named input state =
+  pub schedule-allowed : (c : Call) → Asked schedule qs → Clear (inputChecks b c schedule qs)
+      → Clear (stateChecks b schedule qs) → Allowed b (change schedule b qs)
+  schedule-allowed c asked input state =
       record {
-        later = λ first. omega (arith, passed-11 b q schedule state);
-        few = passed-20 b q state;
-        is-sound = scheduled-sound b c q named input;
+        later = λ first. omega (arith, passed-11 b qs schedule state);
+        few = passed-20 b qs state;
+        is-sound = scheduled-sound (b .setup) (firstOf qs) (first-kind asked) (first-has asked (passed-6 b c qs schedule input));
       }
 
-  pub settle-allowed : Clear (stateChecks b settle q) → Allowed b (change settle b q)
-  settle-allowed state first = omega (arith, passed-11 b q settle state)
+  pub settle-allowed : Clear (stateChecks b settle qs) → Allowed b (change settle b qs)
+  settle-allowed state first = omega (arith, passed-11 b qs settle state)
 
-pub change-allowed : (k : Kind) (b : Book) (c : Call) (q : Request) → kindNumber k ≡ q .kind → q .code < 256 ^ 8 → SoundBook b
-    → Clear (inputChecks b c k q) → Clear (stateChecks b k q) → Allowed b (change k b q)
-change-allowed register b c q named code s input state = register-allowed b q s c named code input state
-change-allowed confirm b c q named code s input state = confirm-allowed b q s state
-change-allowed withdraw b c q named code s input state = withdraw-allowed b q s state
-change-allowed guarantee b c q named code s input state = guarantee-allowed b q s c named input state
-change-allowed openBatch b c q named code s input state = passed-11 b q openBatch state
-change-allowed undo b c q named code s input state = passed-11 b q undo state
-change-allowed keep b c q named code s input state = passed-11 b q keep state
-change-allowed closeGate b c q named code s input state = passed-12 b q closeGate refl state
-change-allowed schedule b c q named code s input state = schedule-allowed b q s c named input state
-change-allowed settle b c q named code s input state = settle-allowed b q s state
+pub change-allowed : (k : Kind) (b : Book) (c : Call) (qs : List Request) → Asked k qs → CodesFit qs → SoundBook b
+    → Clear (inputChecks b c k qs) → Clear (stateChecks b k qs) → Allowed b (change k b qs)
+change-allowed register b c qs asked codes s input state = register-allowed b qs s c (asked .kinds) codes input state
+change-allowed strip b c qs asked codes s input state = strip-allowed b qs s c (asked .kinds) codes input state
+change-allowed confirm b c qs asked codes s input state = confirm-allowed b qs s state
+change-allowed withdraw b c qs asked codes s input state = withdraw-allowed b qs s state
+change-allowed guarantee b c qs asked codes s input state = guarantee-allowed b qs s c asked input state
+change-allowed openBatch b c qs asked codes s input state = passed-11 b qs openBatch state
+change-allowed undo b c qs asked codes s input state = passed-11 b qs undo state
+change-allowed keep b c qs asked codes s input state = passed-11 b qs keep state
+change-allowed closeGate b c qs asked codes s input state = passed-12 b qs closeGate refl state
+change-allowed schedule b c qs asked codes s input state = schedule-allowed b qs s c asked input state
+change-allowed settle b c qs asked codes s input state = settle-allowed b qs s state

@@ -2,29 +2,30 @@
 -- operator.
 use Prim.Native.Nat.{ℕ, zero, suc, _+_, _≤_, _<_}
 use mathlib.Core.Path.{_≡_, refl, sym, ap, _∙_}
-use mathlib.Core.List.{List, [], _∷_, _++_}
+use mathlib.Core.List.{List, _++_, map}
 use mathlib.Core.Option.{none}
 use mathlib.Core.Bool.{Bool, true, false, not}
 use native.Mathlib.Omega.{arith}
-use lib.ListN.{length, length-append, length-set}
+use lib.ListN.{length, length-append, length-map, length-set}
 use lib.Seq.{getD-set-other}
 use lib.Dec.{eqb}
 use borrow.Author.Tests.{eqb-true, eqb-false, not-false}
 use Rattle.units.specs.declared.Cents.{Cents}
 use Rattle.rules.specs.declared.Row.{Row}
 use Rattle.rules.specs.declared.Request.{Request}
-use Rattle.rules.specs.Basics.{anyPasses, nth, put, upTo, Each, nil, cons}
+use Rattle.rules.specs.Basics.{anyPasses, nth, put, upTo, Each}
 use Rattle.rules.specs.Limits.{mostGuarantee, mostRows}
 use Rattle.rules.specs.Books.{Setup, Part, partGuarantees, partRows, noRow, operatorOf, periods, marginsAt}
-use Rattle.rules.specs.Registration.{pending, alike, mark, closed, proposed, accountHour, keepsMargins, brokenHour, available, covered}
-use Rattle.rules.proofs.Basics.Searches.{find-none, counted-has, each-append, each-nth}
+use Rattle.rules.specs.Registration.{pending, hasTwin, twins, mark, closed, proposed, accountHour, keepsMargins, brokenHour, available, covered}
+use Rattle.rules.proofs.Basics.Searches.{any-none, find-none, counted-has, each-append, each-map, each-image, each-nth}
 use Rattle.rules.proofs.Rows.RowChanges.{each-mark, each-closed, length-mark, length-closed}
 use Rattle.rules.proofs.Rows.AccountHours.{pending-inside}
+use Rattle.rules.proofs.Rows.Easing.{Eased, eased-margins, eased-covered}
 use Rattle.image.specs.Valid.{noTwins}
 use Rattle.image.proofs.Sound.Soundness.{SoundRow}
 use Rattle.image.proofs.Sound.SoundBooks.{SoundPart}
-use Rattle.image.proofs.Keeping.KeepsRows.{each-set, row-marked, twins-snoc, twins-mark, twins-closed}
-use Rattle.image.proofs.Keeping.Easing.{Eased, eased-margins, eased-covered, ProposedBy, added-eases-others, confirm-eases-others, withdraw-eases, close-eases}
+use Rattle.image.proofs.Keeping.KeepsRows.{each-set, row-marked, twins-added, twins-mark, twins-closed}
+use Rattle.image.proofs.Keeping.Easing.{ProposedBy, added-eases-others, confirm-eases-others, withdraw-eases, close-eases}
 
 -- no hour breaks a margin of the account
 pub unbroken : (u : Setup) (rows : List Row) (a : ℕ) → brokenHour u rows a ≡ none
@@ -165,18 +166,19 @@ module _ (u : Setup) (p : Part) (sound : SoundPart u p) where
 
   -- ---- what the kinds bring
 
-  -- what register proposes
-  pub register-addable : (q : Request) → SoundRow u (proposed q) → anyPasses (alike (q .account) (q .other) (q .code)) (p .rows) ≡ false
-      → length (p .rows) < mostRows → brokenHour u (p .rows ++ proposed q ∷ []) (q .account) ≡ none
-      → covered u (partRows p (p .rows ++ proposed q ∷ [])) (operatorOf u (q .account)) ≡ true
-      → Addable u p (proposed q ∷ [])
-  register-addable q row single few unbroken backed =
+  -- what a register and a strip propose
+  pub requests-addable : (qs : List Request) (caller : ℕ) → Each (λ q. q .account ≡ caller) qs → Each (λ q. SoundRow u (proposed q)) qs
+      → anyPasses (hasTwin (p .rows)) qs ≡ false → twins qs ≡ false → length (p .rows) + length qs ≤ mostRows
+      → brokenHour u (p .rows ++ map proposed qs) caller ≡ none
+      → covered u (partRows p (p .rows ++ map proposed qs)) (operatorOf u caller) ≡ true
+      → Addable u p (map proposed qs)
+  requests-addable qs caller own rows alone apart few unbroken backed =
       record {
-        caller = q .account;
-        proposed = cons (record { waits = refl; proposer = refl }) nil;
-        all-sound = cons row nil;
-        none-alike = twins-snoc (p .rows) (proposed q) (sound .no-twins) single;
-        few = omega arith;
+        caller = caller;
+        proposed = each-image proposed (each-map (λ q e. record { waits = refl; proposer = e }) own);
+        all-sound = each-image proposed rows;
+        none-alike = twins-added (p .rows) qs (sound .no-twins) (any-none _ qs alone) apart;
+        few = omega (arith, few, length-map qs proposed);
         unbroken = unbroken;
         backed = backed;
       }

@@ -3,19 +3,20 @@
 use Prim.Native.Nat.{ℕ, zero, suc, _≤_}
 use mathlib.Core.Path.{_≡_, refl, sym, _∙_}
 use mathlib.Core.Logic.{_↔_}
-use mathlib.Core.List.{List, [], _∷_, _++_}
+use mathlib.Core.List.{List, [], _∷_, _++_, map, append-assoc, append-nil}
 use mathlib.Core.Bool.{Bool, true, false, not, _&&_, _||_, or-true}
 use native.Mathlib.Omega.{arith}
 use lib.ListN.{getD, set}
 use lib.Dec.{eqb}
 use borrow.Author.Tests.{eqb-true, eq-eqb, not-true}
 use Rattle.rules.specs.declared.Row.{Row}
+use Rattle.rules.specs.declared.Request.{Request}
 use Rattle.rules.specs.Basics.{if_then_else_, anyPasses, nth, Each, nil, cons}
 use Rattle.rules.specs.Books.{Setup, noRow}
-use Rattle.rules.specs.Registration.{pending, alike, withStatus, mark, closed}
+use Rattle.rules.specs.Registration.{pending, proposed, alike, hasTwin, twins, withStatus, mark, closed}
 use Rattle.rules.proofs.Basics.Tests.{and-both}
-use Rattle.rules.proofs.Basics.Searches.{any-none, none-any, each-snoc}
-use Rattle.rules.proofs.Rows.RowTests.{alike-by, alike-ended, alike-true}
+use Rattle.rules.proofs.Basics.Searches.{any-none, none-any, each-snoc, each-both}
+use Rattle.rules.proofs.Rows.RowTests.{alike-by, alike-ended, alike-true, twins-none, twin-snoc}
 use Rattle.image.specs.Valid.{noTwins, sameTerms, follows}
 use Rattle.image.proofs.Sound.Soundness.{SoundRow}
 
@@ -105,6 +106,15 @@ twins-go r h (cons {x = x} {xs = xs} a rest) =
 pub twins-snoc : (rows : List Row) (r : Row) → noTwins rows ≡ true
     → anyPasses (alike (r .proposer) (r .counterparty) (r .code)) rows ≡ false → noTwins (rows ++ r ∷ []) ≡ true
 twins-snoc rows r h n = twins-go r h (any-none _ rows n)
+
+-- rows more, of requests of which none is like another or like a row that stands
+pub twins-added : (rows : List Row) (qs : List Request) → noTwins rows ≡ true → Each (λ q. hasTwin rows q ≡ false) qs → twins qs ≡ false
+    → noTwins (rows ++ map proposed qs) ≡ true
+twins-added rows [] h alone apart = rw append-nil h
+twins-added rows (q ∷ qs) h (cons a alone) apart =
+    let w = twins-none q qs apart in
+    rw (← append-assoc rows (proposed q ∷ []) (map proposed qs))
+    (twins-added (rows ++ proposed q ∷ []) qs (twins-snoc rows (proposed q) h a) (each-both (twin-snoc rows q) alone (w .0)) (w .1))
 
 twins-set : (rows : List Row) (i : ℕ) (y : Row) → pending y ≡ false → noTwins rows ≡ true → noTwins (set rows i y) ≡ true
 twins-set [] i y e h = h

@@ -1,6 +1,6 @@
 -- What a search over a list says of its elements, by recursion on the list and cases on the test of its first element.
 use Prim.Native.Nat.{ℕ, zero, suc, _+_, _-_, _≤_, _<_}
-use mathlib.Core.Path.{_≡_, refl, ap, _∙_}
+use mathlib.Core.Path.{_≡_, refl, sym, ap, _∙_}
 use mathlib.Core.List.{List, [], _∷_, _++_, map}
 use mathlib.Core.Option.{Option, none, some}
 use mathlib.Core.Bool.{Bool, true, false}
@@ -63,6 +63,11 @@ pub each-mapped {ℓ κ} : {A : Type ℓ} {P : A → Type κ} {xs : List A} (f :
 each-mapped f h nil = nil
 each-mapped f h (cons {x = x} q e) = cons (h x q) (each-mapped f h e)
 
+-- what each element's image has
+pub each-image {ℓ κ μ} : {A : Type ℓ} {B : Type κ} {P : B → Type μ} (f : A → B) {xs : List A} → Each (λ x. P (f x)) xs → Each P (map f xs)
+each-image f nil = nil
+each-image f (cons p e) = cons p (each-image f e)
+
 -- what follows for each element
 pub each-map {ℓ κ μ} : {A : Type ℓ} {P : A → Type κ} {Q : A → Type μ} {xs : List A} → ((x : A) → P x → Q x) → Each P xs → Each Q xs
 each-map f nil = nil
@@ -105,6 +110,16 @@ module _ {ℓ} {A : Type ℓ} (p : A → Bool) where
   unfolding anyPasses
   none-any nil = refl
   none-any (cons e es) = rw (e, anyPasses) (none-any es)
+
+  -- the same where the tests are the same on each element
+  pub any-cong : (r : A → Bool) {xs : List A} → Each (λ x. p x ≡ r x) xs → anyPasses p xs ≡ anyPasses r xs
+  unfolding anyPasses
+  any-cong r nil = refl
+  any-cong r (cons {x = x} {xs = xs} e es) = go (r x) refl (any-cong r es)
+    where
+      go : (t : Bool) → r x ≡ t → anyPasses p xs ≡ anyPasses r xs → anyPasses p (x ∷ xs) ≡ anyPasses r (x ∷ xs)
+      go true f rest = rw (e, f, anyPasses)
+      go false f rest = rw (e, f, anyPasses) rest
 
   -- all pass
   pub every-each : (xs : List A) → every p xs ≡ true → Each (λ x. p x ≡ true) xs
@@ -157,3 +172,25 @@ module _ {ℓ} {A : Type ℓ} (p : A → Bool) where
   unfolding indexOf
   index-first d [] i h = let y : _≡_ {A = ℕ} 0 1 = cc in absurd (omega arith)
   index-first d (x ∷ xs) i h = index-go d x xs i (p x) refl (indexOf p xs) refl (index-first d xs) h
+
+-- ---- a test of two elements, one of each list
+
+module _ {A B : Type 0} (f : A → B → Bool) where
+  each-swap : {xs : List A} (ys : List B) → Each (λ x. Each (λ y. f x y ≡ false) ys) xs → Each (λ y. Each (λ x. f x y ≡ false) xs) ys
+  each-swap ys nil = each-any ys (λ y. nil)
+  each-swap ys (cons e es) = each-both (λ y p rest. cons p rest) e (each-swap ys es)
+
+  none-swap : (xs : List A) (ys : List B) → anyPasses (λ x. anyPasses (f x) ys) xs ≡ false → anyPasses (λ y. anyPasses (λ x. f x y) xs) ys ≡ false
+  none-swap xs ys h =
+      none-any _ (each-map (λ y e. none-any _ e) (each-swap ys (each-map (λ x e. any-none (f x) ys e) (any-none _ xs h))))
+
+-- some pair passes, whichever list is gone through first
+pub any-swap : {A B : Type 0} (f : A → B → Bool) (xs : List A) (ys : List B)
+    → anyPasses (λ x. anyPasses (f x) ys) xs ≡ anyPasses (λ y. anyPasses (λ x. f x y) xs) ys
+any-swap f xs ys =
+    both-false _ _ (none-swap f xs ys) (none-swap (λ y x. f x y) ys xs)
+  where
+    both-false : (s t : Bool) → (s ≡ false → t ≡ false) → (t ≡ false → s ≡ false) → s ≡ t
+    both-false false t g h = sym (g refl)
+    both-false true false g h = h refl
+    both-false true true g h = refl

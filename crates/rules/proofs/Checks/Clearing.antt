@@ -1,7 +1,8 @@
--- Checks of which none applies: acceptance is that, and then each test of the list is false.
+-- Checks of which none applies: acceptance is that, and then each test of the list is false. Of two rows of checks, the second decides
+-- where the first finds nothing.
 use Prim.Native.Nat.{ℕ, zero, suc}
 use mathlib.Core.Path.{_≡_, refl, ap}
-use mathlib.Core.List.{List, [], _∷_, _++_}
+use mathlib.Core.List.{List, [], _∷_, _++_, map}
 use mathlib.Core.Option.{Option, none, some}
 use mathlib.Core.Bool.{Bool, true, false, _&&_}
 use native.Mathlib.Omega.{arith}
@@ -10,6 +11,7 @@ use Rattle.rules.specs.declared.Refusal.{Refusal}
 use Rattle.rules.specs.declared.Refusal.the-variants.{NotABook}
 use Rattle.rules.specs.declared.Outcome.{Outcome}
 use Rattle.rules.specs.declared.Verdict.the-variants.{Accepted, Refused}
+use Rattle.rules.specs.Basics.{Each, nil, cons}
 use Rattle.rules.specs.Verdicts.{Check, _⇒_, _⇒↑_, applies, firstToApply, checked, accepted, refused, outcomeOf}
 use Rattle.rules.specs.Calls.{when}
 
@@ -61,6 +63,39 @@ clear-split (c ∷ cs) ds h = let w = clear-split cs ds (h .1) in ((h .0, w .0),
 pub clear-join : (cs ds : List Check) → Clear cs → Clear ds → Clear (cs ++ ds)
 clear-join [] ds h k = k
 clear-join (c ∷ cs) ds h k = (h .0, clear-join cs ds (h .1) k)
+
+first-go : (c : Check) (cs ds : List Check) (r : Refusal) (o : Option Refusal) → applies c ≡ o → firstToApply (c ∷ cs) ≡ some r
+    → (firstToApply cs ≡ some r → firstToApply (cs ++ ds) ≡ some r) → firstToApply (c ∷ cs ++ ds) ≡ some r
+unfolding firstToApply
+first-go c cs ds r (some y) f e rest = rw (f, firstToApply) (rw (f, firstToApply) at e)
+first-go c cs ds r none f e rest = rw (f, firstToApply) (rest (rw (f, firstToApply) at e))
+
+-- of two rows of checks, what the first finds is found
+pub applies-first : (cs ds : List Check) (r : Refusal) → firstToApply cs ≡ some r → firstToApply (cs ++ ds) ≡ some r
+unfolding firstToApply
+applies-first [] ds r e = cc
+applies-first (c ∷ cs) ds r e = first-go c cs ds r (applies c) refl e (applies-first cs ds r)
+
+later-go : (c : Check) (cs ds : List Check) (o : Option Refusal) → applies c ≡ o → firstToApply (c ∷ cs) ≡ none
+    → (firstToApply cs ≡ none → firstToApply (cs ++ ds) ≡ firstToApply ds) → firstToApply (c ∷ cs ++ ds) ≡ firstToApply ds
+unfolding firstToApply
+later-go c cs ds (some y) f e rest = let z : some y ≡ none = rw (f, firstToApply) at e in cc
+later-go c cs ds none f e rest = rw (f, firstToApply) (rest (rw (f, firstToApply) at e))
+
+-- where it finds nothing, the second decides
+pub applies-later : (cs ds : List Check) → firstToApply cs ≡ none → firstToApply (cs ++ ds) ≡ firstToApply ds
+unfolding firstToApply
+applies-later [] ds e = refl
+applies-later (c ∷ cs) ds e = later-go c cs ds (applies c) refl e (applies-later cs ds)
+
+-- of a check on each element: it applies to none of them
+pub clear-each : {A : Type 0} (f : A → Check) (xs : List A) → Clear (map f xs) → Each (λ x. applies (f x) ≡ none) xs
+clear-each f [] h = nil
+clear-each f (x ∷ xs) h = cons (h .0) (clear-each f xs (h .1))
+
+pub each-clear : {A : Type 0} (f : A → Check) {xs : List A} → Each (λ x. applies (f x) ≡ none) xs → Clear (map f xs)
+each-clear f nil = tt
+each-clear f (cons p e) = (p, each-clear f e)
 
 -- of one check, by its place from 0
 pub clear-at : (i : ℕ) (cs : List Check) → Clear cs → applies (getD cs i (false ⇒ NotABook)) ≡ none

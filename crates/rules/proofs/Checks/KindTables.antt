@@ -1,4 +1,4 @@
--- The tables by kind agree: one test, computed at each of the ten kinds.
+-- The tables by kind agree: one test, computed at each kind of a single record.
 use Prim.Native.Nat.{ℕ, _^_, _<_}
 use mathlib.Core.Path.{_≡_, refl, sym, ap, _∙_}
 use mathlib.Core.Bool.{Bool, true, _&&_}
@@ -6,11 +6,12 @@ use native.Mathlib.Omega.{arith}
 use lib.Dec.{eqb, ltb}
 use borrow.Author.Tests.{eqb-true, ltb-true}
 use Rattle.rules.specs.Basics.{total, every, counting, upTo, bit}
-use Rattle.rules.specs.Requests.{Kind, register, confirm, withdraw, guarantee, openBatch, undo, keep, closeGate, schedule, settle, kindNumber, kindOf, isKind, wantedMap, wantedLength, fieldCount, room, offset}
+use Rattle.rules.specs.Requests.{Kind, register, confirm, withdraw, guarantee, openBatch, undo, keep, closeGate, schedule, settle, strip, kindNumber, kindOf, isSingle, wantedMap, wantedLength, fieldCount, room, offset}
 use Rattle.rules.proofs.Basics.Tests.{and-both, within-true}
 use Rattle.rules.proofs.Basics.Searches.{every-each, counted-has}
 
-kind-again : (k : Kind) → kindOf (kindNumber k) ≡ k
+-- the kind of a kind's number is that kind
+pub kind-again : (k : Kind) → kindOf (kindNumber k) ≡ k
 kind-again register = refl
 kind-again confirm = refl
 kind-again withdraw = refl
@@ -21,6 +22,7 @@ kind-again keep = refl
 kind-again closeGate = refl
 kind-again schedule = refl
 kind-again settle = refl
+kind-again strip = refl
 
 -- no two kinds have one number
 pub same-kind : (k j : Kind) → eqb (kindNumber k) (kindNumber j) ≡ true → k ≡ j
@@ -43,7 +45,7 @@ each-agrees : every agrees (upTo 10) ≡ true
 unfolding agrees offset room total counting bit every
 each-agrees = refl
 
-pub tables-agree : (kind : ℕ) → isKind kind ≡ true → Agree kind
+pub tables-agree : (kind : ℕ) → isSingle kind ≡ true → Agree kind
 unfolding agrees
 tables-agree kind h =
     let k = within-true 1 kind 10 .0 h in

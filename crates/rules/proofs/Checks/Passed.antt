@@ -1,29 +1,31 @@
 -- What an accepted call passed: no check of its ranked list applies, so each test of the list is false. A law for each number
 -- says that of its test, at the kinds to which the number applies.
 use Prim.Native.Nat.{ℕ, _+_, _-_, _*_, _^_, _≤_, _<_}
-use mathlib.Core.Path.{_≡_, refl}
+use mathlib.Core.Path.{_≡_, refl, sym, ap, _∙_}
 use mathlib.Core.Logic.{_⊎_, inl, inr}
-use mathlib.Core.List.{List, [], _∷_, _++_}
+use mathlib.Core.List.{List, [], _∷_, _++_, map}
 use mathlib.Core.Option.{Option, none, some}
-use mathlib.Core.Bool.{true, false}
+use mathlib.Core.Bool.{Bool, true, false, not, _&&_, _||_}
 use native.Mathlib.Omega.{arith}
-use lib.ListN.{length, getD}
-use lib.Dec.{ltb}
-use borrow.Author.Tests.{eqb-true, eqb-false, leb-false, ltb-false, not-false}
+use lib.ListN.{length, getD, length-map}
+use lib.Dec.{eqb, ltb}
+use borrow.Author.Tests.{eqb-true, eqb-false, leb-true, leb-false, ltb-false, not-false}
+use Rattle.wire.proofs.SlotLaws.{length-chunks}
 use Rattle.rules.specs.declared.Counts.{Counts}
 use Rattle.rules.specs.declared.Request.{Request}
 use Rattle.rules.specs.declared.Refusal.{Refusal}
-use Rattle.rules.specs.Basics.{anyPasses, nth, counting, upTo, bit, Each, nil, cons}
-use Rattle.rules.specs.Limits.{mostPrice, mostRows, mostSchedules}
-use Rattle.rules.specs.Verdicts.{accepted, refused}
+use Rattle.rules.specs.declared.Refusal.the-variants.{Unreadable, UnknownKind, OutOfRange, SameAccount, BufferShort}
+use Rattle.rules.specs.Basics.{if_then_else_, anyPasses, nth, counting, upTo, bit, Each, nil, cons}
+use Rattle.rules.specs.Limits.{mostPrice, mostRows, mostStrip, mostSchedules}
+use Rattle.rules.specs.Verdicts.{Check, _⇒_, _⇒↑_, applies, accepted, refused}
 use Rattle.rules.specs.Books.{Part, Book, noRow, operatorCount, countsOf}
-use Rattle.rules.specs.Requests.{Kind, register, confirm, withdraw, guarantee, openBatch, undo, keep, closeGate, schedule, settle, kindNumber, kindOf, isKind, wantedMap, wantedLength, mapOf, fieldIn, requestOf, unreadable, readChecks, fieldCount, bits, inRange, faultyField, faultyBit, sameAccounts}
-use Rattle.rules.specs.Registration.{alike, confirms, withdraws, mirrors, brokenHour, covered}
+use Rattle.rules.specs.Requests.{Kind, register, confirm, withdraw, guarantee, openBatch, undo, keep, closeGate, schedule, settle, strip, kindNumber, kindOf, isSingle, wantedMap, wantedLength, mapOf, fieldIn, requestOf, unreadable, mapCheck, readChecks, isStrip, headLength, rowLength, stripCount, stripRows, rowChecks, stripChecks, requestsOf, firstOf, fieldCount, bits, inRange, faultyField, faultyBit, faultyBitAmong, sameAccounts}
+use Rattle.rules.specs.Registration.{hasTwin, twins, confirms, withdraws, mirrors, brokenHour, covered}
 use Rattle.rules.specs.Settlement.{priceCount, pricesIn}
-use Rattle.rules.specs.Calls.{Call, callRequest, callKind, next, given, confirmedNumber, _oneOf_, phaseOf, exposedOperator, inputChecks, stateChecks, checks, refusal, answer, step}
+use Rattle.rules.specs.Calls.{Call, callKind, callRequests, next, given, confirmedNumber, _oneOf_, adding, phaseOf, exposedOperator, bytesChecks, inputChecks, stateChecks, checks, refusal, answer, step}
 use Rattle.rules.proofs.Basics.Tests.{within-true, or-neither, and-spared}
-use Rattle.rules.proofs.Basics.Searches.{some-of, none-of, counted-has, find-none}
-use Rattle.rules.proofs.Checks.Clearing.{never-both, Clear, clear, clear-split, clear-at, spared, spared↑, spared-for, spared↑-for}
+use Rattle.rules.proofs.Basics.Searches.{some-of, none-of, counted-has, find-none, each-nth, each-map, each-both, each-image}
+use Rattle.rules.proofs.Checks.Clearing.{never-both, Clear, clear, clear-split, clear-each, clear-at, spared, spared↑, spared-for, spared↑-for}
 
 -- ---- 2 to 5, of the record itself
 
@@ -32,7 +34,7 @@ module _ (s : List ℕ) (h : Clear (readChecks s)) where
   unfolding readChecks
   passed-2 = spared _ _ (clear-at 0 (readChecks s) h)
 
-  pub passed-3 : isKind (fieldIn s 0) ≡ true
+  pub passed-3 : isSingle (fieldIn s 0) ≡ true
   unfolding readChecks
   passed-3 = not-false _ (spared _ _ (clear-at 1 (readChecks s) h))
 
@@ -49,9 +51,105 @@ unfolding counting
 kind-numbers = cons refl (cons refl (cons refl (cons refl (cons refl (cons refl (cons refl (cons refl (cons refl (cons refl nil)))))))))
 
 -- the kind of a number from 1 to 10 has that number
-pub kind-number : (n : ℕ) → isKind n ≡ true → kindNumber (kindOf n) ≡ n
+pub kind-number : (n : ℕ) → isSingle n ≡ true → kindNumber (kindOf n) ≡ n
 kind-number n h =
     let w = within-true 1 n 10 .0 h in counted-has 10 1 n kind-numbers (w .0) (omega arith)
+
+-- ---- 2 to 5 and 21, of a strip, and 2 to 4 of its rows
+
+-- a row of a strip that was not refused
+pub record RowRead (s : List ℕ) : Type 0 where
+  pub known : fieldIn s 0 ≡ kindNumber register
+  pub mapped : mapOf s ≡ wantedMap (kindNumber register)
+
+module _ (s : List ℕ) (h : Clear (stripChecks s)) where
+  pub strip-readable : unreadable s ≡ false
+  unfolding stripChecks
+  strip-readable = spared _ _ (h .0)
+
+  pub strip-mapped : mapOf s ≡ wantedMap (kindNumber strip)
+  unfolding stripChecks
+  strip-mapped = eqb-true _ _ (not-false _ (spared _ _ (h .1 .0)))
+
+  pub strip-sized : length s ≡ headLength + rowLength * stripCount s
+  unfolding stripChecks
+  strip-sized = eqb-true _ _ (not-false _ (spared _ _ (h .1 .1 .0)))
+
+  pub passed-21 : (1 ≤ stripCount s) × (stripCount s ≤ mostStrip)
+  unfolding stripChecks
+  passed-21 = within-true 1 (stripCount s) mostStrip .0 (not-false _ (spared _ _ (h .1 .1 .1 .0)))
+
+  rows-clear : Clear (rowChecks (stripRows s))
+  unfolding stripChecks
+  rows-clear = h .1 .1 .1 .1
+
+  pub strip-rows-read : Each RowRead (stripRows s)
+  unfolding rowChecks
+  strip-rows-read =
+      let kinds : List Check = map (λ r. not (eqb (fieldIn r 0) (kindNumber register)) ⇒ UnknownKind) (stripRows s) in
+      let maps : List Check = map (mapCheck (kindNumber register)) (stripRows s) in
+      let w = clear-split (map (λ r. unreadable r ⇒ Unreadable) (stripRows s) ++ kinds) maps rows-clear in
+      let v = clear-split (map (λ r. unreadable r ⇒ Unreadable) (stripRows s)) kinds (w .0) in
+      each-both (λ r e f. record { known = eqb-true _ _ (not-false _ (spared _ _ e)); mapped = eqb-true _ _ (not-false _ (spared _ _ f)) })
+      (clear-each _ (stripRows s) (v .1)) (clear-each _ (stripRows s) (w .1))
+
+  pub strip-rows-length : length (stripRows s) ≡ stripCount s
+  unfolding stripRows
+  strip-rows-length = length-chunks rowLength (stripCount s) _
+
+-- ---- the requests that a call brings
+
+-- the kind of its requests: those of a strip are registers
+abbrev pub requestKind : Kind → ℕ
+requestKind k = if k oneOf (strip ∷ []) then kindNumber register else kindNumber k
+
+-- one or more, all of the kind; one where it is no strip
+pub record Asked (k : Kind) (qs : List Request) : Type 0 where
+  pub several : 1 ≤ length qs
+  pub kinds : Each (λ q. q .kind ≡ requestKind k) qs
+  pub alone : k oneOf (strip ∷ []) ≡ false → qs ≡ firstOf qs ∷ []
+
+-- what all of them have, the first has
+pub first-has {κ} : {P : Request → Type κ} {k : Kind} {qs : List Request} → Asked k qs → Each P qs → P (firstOf qs)
+first-has a e = each-nth (requestOf []) 1 e (omega arith) (a .several)
+
+pub first-kind : {k : Kind} {qs : List Request} → Asked k qs → firstOf qs .kind ≡ requestKind k
+first-kind a = first-has a (a .kinds)
+
+request-kinds : Each (λ n. requestKind (kindOf n) ≡ n) (upTo 10)
+unfolding counting
+request-kinds = cons refl (cons refl (cons refl (cons refl (cons refl (cons refl (cons refl (cons refl (cons refl (cons refl nil)))))))))
+
+-- a single record brings one request
+pub single-requests : (s : List ℕ) → isStrip s ≡ false → requestsOf s ≡ requestOf s ∷ []
+unfolding requestsOf
+single-requests s e = rw e
+
+pub strip-requests : (s : List ℕ) → isStrip s ≡ true → requestsOf s ≡ map requestOf (stripRows s)
+unfolding requestsOf
+strip-requests s e = rw e
+
+single-asked : (s : List ℕ) → isStrip s ≡ false → Clear (readChecks s) → Asked (kindOf (fieldIn s 0)) (requestsOf s)
+unfolding requestOf
+single-asked s e h =
+    let w = within-true 1 (fieldIn s 0) 10 .0 (passed-3 s h) in
+    let same : requestKind (kindOf (fieldIn s 0)) ≡ fieldIn s 0 = counted-has 10 1 (fieldIn s 0) request-kinds (w .0) (omega arith) in
+    rw (single-requests s e) (record { several = omega arith; kinds = cons (sym same) nil; alone = λ _. refl })
+
+strip-asked : (s : List ℕ) → isStrip s ≡ true → Clear (stripChecks s) → Asked (kindOf (fieldIn s 0)) (requestsOf s)
+unfolding requestOf
+strip-asked s e h =
+    let n : length (map requestOf (stripRows s)) ≡ stripCount s = length-map (stripRows s) requestOf ∙ strip-rows-length s h in
+    rw (strip-requests s e, eqb-true (fieldIn s 0) (kindNumber strip) e)
+    (record { several = omega (arith, n, passed-21 s h .0); kinds = each-image requestOf (each-map (λ r w. w .known) (strip-rows-read s h)); alone = λ never. cc })
+
+-- bytes that are not refused bring requests of their kind
+pub bytes-asked : (s : List ℕ) → Clear (bytesChecks s) → Asked (kindOf (fieldIn s 0)) (requestsOf s)
+bytes-asked s h = go (isStrip s) refl h
+  where
+    go : (t : Bool) → isStrip s ≡ t → Clear (if t then stripChecks s else readChecks s) → Asked (kindOf (fieldIn s 0)) (requestsOf s)
+    go true e h = strip-asked s e h
+    go false e h = single-asked s e h
 
 -- under 3 bytes, bit 0 clear, or a bit of 13 to 15 set: none of these
 pub readable : (s : List ℕ) → unreadable s ≡ false → (3 ≤ length s) × (bit (mapOf s) 0 ≡ true) × (mapOf s < 2 ^ 13)
@@ -75,102 +173,143 @@ pub two-accounts : (q : Request) → sameAccounts q ≡ false → bit (wantedMap
 unfolding sameAccounts
 two-accounts q h e = eqb-false _ _ (and-spared _ _ e h)
 
-module _ (b : Book) (c : Call) (q : Request) where
+-- one of a call's requests is not at fault: it has the proposer, and its fields are in range
+pub among-in-range : (n : Counts) (proposer : ℕ) (q : Request) → faultyBitAmong n proposer q ≡ none → (q .account ≡ proposer) × (faultyBit n q ≡ none)
+unfolding faultyBitAmong
+among-in-range n proposer q h = go (eqb (q .account) proposer) refl h
+  where
+    go : (t : Bool) → eqb (q .account) proposer ≡ t → (if t then faultyBit n q else some 1) ≡ none → (q .account ≡ proposer) × (faultyBit n q ≡ none)
+    go true e h = (eqb-true _ _ e, h)
+    go false e h = let z : _≡_ {A = ℕ} 0 1 = cc in absurd (omega arith)
+
+module _ (b : Book) (c : Call) (qs : List Request) where
   -- the price table has its length
-  pub passed-5 : Clear (inputChecks b c settle q) → length (c .prices) ≡ 4 * priceCount (b .setup)
+  pub passed-5 : Clear (inputChecks b c settle qs) → length (c .prices) ≡ 4 * priceCount (b .setup)
   unfolding inputChecks
-  passed-5 h = eqb-true _ _ (not-false _ (spared _ _ (clear-at 0 (inputChecks b c settle q) h)))
+  passed-5 h = eqb-true _ _ (not-false _ (spared _ _ (h .0)))
+
+  abbrev ranges : List Check
+  ranges = map (λ q. faultyBitAmong (countsOf (b .setup)) (firstOf qs .account) q ⇒↑ OutOfRange) qs
+
+  abbrev accounts : List Check
+  accounts = map (λ q. sameAccounts q ⇒ SameAccount) qs
+
+  abbrev prices : Kind → Check
+  prices k = k oneOf (settle ∷ []) && anyPasses (λ p. ltb mostPrice (p .0)) (pricesIn (b .setup) (c .prices)) ⇒ OutOfRange 12
+
+  abbrev buffers : Kind → List Check
+  buffers k =
+      (k oneOf (settle ∷ [])
+      && (ltb (length (c .results)) (length (b .schedules)) || ltb (length (c .balances)) (8 * operatorCount (b .setup)))
+      ⇒ BufferShort)
+      ∷ []
+
+  -- no field is at fault, then no price, then no pair of accounts, then no buffer
+  parts : (k : Kind) → Clear (inputChecks b c k qs) → Clear ranges × ((applies (prices k) ≡ none) × (Clear accounts × Clear (buffers k)))
+  unfolding inputChecks
+  parts k h =
+      let w = clear-split (ranges ++ prices k ∷ accounts) (buffers k) (h .1) in
+      let v = clear-split ranges (prices k ∷ accounts) (w .0) in
+      (v .0, (v .1 .0, (v .1 .1, w .1)))
+
+  among : (k : Kind) → Clear (inputChecks b c k qs) → Each (λ q. (q .account ≡ firstOf qs .account) × (faultyBit (countsOf (b .setup)) q ≡ none)) qs
+  among k h = each-map (λ q e. among-in-range _ _ q (spared↑ _ _ e)) (clear-each _ qs (parts k h .0))
 
   -- every field is in range
-  pub passed-6 : (k : Kind) → Clear (inputChecks b c k q) → faultyBit (countsOf (b .setup)) q ≡ none
-  unfolding inputChecks
-  passed-6 k h = spared↑ _ _ (clear-at 1 (inputChecks b c k q) h)
+  pub passed-6 : (k : Kind) → Clear (inputChecks b c k qs) → Each (λ q. faultyBit (countsOf (b .setup)) q ≡ none) qs
+  passed-6 k h = each-map (λ q e. e .1) (among k h)
+
+  -- all requests have one account
+  pub passed-6-proposer : (k : Kind) → Clear (inputChecks b c k qs) → Each (λ q. q .account ≡ firstOf qs .account) qs
+  passed-6-proposer k h = each-map (λ q e. e .0) (among k h)
 
   -- and every price
-  pub passed-6-prices : Clear (inputChecks b c settle q) → anyPasses (λ p. ltb mostPrice (p .0)) (pricesIn (b .setup) (c .prices)) ≡ false
-  unfolding inputChecks
-  passed-6-prices h = spared _ _ (clear-at 2 (inputChecks b c settle q) h)
+  pub passed-6-prices : Clear (inputChecks b c settle qs) → anyPasses (λ p. ltb mostPrice (p .0)) (pricesIn (b .setup) (c .prices)) ≡ false
+  passed-6-prices h = spared _ _ (parts settle h .1 .0)
 
-  pub passed-7 : (k : Kind) → Clear (inputChecks b c k q) → sameAccounts q ≡ false
-  unfolding inputChecks
-  passed-7 k h = spared _ _ (clear-at 3 (inputChecks b c k q) h)
+  pub passed-7 : (k : Kind) → Clear (inputChecks b c k qs) → Each (λ q. sameAccounts q ≡ false) qs
+  passed-7 k h = each-map (λ q e. spared _ _ e) (clear-each _ qs (parts k h .1 .1 .0))
 
   -- what is written fits the buffers
-  pub passed-10 : Clear (inputChecks b c settle q)
+  pub passed-10 : Clear (inputChecks b c settle qs)
       → (length (b .schedules) ≤ length (c .results)) × (8 * operatorCount (b .setup) ≤ length (c .balances))
-  unfolding inputChecks
   passed-10 h =
-      let n = or-neither _ _ .0 (spared _ _ (clear-at 4 (inputChecks b c settle q) h)) in
+      let n = or-neither _ _ .0 (spared _ _ (parts settle h .1 .1 .1 .0)) in
       (ltb-false _ _ (n .0), ltb-false _ _ (n .1))
 
 -- ---- 11 to 20, of the state
 
-module _ (b : Book) (q : Request) where
-  pub passed-11 : (k : Kind) → Clear (stateChecks b k q) → b .phase ≡ phaseOf k
+module _ (b : Book) (qs : List Request) where
+  pub passed-11 : (k : Kind) → Clear (stateChecks b k qs) → b .phase ≡ phaseOf k
   unfolding stateChecks
-  passed-11 k h = eqb-true _ _ (not-false _ (spared _ _ (clear-at 0 (stateChecks b k q) h)))
+  passed-11 k h = eqb-true _ _ (not-false _ (spared _ _ (clear-at 0 (stateChecks b k qs) h)))
 
   -- no batch is open
-  pub passed-12 : (k : Kind) → k oneOf (openBatch ∷ closeGate ∷ []) ≡ true → Clear (stateChecks b k q) → b .saved ≡ none
+  pub passed-12 : (k : Kind) → k oneOf (openBatch ∷ closeGate ∷ []) ≡ true → Clear (stateChecks b k qs) → b .saved ≡ none
   unfolding stateChecks
-  passed-12 k e h = none-of (b .saved) (spared-for _ _ _ e (clear-at 1 (stateChecks b k q) h))
+  passed-12 k e h = none-of (b .saved) (spared-for _ _ _ e (clear-at 1 (stateChecks b k qs) h))
 
   -- a batch is open
-  pub passed-13 : (k : Kind) → k oneOf (undo ∷ keep ∷ []) ≡ true → Clear (stateChecks b k q)
+  pub passed-13 : (k : Kind) → k oneOf (undo ∷ keep ∷ []) ≡ true → Clear (stateChecks b k qs)
       → (part : Part) × (b .saved ≡ some part)
   unfolding stateChecks
-  passed-13 k e h = some-of (b .saved) (not-false _ (spared-for _ _ _ e (clear-at 2 (stateChecks b k q) h)))
+  passed-13 k e h = some-of (b .saved) (not-false _ (spared-for _ _ _ e (clear-at 2 (stateChecks b k qs) h)))
 
   -- no pending row is alike
-  pub passed-14 : Clear (stateChecks b register q) → anyPasses (alike (q .account) (q .other) (q .code)) (b .part .rows) ≡ false
+  pub passed-14 : (k : Kind) → k oneOf adding ≡ true → Clear (stateChecks b k qs) → anyPasses (hasTwin (b .part .rows)) qs ≡ false
   unfolding stateChecks
-  passed-14 h = spared _ _ (clear-at 3 (stateChecks b register q) h)
+  passed-14 k e h = spared-for _ _ _ e (clear-at 3 (stateChecks b k qs) h)
 
-  -- a number is left
-  pub passed-15 : Clear (stateChecks b register q) → length (b .part .rows) < mostRows
+  -- no two of the requests are alike
+  pub passed-22 : (k : Kind) → k oneOf adding ≡ true → Clear (stateChecks b k qs) → twins qs ≡ false
   unfolding stateChecks
-  passed-15 h = leb-false _ _ (spared _ _ (clear-at 4 (stateChecks b register q) h))
+  passed-22 k e h = spared-for _ _ _ e (clear-at 4 (stateChecks b k qs) h)
+
+  -- a number is left for each
+  pub passed-15 : (k : Kind) → k oneOf adding ≡ true → Clear (stateChecks b k qs) → length (b .part .rows) + length qs ≤ mostRows
+  unfolding stateChecks
+  passed-15 k e h = leb-true _ _ (not-false _ (spared-for _ _ _ e (clear-at 5 (stateChecks b k qs) h)))
 
   -- the row is there
-  pub passed-16-confirm : Clear (stateChecks b confirm q) → (i : ℕ) × (confirms (b .part .rows) q ≡ some i)
+  pub passed-16-confirm : Clear (stateChecks b confirm qs) → (i : ℕ) × (confirms (b .part .rows) (firstOf qs) ≡ some i)
   unfolding stateChecks
-  passed-16-confirm h = some-of _ (not-false _ (spared _ _ (clear-at 5 (stateChecks b confirm q) h)))
+  passed-16-confirm h = some-of _ (not-false _ (spared _ _ (clear-at 6 (stateChecks b confirm qs) h)))
 
-  pub passed-16-withdraw : Clear (stateChecks b withdraw q) → withdraws (b .part .rows) q ≡ true
+  pub passed-16-withdraw : Clear (stateChecks b withdraw qs) → withdraws (b .part .rows) (firstOf qs) ≡ true
   unfolding stateChecks
-  passed-16-withdraw h = not-false _ (spared _ _ (clear-at 6 (stateChecks b withdraw q) h))
+  passed-16-withdraw h = not-false _ (spared _ _ (clear-at 7 (stateChecks b withdraw qs) h))
 
   -- terms mirror
-  pub passed-17 : Clear (stateChecks b confirm q) → mirrors q (nth (b .part .rows) (confirmedNumber b q) noRow) ≡ true
+  pub passed-17 : Clear (stateChecks b confirm qs) → mirrors (firstOf qs) (nth (b .part .rows) (confirmedNumber b (firstOf qs)) noRow) ≡ true
   unfolding stateChecks
-  passed-17 h = not-false _ (spared _ _ (clear-at 7 (stateChecks b confirm q) h))
+  passed-17 h = not-false _ (spared _ _ (clear-at 8 (stateChecks b confirm qs) h))
 
   -- no margin of the calling account is broken on the book as it will be
-  pub passed-18 : (k : Kind) → k oneOf (register ∷ confirm ∷ []) ≡ true → Clear (stateChecks b k q)
-      → brokenHour (b .setup) (next k b q .part .rows) (q .account) ≡ none
+  pub passed-18 : (k : Kind) → k oneOf (confirm ∷ adding) ≡ true → Clear (stateChecks b k qs)
+      → brokenHour (b .setup) (next k b qs .part .rows) (firstOf qs .account) ≡ none
   unfolding stateChecks
-  passed-18 k e h = spared↑-for _ _ _ e (clear-at 8 (stateChecks b k q) h)
+  passed-18 k e h = spared↑-for _ _ _ e (clear-at 9 (stateChecks b k qs) h)
 
   -- exposure is covered on the book as it will be
-  pub passed-19 : (k : Kind) → k oneOf (register ∷ confirm ∷ guarantee ∷ []) ≡ true → Clear (stateChecks b k q)
-      → covered (b .setup) (next k b q .part) (exposedOperator k (b .setup) q) ≡ true
+  pub passed-19 : (k : Kind) → k oneOf (confirm ∷ guarantee ∷ adding) ≡ true → Clear (stateChecks b k qs)
+      → covered (b .setup) (next k b qs .part) (exposedOperator k (b .setup) (firstOf qs)) ≡ true
   unfolding stateChecks
-  passed-19 k e h = not-false _ (spared-for _ _ _ e (clear-at 9 (stateChecks b k q) h))
+  passed-19 k e h = not-false _ (spared-for _ _ _ e (clear-at 10 (stateChecks b k qs) h))
 
   -- a place is left
-  pub passed-20 : Clear (stateChecks b schedule q) → length (b .schedules) < mostSchedules
+  pub passed-20 : Clear (stateChecks b schedule qs) → length (b .schedules) < mostSchedules
   unfolding stateChecks
-  passed-20 h = leb-false _ _ (spared _ _ (clear-at 10 (stateChecks b schedule q) h))
+  passed-20 h = leb-false _ _ (spared _ _ (clear-at 11 (stateChecks b schedule qs) h))
 
 -- ---- a call
 
 -- an accepted call: the next book and the number that it gives, with every check passed
 pub record Passed (b : Book) (c : Call) : Type 0 where
-  pub book : step b c .book ≡ next (callKind c) b (callRequest c)
-  pub outcome : step b c .outcome ≡ accepted (given (callKind c) b (callRequest c))
-  pub read : Clear (readChecks (c .bytes))
-  pub input : Clear (inputChecks b c (callKind c) (callRequest c))
-  pub state : Clear (stateChecks b (callKind c) (callRequest c))
+  pub book : step b c .book ≡ next (callKind c) b (callRequests c)
+  pub outcome : step b c .outcome ≡ accepted (given (callKind c) b (callRequests c))
+  pub read : Clear (bytesChecks (c .bytes))
+  pub input : Clear (inputChecks b c (callKind c) (callRequests c))
+  pub state : Clear (stateChecks b (callKind c) (callRequests c))
 
 -- a refused call: why, and the book and both buffers as they were
 pub record Kept (b : Book) (c : Call) : Type 0 where
@@ -180,17 +319,16 @@ pub record Kept (b : Book) (c : Call) : Type 0 where
   pub results : step b c .results ≡ c .results
   pub balances : step b c .balances ≡ c .balances
 
--- the request says the call's kind
-pub passed-kind : {b : Book} {c : Call} → Passed b c → kindNumber (callKind c) ≡ callRequest c .kind
-unfolding requestOf
-passed-kind {c} p = kind-number (fieldIn (c .bytes) 0) (passed-3 (c .bytes) (p .read))
+-- the requests say the call's kind
+pub passed-asked : {b : Book} {c : Call} → Passed b c → Asked (callKind c) (callRequests c)
+passed-asked {c} p = bytes-asked (c .bytes) (p .read)
 
 pub passed : (b : Book) (c : Call) → refusal b c ≡ none → Passed b c
 unfolding step answer refusal checks
 passed b c e =
-    let r = readChecks (c .bytes) in
-    let i = inputChecks b c (callKind c) (callRequest c) in
-    let s = stateChecks b (callKind c) (callRequest c) in
+    let r = bytesChecks (c .bytes) in
+    let i = inputChecks b c (callKind c) (callRequests c) in
+    let s = stateChecks b (callKind c) (callRequests c) in
     let outer = clear-split (r ++ i) s (clear (checks b c) e) in
     let inner = clear-split r i (outer .0) in
     record { book = rw e; outcome = rw e; read = inner .0; input = inner .1; state = outer .1 }

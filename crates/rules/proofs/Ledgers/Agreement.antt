@@ -1,28 +1,30 @@
 -- The ledger agrees with the book after any list of calls: an accepted call changes both alike, a refused one neither. The copy that undo
 -- puts back is the part that the book saved, and no schedule comes while a batch is open.
 use Prim.Native.Nat.{ℕ}
-use mathlib.Core.Path.{_≡_, refl, ap}
+use mathlib.Core.Path.{_≡_, refl, sym, ap, _∙_}
+use mathlib.Core.Bool.{false}
 use mathlib.Core.Logic.{_⊎_, inl, inr}
-use mathlib.Core.List.{List, [], _∷_, _++_}
+use mathlib.Core.List.{List, [], _∷_, _++_, map}
 use mathlib.Core.Option.{Option, none, some}
 use native.Mathlib.Omega.{arith}
 use Rattle.rules.specs.declared.Schedule.{Schedule}
 use Rattle.rules.specs.declared.Request.{Request}
-use Rattle.rules.specs.Basics.{total, nth, nil, cons}
+use Rattle.rules.specs.Basics.{total, nth, Each, nil, cons}
 use Rattle.rules.specs.Books.{Part, Book, noRow}
 use Rattle.rules.specs.Opening.{opened}
-use Rattle.rules.specs.Requests.{Kind, register, confirm, withdraw, guarantee, openBatch, undo, keep, closeGate, schedule, settle, kindNumber}
-use Rattle.rules.specs.Registration.{moved, confirms}
-use Rattle.rules.specs.Calls.{Call, callKind, callRequest, next, numberFrom, confirmedNumber, scheduled, inputChecks, stateChecks, step, apply}
+use Rattle.rules.specs.Requests.{Kind, register, confirm, withdraw, guarantee, openBatch, undo, keep, closeGate, schedule, settle, strip, kindNumber, kindOf, firstOf}
+use Rattle.rules.specs.Registration.{moved, proposed, confirms}
+use Rattle.rules.specs.Calls.{Call, callKind, callRequests, next, numberFrom, confirmedNumber, scheduled, _oneOf_, inputChecks, stateChecks, step, apply, addRows}
 use Rattle.rules.specs.Lists.{accepts, after, runs, heard}
-use Rattle.rules.specs.Ledger.{Page, Ledger, blank, newLedger, tradeOf, pageAfter, feed, fed, fedAll, traded, ledgerAfter}
-use Rattle.rules.proofs.Basics.Searches.{each-nth}
+use Rattle.rules.specs.Ledger.{Page, Ledger, blank, newLedger, tradeOf, pageAfter, feed, feedEach, fed, fedAll, traded, ledgerAfter}
+use Rattle.rules.proofs.Basics.Searches.{each-nth, each-any, each-image}
 use Rattle.rules.proofs.Checks.Clearing.{Clear}
-use Rattle.rules.proofs.Checks.Passed.{Passed, Kept, passed-kind, step-cases, passed-11, passed-12, passed-13, passed-16-confirm}
+use Rattle.rules.proofs.Checks.KindTables.{kind-again}
+use Rattle.rules.proofs.Checks.Passed.{Asked, first-kind, Passed, Kept, passed-asked, step-cases, passed-11, passed-12, passed-13, passed-16-confirm}
 use Rattle.rules.proofs.Rows.RowTests.{passed-confirm, passed-withdraw}
 use Rattle.rules.proofs.Ledgers.Entries.{entriesFrom}
 use Rattle.rules.proofs.Ledgers.Ranged.{Ranged, confirm-side, opened-ranged, step-ranged}
-use Rattle.rules.proofs.Ledgers.PageAgreement.{SameTrade, same-trade, PartAgrees, rows-added-agrees, confirmed-agrees, withdrawn-agrees, guaranteed-agrees, closed-agrees, scheduled-agrees}
+use Rattle.rules.proofs.Ledgers.PageAgreement.{SameTrade, same-trade, PartAgrees, enteredAll, entered-schedules, rows-added-agrees, confirmed-agrees, withdrawn-agrees, guaranteed-agrees, closed-agrees, scheduled-agrees}
 
 -- ---- what agrees
 
@@ -66,69 +68,113 @@ saved-none : (phase : ℕ) (xs : List Schedule) (o : Option Part) (g : Page) →
 saved-none phase xs none g e = tt
 saved-none phase xs (some p) g e = let z : _≡_ {A = ℕ} 0 1 = cc in absurd (omega arith)
 
-confirmed-trade : (b : Book) (c : Call) (q : Request) → kindNumber confirm ≡ q .kind → Clear (inputChecks b c confirm q)
-    → Clear (stateChecks b confirm q) → Ranged b → SameTrade (nth (b .part .rows) (confirmedNumber b q) noRow) (tradeOf q)
-confirmed-trade b c q e i h r =
-    let x = passed-confirm b q h in
-    let p = each-nth noRow (confirmedNumber b q) (r .rows) (x .low) (x .high) in
-    same-trade q _ (x .row) (x .terms) (p .side-low) (p .side-high) (confirm-side b c q e i)
+confirmed-trade : (b : Book) (c : Call) (qs : List Request) → Asked confirm qs → Clear (inputChecks b c confirm qs)
+    → Clear (stateChecks b confirm qs) → Ranged b
+    → SameTrade (nth (b .part .rows) (confirmedNumber b (firstOf qs)) noRow) (tradeOf (firstOf qs))
+confirmed-trade b c qs a i h r =
+    let x = passed-confirm b qs h in
+    let p = each-nth noRow (confirmedNumber b (firstOf qs)) (r .rows) (x .low) (x .high) in
+    same-trade (firstOf qs) _ (x .row) (x .terms) (p .side-low) (p .side-high) (confirm-side b c qs a i)
 
 undone : (phase : ℕ) (xs : List Schedule) (o : Option Part) (p : Part) (g : Page) → o ≡ some p → SavedAgrees phase xs o g
     → CopyAgrees phase xs p g
 undone phase xs o p g e s = rw e at s
 
-next-agrees : (k : Kind) (b : Book) (c : Call) (q : Request) (l : Ledger) → kindNumber k ≡ q .kind → Clear (inputChecks b c k q)
-    → Clear (stateChecks b k q) → Ranged b → Agrees b l → Agrees (next k b q) (feed k q l)
+-- rows that are proposed, entered one after the other
+abbrev enteredFor : List Request → Ledger → Ledger
+enteredFor qs l = record { setup = l .setup; page = enteredAll (l .page) (map proposed qs); copy = l .copy }
+
+registers-fed : {qs : List Request} (l : Ledger) → Each (λ q. q .kind ≡ kindNumber register) qs → feedEach qs l ≡ enteredFor qs l
+unfolding feedEach feed pageAfter
+registers-fed l nil = refl
+registers-fed l (cons {x = q} e es) = rw e (registers-fed (enteredFor (q ∷ []) l) es)
+
+-- registers, and a strip's rows
+entered-agrees : (b : Book) (qs : List Request) (l : Ledger) → Each (λ q. q .kind ≡ kindNumber register) qs → Agrees b l
+    → Agrees (apply (addRows (map proposed qs)) b) (feedEach qs l)
+unfolding apply
+entered-agrees b qs l kinds g =
+    let xs = entered-schedules (l .page) (map proposed qs) in
+    rw (registers-fed l kinds) (record {
+      setup = g .setup;
+      part = rows-added-agrees (b .part) (l .page) (each-image proposed (each-any qs (λ q. refl))) (g .part);
+      schedules = g .schedules ∙ sym xs;
+      saved = g .saved;
+    })
+
+-- any other call is one request
+single-fed : (k : Kind) (qs : List Request) (l : Ledger) → k oneOf (strip ∷ []) ≡ false → Asked k qs → feedEach qs l ≡ feed k (firstOf qs) l
+unfolding feedEach
+single-fed k qs l e a =
+    let kind : firstOf qs .kind ≡ kindNumber k = first-kind a ∙ rw e in
+    ap (λ (xs : List Request). feedEach xs l) (a .alone e)
+    ∙ ap (λ (n : ℕ). feed (kindOf n) (firstOf qs) l) kind
+    ∙ ap (λ (j : Kind). feed j (firstOf qs) l) (kind-again k)
+
+next-agrees : (k : Kind) (b : Book) (c : Call) (qs : List Request) (l : Ledger) → Asked k qs → Clear (inputChecks b c k qs)
+    → Clear (stateChecks b k qs) → Ranged b → Agrees b l → Agrees (next k b qs) (feedEach qs l)
 unfolding apply feed pageAfter confirms
-next-agrees register b c q l e i h r g =
-    record { setup = g .setup; part = rows-added-agrees (b .part) (l .page) (cons refl nil) (g .part); schedules = g .schedules; saved = g .saved }
-next-agrees confirm b c q l e i h r g =
-    let found = passed-16-confirm b q h in
-    record {
+next-agrees register b c qs l a i h r g = entered-agrees b qs l (a .kinds) g
+next-agrees strip b c qs l a i h r g = entered-agrees b qs l (a .kinds) g
+next-agrees confirm b c qs l a i h r g =
+    let found = passed-16-confirm b qs h in
+    let q : Request = firstOf qs in
+    rw (single-fed confirm qs l refl a) (record {
       setup = g .setup;
       part =
           confirmed-agrees (b .part) (l .page) (g .part) (q .other) (q .account) (q .code) (confirmedNumber b q) (found .0) (tradeOf q)
-          (ap numberFrom (found .1)) (found .1) (passed-confirm b q h .row .is-pending) (confirmed-trade b c q e i h r);
+          (ap numberFrom (found .1)) (found .1) (passed-confirm b qs h .row .is-pending) (confirmed-trade b c qs a i h r);
       schedules = g .schedules;
       saved = g .saved;
-    }
-next-agrees withdraw b c q l e i h r g =
-    record { setup = g .setup; part = withdrawn-agrees (b .part) (l .page) (g .part) (q .number) (passed-withdraw b q h .0); schedules = g .schedules; saved = g .saved }
-next-agrees guarantee b c q l e i h r g =
-    record { setup = g .setup; part = guaranteed-agrees (b .part) (l .page) (g .part) (q .operator) (q .guarantee); schedules = g .schedules; saved = g .saved }
-next-agrees openBatch b c q l e i h r g =
-    record {
+    })
+next-agrees withdraw b c qs l a i h r g =
+    rw (single-fed withdraw qs l refl a) (record {
+      setup = g .setup;
+      part = withdrawn-agrees (b .part) (l .page) (g .part) (firstOf qs .number) (passed-withdraw b qs h .0);
+      schedules = g .schedules;
+      saved = g .saved;
+    })
+next-agrees guarantee b c qs l a i h r g =
+    rw (single-fed guarantee qs l refl a) (record {
+      setup = g .setup;
+      part = guaranteed-agrees (b .part) (l .page) (g .part) (firstOf qs .operator) (firstOf qs .guarantee);
+      schedules = g .schedules;
+      saved = g .saved;
+    })
+next-agrees openBatch b c qs l a i h r g =
+    rw (single-fed openBatch qs l refl a) (record {
       setup = g .setup;
       part = g .part;
       schedules = g .schedules;
-      saved = record { phase = passed-11 b q openBatch h; schedules = g .schedules; part = g .part };
-    }
-next-agrees undo b c q l e i h r g =
-    let (p, o) = passed-13 b q undo refl h in
+      saved = record { phase = passed-11 b qs openBatch h; schedules = g .schedules; part = g .part };
+    })
+next-agrees undo b c qs l a i h r g =
+    let (p, o) = passed-13 b qs undo refl h in
     let s = undone (b .phase) (b .schedules) (b .saved) p (l .copy) o (g .saved) in
-    record { setup = g .setup; part = rw o (s .part); schedules = s .schedules; saved = tt }
-next-agrees keep b c q l e i h r g = record { setup = g .setup; part = g .part; schedules = g .schedules; saved = tt }
-next-agrees closeGate b c q l e i h r g =
-    record {
+    rw (single-fed undo qs l refl a) (record { setup = g .setup; part = rw o (s .part); schedules = s .schedules; saved = tt })
+next-agrees keep b c qs l a i h r g =
+    rw (single-fed keep qs l refl a) (record { setup = g .setup; part = g .part; schedules = g .schedules; saved = tt })
+next-agrees closeGate b c qs l a i h r g =
+    rw (single-fed closeGate qs l refl a) (record {
       setup = g .setup;
       part = closed-agrees (b .part) (l .page) (g .part);
       schedules = g .schedules;
-      saved = saved-none 2 (b .schedules) (b .saved) (l .copy) (passed-12 b q closeGate refl h);
-    }
-next-agrees schedule b c q l e i h r g =
-    record {
+      saved = saved-none 2 (b .schedules) (b .saved) (l .copy) (passed-12 b qs closeGate refl h);
+    })
+next-agrees schedule b c qs l a i h r g =
+    rw (single-fed schedule qs l refl a) (record {
       setup = g .setup;
       part = scheduled-agrees (b .part) (l .page) (g .part) _;
-      schedules = ap (λ (xs : List Schedule). xs ++ scheduled q ∷ []) (g .schedules);
-      saved = saved-later (b .phase) (b .schedules) _ (b .saved) (l .copy) (b .phase) (passed-11 b q schedule h) (g .saved);
-    }
-next-agrees settle b c q l e i h r g =
-    record {
+      schedules = ap (λ (xs : List Schedule). xs ++ scheduled (firstOf qs) ∷ []) (g .schedules);
+      saved = saved-later (b .phase) (b .schedules) _ (b .saved) (l .copy) (b .phase) (passed-11 b qs schedule h) (g .saved);
+    })
+next-agrees settle b c qs l a i h r g =
+    rw (single-fed settle qs l refl a) (record {
       setup = g .setup;
       part = g .part;
       schedules = g .schedules;
-      saved = saved-later (b .phase) (b .schedules) _ (b .saved) (l .copy) 3 (passed-11 b q settle h) (g .saved);
-    }
+      saved = saved-later (b .phase) (b .schedules) _ (b .saved) (l .copy) 3 (passed-11 b qs settle h) (g .saved);
+    })
 
 -- ---- a call, and a list of calls
 
@@ -140,7 +186,7 @@ step-agrees b c l r g = go (step-cases b c)
     go : Kept b c ⊎ Passed b c → Agrees (step b c .book) (fed (c .bytes) (accepts step b c) l)
     go (inl kept) = rw (kept .book, kept .outcome) g
     go (inr p) =
-        rw (p .book, p .outcome) (next-agrees (callKind c) b c (callRequest c) l (passed-kind p) (p .input) (p .state) r g)
+        rw (p .book, p .outcome) (next-agrees (callKind c) b c (callRequests c) l (passed-asked p) (p .input) (p .state) r g)
 
 pub list-agrees : (b : Book) (l : Ledger) (cs : List Call) → Ranged b → Agrees b l → Agrees (after step b cs) (fedAll l (heard step b cs))
 unfolding after fedAll heard runs

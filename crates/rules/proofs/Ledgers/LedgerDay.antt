@@ -8,18 +8,19 @@ use mathlib.Core.Bool.{Bool, true, false}
 use native.Mathlib.Omega.{arith}
 use Rattle.units.specs.Units.{milliCents}
 use Rattle.rules.specs.declared.Refusal.{Refusal}
+use Rattle.rules.specs.declared.Request.{Request}
 use Rattle.rules.specs.declared.NetReading.{NetReading}
 use Rattle.rules.specs.declared.ExposureReading.{ExposureReading}
 use Rattle.rules.specs.Basics.{if_then_else_, sumOf, within}
 use Rattle.rules.specs.Books.{Book, accountCount, operatorCount, periods}
 use Rattle.rules.specs.Opening.{opened, setupOf}
-use Rattle.rules.specs.Requests.{settle}
+use Rattle.rules.specs.Requests.{settle, kindOf, requestsOf}
 use Rattle.rules.specs.Registration.{netOf, available}
 use Rattle.rules.specs.Readings.{position, netReading, exposureReading}
 use Rattle.rules.specs.Settlement.{pricesIn, results, balances, registeredTotal, balanceFigure}
 use Rattle.rules.specs.Calls.{Call, drawnUp, Settled, callKind, _oneOf_, workedOut, settles, refusal, step, settlement}
 use Rattle.rules.specs.Lists.{after, heard}
-use Rattle.rules.specs.Ledger.{Ledger, newLedger, feed, fed, fedAll, ledgerNet, ledgerExposure, ledgerAvailable, ledgerAfter}
+use Rattle.rules.specs.Ledger.{Ledger, newLedger, feed, feedEach, fed, fedAll, ledgerNet, ledgerExposure, ledgerAvailable, ledgerAfter}
 use Rattle.rules.proofs.Ledgers.Ranged.{Ranged, opened-ranged, last-ranged}
 use Rattle.rules.proofs.Ledgers.Agreement.{Agrees, day-agrees}
 use Rattle.rules.proofs.Ledgers.LedgerReadings.{net-read-is-the-ledgers, exposure-read-is-the-ledgers, available-is-the-ledgers, results-are-the-ledgers, balances-are-the-ledgers, total-is-the-ledgers}
@@ -66,9 +67,14 @@ module _ (b : Book) (c : Call) (l : Ledger) (w : Settled) (owned : Owned (b .set
 
 -- ---- the set-up stands all day
 
+fed-each-setup : (qs : List Request) (l : Ledger) → feedEach qs l .setup ≡ l .setup
+unfolding feedEach feed
+fed-each-setup [] l = refl
+fed-each-setup (q ∷ qs) l = fed-each-setup qs (feed (kindOf (q .kind)) q l)
+
 fed-setup : (s : List ℕ) (t : Bool) (l : Ledger) → fed s t l .setup ≡ l .setup
-unfolding fed feed
-fed-setup s true l = refl
+unfolding fed
+fed-setup s true l = fed-each-setup (requestsOf s) l
 fed-setup s false l = refl
 
 fed-all-setup : (l : Ledger) (xs : List (List ℕ × Bool)) → fedAll l xs .setup ≡ l .setup

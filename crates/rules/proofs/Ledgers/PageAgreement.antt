@@ -154,6 +154,11 @@ abbrev pub enteredAll : Page → List Row → Page
 enteredAll g [] = g
 enteredAll g (r ∷ rs) = enteredAll (entered g r) rs
 
+-- no schedule enters with them
+pub entered-schedules : (g : Page) (rows : List Row) → enteredAll g rows .schedules ≡ g .schedules
+entered-schedules g [] = refl
+entered-schedules g (r ∷ rs) = entered-schedules (entered g r) rs
+
 -- rows more
 pub rows-added-agrees : (p : Part) (g : Page) {rows : List Row} → Each (λ r. pending r ≡ true) rows → PartAgrees p g
     → PartAgrees (partRows p (p .rows ++ rows)) (enteredAll g rows)

@@ -3,7 +3,7 @@
 use Prim.Native.Nat.{ℕ, _≤_}
 use mathlib.Core.Path.{_≡_, refl}
 use mathlib.Core.Logic.{_⊎_, inl, inr}
-use mathlib.Core.List.{List, [], _∷_}
+use mathlib.Core.List.{List, [], _∷_, map}
 use mathlib.Core.Option.{Option, none, some}
 use mathlib.Core.Bool.{true}
 use native.Mathlib.Omega.{arith}
@@ -14,15 +14,15 @@ use Rattle.rules.specs.declared.Request.{Request}
 use Rattle.rules.specs.Basics.{bit, Each, nil, cons}
 use Rattle.rules.specs.Books.{Part, Book, accountCount, pointCount, countsOf}
 use Rattle.rules.specs.Opening.{opened}
-use Rattle.rules.specs.Requests.{Kind, register, confirm, withdraw, guarantee, openBatch, undo, keep, closeGate, schedule, settle, kindNumber, wantedMap, inRange, faultyBit}
+use Rattle.rules.specs.Requests.{Kind, register, confirm, withdraw, guarantee, openBatch, undo, keep, closeGate, schedule, settle, strip, kindNumber, wantedMap, inRange, faultyBit, firstOf}
 use Rattle.rules.specs.Registration.{withStatus, proposed}
-use Rattle.rules.specs.Calls.{Call, callKind, callRequest, Change, addRows, setStatus, setGuarantee, savePart, restorePart, dropSaved, shutGate, addSchedule, endDay, scheduled, change, restored, apply, inputChecks, step}
+use Rattle.rules.specs.Calls.{Call, callKind, callRequests, Change, addRows, setStatus, setGuarantee, savePart, restorePart, dropSaved, shutGate, addSchedule, endDay, scheduled, change, restored, apply, inputChecks, step}
 use Rattle.rules.specs.Lists.{after}
 use Rattle.rules.proofs.Basics.Tests.{within-true}
-use Rattle.rules.proofs.Basics.Searches.{each-snoc, each-append}
+use Rattle.rules.proofs.Basics.Searches.{each-snoc, each-append, each-both, each-image}
 use Rattle.rules.proofs.Rows.RowChanges.{each-mark, each-closed}
 use Rattle.rules.proofs.Checks.Clearing.{Clear}
-use Rattle.rules.proofs.Checks.Passed.{field-in-range, passed-6, Passed, Kept, passed-kind, step-cases}
+use Rattle.rules.proofs.Checks.Passed.{field-in-range, passed-6, Asked, first-has, first-kind, Passed, Kept, passed-asked, step-cases}
 use Rattle.rules.proofs.Rows.Balanced.{Parties, parties}
 
 -- ---- rows between accounts
@@ -58,26 +58,24 @@ module _ (n : Counts) (q : Request) (f : faultyBit n q ≡ none) where
   point-in-range e = within-true 1 (q .point) (n .points) .0 (field-in-range n q 11 f (omega arith) e)
 
 -- the field of a bit stands in a request of the kind
-bit-stands : (k : Kind) (q : Request) (i : ℕ) → kindNumber k ≡ q .kind → bit (wantedMap (kindNumber k)) i ≡ true
+bit-stands : (k : Kind) (q : Request) (i : ℕ) → q .kind ≡ kindNumber k → bit (wantedMap (kindNumber k)) i ≡ true
     → bit (wantedMap (q .kind)) i ≡ true
-bit-stands k q i e h = rw e at h
+bit-stands k q i e h = rw e h
 
-proposed-parties : (b : Book) (c : Call) (q : Request) → kindNumber register ≡ q .kind → Clear (inputChecks b c register q)
-    → Parties (accountCount (b .setup)) (proposed q)
+proposed-parties : (n : Counts) (q : Request) → q .kind ≡ kindNumber register → faultyBit n q ≡ none → Parties (n .accounts) (proposed q)
 unfolding bit
-proposed-parties b c q e i =
-    let n = countsOf (b .setup) in
-    let f = passed-6 b c q register i in
-    parties (accountCount (b .setup)) (proposed q)
+proposed-parties n q e f =
+    parties (n .accounts) (proposed q)
     (account-in-range n q f (bit-stands register q 1 e refl))
     (other-in-range n q f (bit-stands register q 2 e refl))
     (side-in-range n q f (bit-stands register q 4 e refl))
 
 -- an accepted confirm has a side
-pub confirm-side : (b : Book) (c : Call) (q : Request) → kindNumber confirm ≡ q .kind → Clear (inputChecks b c confirm q)
-    → (1 ≤ q .side) × (q .side ≤ 2)
+pub confirm-side : (b : Book) (c : Call) (qs : List Request) → Asked confirm qs → Clear (inputChecks b c confirm qs)
+    → (1 ≤ firstOf qs .side) × (firstOf qs .side ≤ 2)
 unfolding bit
-confirm-side b c q e i = side-in-range (countsOf (b .setup)) q (passed-6 b c q confirm i) (bit-stands confirm q 4 e refl)
+confirm-side b c qs a i =
+    side-in-range (countsOf (b .setup)) (firstOf qs) (first-has a (passed-6 b c qs confirm i)) (bit-stands confirm (firstOf qs) 4 (first-kind a) refl)
 
 -- ---- books
 
@@ -86,11 +84,11 @@ pub record OnPoint (n : ℕ) (x : Schedule) : Type 0 where
   pub low : 1 ≤ x .point
   pub high : x .point ≤ n
 
-scheduled-on-point : (b : Book) (c : Call) (q : Request) → kindNumber schedule ≡ q .kind → Clear (inputChecks b c schedule q)
-    → OnPoint (pointCount (b .setup)) (scheduled q)
+scheduled-on-point : (b : Book) (c : Call) (qs : List Request) → Asked schedule qs → Clear (inputChecks b c schedule qs)
+    → OnPoint (pointCount (b .setup)) (scheduled (firstOf qs))
 unfolding bit
-scheduled-on-point b c q e i =
-    let p = point-in-range (countsOf (b .setup)) q (passed-6 b c q schedule i) (bit-stands schedule q 11 e refl) in
+scheduled-on-point b c qs a i =
+    let p = point-in-range (countsOf (b .setup)) (firstOf qs) (first-has a (passed-6 b c qs schedule i)) (bit-stands schedule (firstOf qs) 11 (first-kind a) refl) in
     record { low = p .0; high = p .1 }
 
 abbrev pub SavedParties : ℕ → Option Part → Type 0
@@ -134,17 +132,23 @@ apply-ranged shutGate b new g = record { rows = each-closed (parties-status _ 3)
 apply-ranged (addSchedule x) b new g = record { rows = g .rows; saved = g .saved; schedules = each-snoc (g .schedules) new }
 apply-ranged endDay b new g = record { rows = g .rows; saved = g .saved; schedules = g .schedules }
 
-change-adds : (k : Kind) (b : Book) (c : Call) (q : Request) → kindNumber k ≡ q .kind → Clear (inputChecks b c k q) → Adds b (change k b q)
-change-adds register b c q e i = cons (proposed-parties b c q e i) nil
-change-adds confirm b c q e i = tt
-change-adds withdraw b c q e i = tt
-change-adds guarantee b c q e i = tt
-change-adds openBatch b c q e i = tt
-change-adds undo b c q e i = tt
-change-adds keep b c q e i = tt
-change-adds closeGate b c q e i = tt
-change-adds schedule b c q e i = scheduled-on-point b c q e i
-change-adds settle b c q e i = tt
+-- each row that is proposed
+rows-parties : (n : Counts) {qs : List Request} → Each (λ q. q .kind ≡ kindNumber register) qs → Each (λ q. faultyBit n q ≡ none) qs
+    → Each (Parties (n .accounts)) (map proposed qs)
+rows-parties n kinds fine = each-image proposed (each-both (proposed-parties n) kinds fine)
+
+change-adds : (k : Kind) (b : Book) (c : Call) (qs : List Request) → Asked k qs → Clear (inputChecks b c k qs) → Adds b (change k b qs)
+change-adds register b c qs a i = rows-parties (countsOf (b .setup)) (a .kinds) (passed-6 b c qs register i)
+change-adds strip b c qs a i = rows-parties (countsOf (b .setup)) (a .kinds) (passed-6 b c qs strip i)
+change-adds confirm b c qs a i = tt
+change-adds withdraw b c qs a i = tt
+change-adds guarantee b c qs a i = tt
+change-adds openBatch b c qs a i = tt
+change-adds undo b c qs a i = tt
+change-adds keep b c qs a i = tt
+change-adds closeGate b c qs a i = tt
+change-adds schedule b c qs a i = scheduled-on-point b c qs a i
+change-adds settle b c qs a i = tt
 
 pub opened-ranged : (s : List ℕ) → Ranged (opened s)
 unfolding opened
@@ -155,7 +159,7 @@ step-ranged b c g = go (step-cases b c)
   where
     go : Kept b c ⊎ Passed b c → Ranged (step b c .book)
     go (inl kept) = rw (kept .book) g
-    go (inr p) = rw (p .book) (apply-ranged (change (callKind c) b (callRequest c)) b (change-adds (callKind c) b c (callRequest c) (passed-kind p) (p .input)) g)
+    go (inr p) = rw (p .book) (apply-ranged (change (callKind c) b (callRequests c)) b (change-adds (callKind c) b c (callRequests c) (passed-asked p) (p .input)) g)
 
 pub last-ranged : (b : Book) (cs : List Call) → Ranged b → Ranged (after step b cs)
 unfolding after

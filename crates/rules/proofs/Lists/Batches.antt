@@ -3,19 +3,20 @@
 use Prim.Native.Nat.{ℕ, _+_, _-_}
 use mathlib.Core.Path.{_≡_, refl, sym, ap, _∙_}
 use mathlib.Core.Logic.{_⊎_, inl, inr}
-use mathlib.Core.List.{List, [], _∷_, _++_}
+use mathlib.Core.List.{List, [], _∷_, _++_, map}
 use mathlib.Core.Option.{none, some}
 use mathlib.Core.Bool.{true, false, or-false}
 use native.Mathlib.Nat.{zero-add, add-zero, add-comm, add-assoc}
 use native.Mathlib.Omega.{arith}
-use lib.ListN.{length, length-append}
+use lib.ListN.{length, length-append, length-map}
 use borrow.Author.Tests.{not-true}
 use Rattle.rules.specs.declared.Request.{Request}
 use Rattle.rules.specs.Basics.{if_then_else_, total, every}
 use Rattle.rules.specs.Verdicts.{accepted}
 use Rattle.rules.specs.Books.{Part, Book, withPart, withSaved}
-use Rattle.rules.specs.Requests.{Kind, register, confirm, withdraw, guarantee, openBatch, undo, keep, closeGate, schedule, settle}
-use Rattle.rules.specs.Calls.{Call, callRequest, callKind, restored, confirmedNumber, next, given, _oneOf_, stateChecks, step, apply, restorePart}
+use Rattle.rules.specs.Requests.{Kind, register, confirm, withdraw, guarantee, openBatch, undo, keep, closeGate, schedule, settle, strip, firstOf}
+use Rattle.rules.specs.Registration.{proposed}
+use Rattle.rules.specs.Calls.{Call, callRequests, callKind, restored, confirmedNumber, next, given, _oneOf_, adding, stateChecks, step, apply, addRows, restorePart}
 use Rattle.rules.specs.Lists.{after, acceptsAs, rowsRegistered, endsNoBatch, UndoneBatch, CutOut, runs}
 use Rattle.rules.proofs.Basics.Tests.{and-both, and-spared}
 use Rattle.rules.proofs.Checks.Clearing.{Clear}
@@ -43,10 +44,10 @@ record Within (o : Book) (n : ℕ) (b : Book) : Type 0 where
   numbers : length (part .rows) ≡ n + length (o .part .rows)
 
 -- the rows that an accepted call of a kind registers
-abbrev registers : Kind → ℕ
-registers k = if k oneOf (register ∷ []) then 1 else 0
+abbrev registers : Kind → List Request → ℕ
+registers k qs = if k oneOf adding then length qs else 0
 
-module _ {o b : Book} {n : ℕ} (w : Within o n b) (q : Request) where
+module _ {o b : Book} {n : ℕ} (w : Within o n b) (qs : List Request) where
   here : b .part ≡ w .part
   here = ap (λ (x : Book). x .part) (w .book)
 
@@ -67,28 +68,33 @@ module _ {o b : Book} {n : ℕ} (w : Within o n b) (q : Request) where
   saved-never : b .saved ≡ none → ⊥
   saved-never e = let s = ap (λ (x : Book). x .saved) (w .book) in let z : _≡_ {A = ℕ} 0 1 = cc in omega arith
 
-  within-next : (k : Kind) → k oneOf (undo ∷ keep ∷ []) ≡ false → Clear (stateChecks b k q) → Within o (registers k + n) (next k b q)
+  rows-more : Within o (length qs + n) (apply (addRows (map proposed qs)) b)
   unfolding apply
-  within-next register e h = with-part 1 _ (length-append (b .part .rows) _ ∙ omega arith)
-  within-next confirm e h = with-part 0 _ (length-mark (confirmedNumber b q) 2 (b .part .rows) ∙ sym (zero-add _))
-  within-next withdraw e h = with-part 0 _ (length-mark (q .number) 3 (b .part .rows) ∙ sym (zero-add _))
+  rows-more = with-part (length qs) _ (length-append (b .part .rows) _ ∙ omega (arith, length-map qs proposed))
+
+  within-next : (k : Kind) → k oneOf (undo ∷ keep ∷ []) ≡ false → Clear (stateChecks b k qs) → Within o (registers k qs + n) (next k b qs)
+  unfolding apply
+  within-next register e h = rows-more
+  within-next strip e h = rows-more
+  within-next confirm e h = with-part 0 _ (length-mark (confirmedNumber b (firstOf qs)) 2 (b .part .rows) ∙ sym (zero-add _))
+  within-next withdraw e h = with-part 0 _ (length-mark (firstOf qs .number) 3 (b .part .rows) ∙ sym (zero-add _))
   within-next guarantee e h = with-part 0 _ (sym (zero-add _))
-  within-next openBatch e h = absurd (saved-never (passed-12 b q openBatch refl h))
+  within-next openBatch e h = absurd (saved-never (passed-12 b qs openBatch refl h))
   within-next undo e h = let z : _≡_ {A = ℕ} 0 1 = cc in absurd (omega arith)
   within-next keep e h = let z : _≡_ {A = ℕ} 0 1 = cc in absurd (omega arith)
-  within-next closeGate e h = absurd (saved-never (passed-12 b q closeGate refl h))
-  within-next schedule e h = absurd (omega (arith, passed-11 b q schedule h, phase-within))
-  within-next settle e h = absurd (omega (arith, passed-11 b q settle h, phase-within))
+  within-next closeGate e h = absurd (saved-never (passed-12 b qs closeGate refl h))
+  within-next schedule e h = absurd (omega (arith, passed-11 b qs schedule h, phase-within))
+  within-next settle e h = absurd (omega (arith, passed-11 b qs settle h, phase-within))
 
 -- the rows that one call registers
 abbrev rowsOf : Book → Call → ℕ
-rowsOf b c = if acceptsAs step (register ∷ []) b c then 1 else 0
+rowsOf b c = if acceptsAs step adding b c then length (callRequests c) else 0
 
 within-go : {o : Book} {n : ℕ} (b : Book) (c : Call) → acceptsAs step (undo ∷ keep ∷ []) b c ≡ false → Within o n b → Kept b c ⊎ Passed b c
     → Within o (rowsOf b c + n) (step b c .book)
 within-go b c e w (inl kept) = rw (kept-refused kept, kept .book, zero-add) w
 within-go b c e w (inr p) =
-    rw (passed-accepted p, p .book) (within-next w (callRequest c) (callKind c) (and-spared _ _ (passed-accepted p) e) (p .state))
+    rw (passed-accepted p, p .book) (within-next w (callRequests c) (callKind c) (and-spared _ _ (passed-accepted p) e) (p .state))
 
 within-after : {o : Book} {n : ℕ} (b : Book) (cs : List Call) → endsNoBatch step b cs ≡ true → Within o n b
     → Within o (rowsRegistered step b cs + n) (after step b cs)
@@ -98,9 +104,9 @@ within-after {n} b (c ∷ cs) e w =
     let t = and-both _ _ .0 e in
     rw (add-comm (rowsOf b c), add-assoc) (within-after (step b c .book) cs (t .1) (within-go b c (not-true _ (t .0)) w (step-cases b c)))
 
-within-open : (b : Book) (q : Request) → b .phase ≡ 1 → Within b 0 (next openBatch b q)
+within-open : (b : Book) (qs : List Request) → b .phase ≡ 1 → Within b 0 (next openBatch b qs)
 unfolding apply
-within-open b q e = record { part = b .part; book = refl; phase = e; numbers = omega arith }
+within-open b qs e = record { part = b .part; book = refl; phase = e; numbers = omega arith }
 
 -- ---- an undone batch
 
@@ -111,24 +117,24 @@ module _ (b : Book) (opening : Call) (between : List Call) (undoing : Call) (bat
   undone-batch : Passed (after step b (opening ∷ between)) undoing × (callKind undoing ≡ undo)
   undone-batch = passed-as (after step b (opening ∷ between)) undoing undo (batch .undoes)
 
-  step-open : step b opening .book ≡ next openBatch b (callRequest opening)
-  step-open = opened-batch .0 .book ∙ ap (λ (k : Kind). next k b (callRequest opening)) (opened-batch .1)
+  step-open : step b opening .book ≡ next openBatch b (callRequests opening)
+  step-open = opened-batch .0 .book ∙ ap (λ (k : Kind). next k b (callRequests opening)) (opened-batch .1)
 
   phase-open : b .phase ≡ 1
-  phase-open = passed-11 b (callRequest opening) openBatch (rw (opened-batch .1) at (opened-batch .0 .state))
+  phase-open = passed-11 b (callRequests opening) openBatch (rw (opened-batch .1) at (opened-batch .0 .state))
 
   saved-none : b .saved ≡ none
-  saved-none = passed-12 b (callRequest opening) openBatch refl (rw (opened-batch .1) at (opened-batch .0 .state))
+  saved-none = passed-12 b (callRequests opening) openBatch refl (rw (opened-batch .1) at (opened-batch .0 .state))
 
   within-batch : Within b (rowsRegistered step (after step b (opening ∷ [])) between) (after step b (opening ∷ between))
   unfolding after
   within-batch =
-      let start : Within b 0 (step b opening .book) = rw step-open (within-open b (callRequest opening) phase-open) in
+      let start : Within b 0 (step b opening .book) = rw step-open (within-open b (callRequests opening) phase-open) in
       rw add-zero at (within-after (step b opening .book) between (batch .goes-on) start)
 
-  undo-within : (m : ℕ) (x : Book) (q : Request) → Within b m x → next undo x q ≡ b
+  undo-within : (m : ℕ) (x : Book) (qs : List Request) → Within b m x → next undo x qs ≡ b
   unfolding apply
-  undo-within m x q w = ap (apply restorePart) (w .book) ∙ ap (withSaved b) (sym saved-none)
+  undo-within m x qs w = ap (apply restorePart) (w .book) ∙ ap (withSaved b) (sym saved-none)
 
   -- undo gives back the book as it was before the open, whole, whatever was called in between
   pub undo-restores : after step b (opening ∷ between ++ undoing ∷ []) ≡ b
@@ -136,8 +142,8 @@ module _ (b : Book) (opening : Call) (between : List Call) (undoing : Call) (bat
   undo-restores =
       after-append step b (opening ∷ between) (undoing ∷ [])
       ∙ undone-batch .0 .book
-      ∙ ap (λ (k : Kind). next k (after step b (opening ∷ between)) (callRequest undoing)) (undone-batch .1)
-      ∙ undo-within _ _ (callRequest undoing) within-batch
+      ∙ ap (λ (k : Kind). next k (after step b (opening ∷ between)) (callRequests undoing)) (undone-batch .1)
+      ∙ undo-within _ _ (callRequests undoing) within-batch
 
   -- and gives the number of rows registered since
   pub undo-counts : step (after step b (opening ∷ between)) undoing .outcome ≡ accepted (rowsRegistered step (after step b (opening ∷ [])) between)
@@ -148,7 +154,7 @@ module _ (b : Book) (opening : Call) (between : List Call) (undoing : Call) (bat
       let count : length (x .part .rows) - length (restored (x .saved) (x .part) .rows) ≡ rowsRegistered step (after step b (opening ∷ [])) between
       = rw saved (omega (arith, ap (λ (y : Book). length (y .part .rows)) (within-batch .book), within-batch .numbers)) in
       undone-batch .0 .outcome
-      ∙ ap (λ (k : Kind). accepted (given k x (callRequest undoing))) (undone-batch .1)
+      ∙ ap (λ (k : Kind). accepted (given k x (callRequests undoing))) (undone-batch .1)
       ∙ ap accepted count
 
 -- the undone batch cut out of a list, whatever stands before and after it

@@ -13,7 +13,7 @@ use Rattle.wire.proofs.SlotLaws.{map-get}
 use Rattle.units.specs.Units.{kwh, cents, centsPerMwh}
 use Rattle.rules.specs.declared.Request.{Request}
 use Rattle.rules.specs.Basics.{if_then_else_, total, counting, bit}
-use Rattle.rules.specs.Requests.{isKind, wantedMap, wantedLength, widthOf, fieldCount, mapOf, room, offset, fieldIn, requestOf, fieldsOf, fieldOf, fieldBytes, write, Canonical, Fits}
+use Rattle.rules.specs.Requests.{isSingle, wantedMap, wantedLength, widthOf, fieldCount, mapOf, room, offset, fieldIn, requestOf, fieldsOf, fieldOf, fieldBytes, write, Canonical, Fits}
 use Rattle.rules.proofs.Basics.Searches.{counting-at, counting-length}
 use Rattle.rules.proofs.Basics.Totals.{total-last}
 use Rattle.rules.proofs.Checks.KindTables.{tables-agree}
@@ -146,7 +146,7 @@ module _ (q : Request) where
       let m : ℕ = wantedMap (q .kind) in
       rw (offset-step, ← drop-drop, drop-write k (suc n) (omega arith)) (drop-fields m q k n)
 
-  module _ (h : isKind (q .kind) ≡ true) where
+  module _ (h : isSingle (q .kind) ≡ true) where
     pub length-write : length (write q) ≡ wantedLength (q .kind)
     length-write = length-of-write ∙ sym (tables-agree (q .kind) h .ends)
 

@@ -17,7 +17,7 @@ use Rattle.rules.specs.declared.Reading.the-variants.{Read}
 use Rattle.rules.specs.declared.Refusal.{Refusal}
 use Rattle.rules.specs.Basics.{bit}
 use Rattle.rules.specs.Verdicts.{firstToApply}
-use Rattle.rules.specs.Requests.{isKind, wantedMap, wantedLength, fieldCount, mapOf, room, offset, fieldIn, requestOf, unreadable, readChecks, readingOf, reading, fieldOf, fieldBytes, write, Canonical, Fits}
+use Rattle.rules.specs.Requests.{isSingle, wantedMap, wantedLength, fieldCount, mapOf, room, offset, fieldIn, requestOf, unreadable, readChecks, readingOf, reading, fieldOf, fieldBytes, write, Canonical, Fits}
 use Rattle.rules.proofs.Checks.Clearing.{Clear, clear, clear-applies}
 use Rattle.rules.proofs.Checks.Passed.{passed-3, passed-4, passed-5-record}
 use Rattle.rules.proofs.Checks.KindTables.{Agree, tables-agree}
@@ -27,7 +27,7 @@ use Rattle.rules.proofs.Records.Fields.{offset-first, offset-step, offs
 
 -- what the record itself is not refused for, 3 to 5; that it is readable, 2, follows, as the tables agree
 pub record Readable (s : List ℕ) : Type 0 where
-  pub known : isKind (fieldIn s 0) ≡ true
+  pub known : isSingle (fieldIn s 0) ≡ true
   pub mapped : mapOf s ≡ wantedMap (fieldIn s 0)
   pub sized : length s ≡ wantedLength (fieldIn s 0)
 
@@ -72,7 +72,7 @@ record-ends s r = r .sized ∙ tables-agree (fieldIn s 0) (r .known) .ends ∙ a
 
 -- ---- a request, written and read
 
-module _ (q : Request) (h : isKind (q .kind) ≡ true) (c : Canonical q) (f : Fits q) where
+module _ (q : Request) (h : isSingle (q .kind) ≡ true) (c : Canonical q) (f : Fits q) where
   pub field-reads-back : (k : ℕ) → k < fieldCount → fieldIn (write q) k ≡ fieldOf q k
   field-reads-back k l = field-in-write q h k l ∙ mod-eq-of-lt (canonical-fits q c f k l)
 
@@ -130,7 +130,7 @@ module _ (s : List ℕ) (q : Request) (e : reading s ≡ Read q) where
   pub read-field : (k : ℕ) → k < fieldCount → fieldOf q k ≡ fieldIn s k
   read-field k l = ap (λ (p : Request). fieldOf p k) (sym (read-as s q e .1)) ∙ field-of-request s k l
 
-  pub read-is-known : isKind (q .kind) ≡ true
+  pub read-is-known : isSingle (q .kind) ≡ true
   read-is-known = rw (read-field 0 (omega arith)) (read-as s q e .0 .known)
 
   pub read-is-canonical : Canonical q

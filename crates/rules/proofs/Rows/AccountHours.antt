@@ -214,6 +214,14 @@ hour-takes-all rows (r ∷ rs) a h =
     ∙ hour-takes-all (rows ++ r ∷ []) rs a h
     ∙ ap (λ (x : AccountHour). afterTrades a h x rs) (hour-takes rows r a h)
 
+-- pending rows more move no net
+pub nets-stay : (rows : List Row) {added : List Row} (a h : ℕ) → Each (λ r. pending r ≡ true) added → netOf (rows ++ added) a h ≡ netOf rows a h
+nets-stay rows a h e = rw (moved-added buyer a h rows e, moved-added seller a h rows e)
+
+pub pending-move-nothing : (rows : List Row) {added : List Row} (a h : ℕ) → Each (λ r. pending r ≡ true) added
+    → afterTrades a h (accountHour rows a h) added .net ≡ netOf rows a h
+pending-move-nothing rows {added} a h e = ap (λ (x : AccountHour). x .net) (sym (hour-takes-all rows added a h)) ∙ nets-stay rows a h e
+
 -- so a margin that they break is broken with them in, and so exposed are operators with them in
 pub broken-added : (u : Setup) (rows added : List Row) (a : ℕ) → brokenHour u (rows ++ added) a ≡ brokenBy u rows added a
 unfolding brokenHour brokenBy

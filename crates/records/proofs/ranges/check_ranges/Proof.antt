@@ -20,13 +20,15 @@ schedule-fields-requires c κs = ap wantedMap (c .match .keys3)
 trade-fields-requires : tie.Need-trade-fields-requires
 trade-fields-requires c κs = wanted-run 1 2 0x00FF (c .before .before .before .args .request .kind) refl (omega arith) (omega arith)
 
-returns-4 : tie.Need-returns-4
-returns-4 c = sym (ranges-kind-alone _ _ (ap wantedMap (c .match .keys4)))
+returns-5 : tie.Need-returns-5
+returns-5 c =
+    let s = c .before .before .before .before in
+    sym (ranges-kind-alone (s .args .counts) (s .args .request) (wanted-run 5 4 1 (s .args .request .kind) refl (omega arith) (omega arith)))
 
 returns-6 : tie.Need-returns-6
 returns-6 c =
-    let s = c .before .before .before .before in
-    sym (ranges-kind-alone (s .args .counts) (s .args .request) (wanted-run 5 4 1 (s .args .request .kind) refl (omega arith) (omega arith)))
+    let s = c .before .before .before .before .before in
+    sym (ranges-kind-alone (s .args .counts) (s .args .request) (wanted-run 10 2 1 (s .args .request .kind) refl (omega arith) (omega arith)))
 
 returns-7 : tie.Need-returns-7
 returns-7 c =
@@ -35,7 +37,7 @@ returns-7 c =
 
 returns-8 : tie.Need-returns-8
 returns-8 c =
-    let s = c .before .before .before .before in
+    let s = c .before .before .before .before .before in
     sym (ranges-none (s .args .counts) (s .args .request) (wanted-none (s .args .request .kind) (omega arith)))
 
 pub check-ranges-spec : {M : Type 1} → statement M
@@ -43,7 +45,5 @@ check-ranges-spec =
     tie.close
     (tie.spec
     withdrawal-fields-requires guarantee-fields-requires schedule-fields-requires trade-fields-requires
-    (λ c. search needs) (λ c. search needs) (λ c. search needs)
-    returns-4
-    (λ c. search needs)
-    returns-6 returns-7 returns-8)
+    (λ c. search needs) (λ c. search needs) (λ c. search needs) (λ c. search needs)
+    returns-5 returns-6 returns-7 returns-8)

@@ -1,28 +1,17 @@
--- The checks stand in the order of the bits of the map.
-use native.Mathlib.Omega.{arith}
+-- The fields of a trade, and then its accounts.
+use mathlib.Core.Path.{sym, _∙_}
 use borrow.Author.Needs.{needs}
-use Rattle.rules.specs.Basics.{counting, bit}
-use Rattle.rules.specs.Requests.{inRange}
-use Rattle.records.proofs.RangeLaws.{ranges-of}
+use Rattle.rules.specs.Basics.{bit}
+use Rattle.rules.specs.Requests.{sameAccounts}
+use Rattle.records.proofs.RangeLaws.{fields-and-accounts}
 use Rattle.records.proofs.ranges.trade_fields.Statement.{statement}
 use Rattle.records.proofs.ranges.trade_fields.Tie as tie
 
 returns : tie.Need-returns
-unfolding counting bit inRange
+unfolding sameAccounts bit
 returns c =
-    let at-field5 = c .before .before .before .before in
-    let at-field4 = at-field5 .before .before .before .before in
-    let at-field3 = at-field4 .before .before .before in
-    let at-field2 = at-field3 .before .before .before .before in
-    let at-field = at-field2 .before .before .before .before in
-    let at-accounts-differ = at-field .before .before .before in
-    let s = at-accounts-differ .before .before in
-    simp (ranges-of (s .args .n) (s .args .q) 0x00FF (s .pre) (omega arith), c .field6 .ensures, at-field5 .field5 .ensures, at-field4 .field4 .ensures, at-field3 .field3 .ensures, at-field2 .field2 .ensures, at-field .field .ensures, at-accounts-differ .accounts-differ .ensures)
+    let s = c .before .before .before in
+    rw (c .trade-ranges .ensures, c .before .accounts-differ .ensures, fields-and-accounts (s .args .n) (s .args .q), s .pre)
 
 pub trade-fields-spec : {M : Type 1} → statement M
-trade-fields-spec =
-    tie.close
-    (tie.spec
-    (λ c κs. search needs) (λ c κs. search needs) (λ c κs. search needs) (λ c κs. search needs) (λ c κs. search needs)
-    (λ c κs. search needs) (λ c κs. search needs)
-    returns)
+trade-fields-spec = tie.close (tie.spec (λ c κs. search needs) (λ c κs. search needs) returns)

@@ -17,13 +17,13 @@ returns-2 : tie.Need-returns-2
 returns-2 c =
     let s = c .before .before .before .before .before .before .args .bytes .now in
     let r = sym (c .before .before .before .before .no-map .ensures) ∙ c .before .before .before .if1 .left in
-    reads-no-kind s (c .before .before .get-u8 .result) r (c .before .before .get-u8 .ensures ∙ sym (kind-third s r)) (sym (c .before .is-kind .ensures) ∙ not-true (c .before .is-kind .result) (c .if2 .taken))
+    reads-no-kind s (c .before .before .get-u8 .result) r (c .before .before .get-u8 .ensures ∙ sym (kind-third s r)) (sym (c .before .is-single .ensures) ∙ not-true (c .before .is-single .result) (c .if2 .taken))
 
 read-as-requires : tie.Need-read-as-requires
 read-as-requires c κs =
     let s = c .before .before .before .before .before .before .args .bytes .now in
     let r = sym (c .before .before .before .before .no-map .ensures) ∙ c .before .before .before .if1 .left in
-    (r, c .before .before .get-u8 .ensures ∙ sym (kind-third s r), sym (c .before .is-kind .ensures) ∙ not-false (c .before .is-kind .result) (c .if2 .left))
+    (r, c .before .before .get-u8 .ensures ∙ sym (kind-third s r), sym (c .before .is-single .ensures) ∙ not-false (c .before .is-single .result) (c .if2 .left))
 
 pub read-spec : {M : Type 1} → statement M
 read-spec =

@@ -14,7 +14,7 @@ get-u16-requires : tie.Need-get-u16-requires
 get-u16-requires c κs = omega (arith, readable (c .before .args .bytes .now) (c .before .pre .0) .0)
 
 wanted-map-requires : tie.Need-wanted-map-requires
-wanted-map-requires c κs = within-true 1 (c .before .before .args .kind) 10 .0 (c .before .before .pre .2) .1
+wanted-map-requires c κs = omega (arith, within-true 1 (c .before .before .args .kind) 10 .0 (c .before .before .pre .2) .1)
 
 fields-more-requires : tie.Need-fields-more-requires
 fields-more-requires c κs =
@@ -36,7 +36,7 @@ returns c =
     rw (c .before .fields-more .ensures, c .fields-more2 .ensures, wanted) (reads-other-map (s .args .bytes .now) (s .args .kind) (s .pre .0) (s .pre .1) (s .pre .2) given (λ e. c .before .before .if1 .taken (e ∙ sym wanted)))
 
 wanted-length-requires : tie.Need-wanted-length-requires
-wanted-length-requires c κs = let s = c .before .before .before .before in within-true 1 (s .args .kind) 10 .0 (s .pre .2) .1
+wanted-length-requires c κs = let s = c .before .before .before .before in omega (arith, within-true 1 (s .args .kind) 10 .0 (s .pre .2) .1)
 
 returns-2 : tie.Need-returns-2
 unfolding mapOf

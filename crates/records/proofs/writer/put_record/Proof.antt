@@ -9,7 +9,7 @@ use Rattle.records.proofs.writer.put_record.Statement.{statement}
 use Rattle.records.proofs.writer.put_record.Tie as tie
 
 wanted-map-requires : tie.Need-wanted-map-requires
-wanted-map-requires c κs = within-true 1 (c .before .args .q .kind) 10 .0 (c .before .pre .0) .1
+wanted-map-requires c κs = omega (arith, within-true 1 (c .before .args .q .kind) 10 .0 (c .before .pre .0) .1)
 
 put-u16-requires : tie.Need-put-u16-requires
 unfolding offset

@@ -11,27 +11,29 @@ use Rattle.records.proofs.writer.write.Tie as tie
 returns : tie.Need-returns
 returns c =
     let s = c .before .before .before .args in
-    writes-no-kind (s .request) (s .buffer .now) (sym (c .before .is-kind .ensures) ∙ not-true (c .before .is-kind .result) (c .if1 .taken))
+    writes-no-kind (s .request) (s .buffer .now) (sym (c .before .is-single .ensures) ∙ not-true (c .before .is-single .result) (c .if1 .taken))
 
 wanted-length-requires : tie.Need-wanted-length-requires
-wanted-length-requires c κs = within-true 1 (c .before .before .before .args .request .kind) 10 .0 (sym (c .before .is-kind .ensures) ∙ not-false (c .before .is-kind .result) (c .if1 .left)) .1
+wanted-length-requires c κs =
+    let single = sym (c .before .is-single .ensures) ∙ not-false (c .before .is-single .result) (c .if1 .left) in
+    omega (arith, within-true 1 (c .before .before .before .args .request .kind) 10 .0 single .1)
 
 returns-2 : tie.Need-returns-2
 returns-2 c =
     let known = c .before .before in
     let s = known .before .before .before .args in
-    writes-no-room (s .request) (s .buffer .now) (sym (known .before .is-kind .ensures) ∙ not-false (known .before .is-kind .result) (known .if1 .left)) (omega (arith, c .before .wanted-length .ensures))
+    writes-no-room (s .request) (s .buffer .now) (sym (known .before .is-single .ensures) ∙ not-false (known .before .is-single .result) (known .if1 .left)) (omega (arith, c .before .wanted-length .ensures))
 
 put-record-requires : tie.Need-put-record-requires
 put-record-requires c κs =
     let known = c .before .before .before in
-    (sym (known .before .is-kind .ensures) ∙ not-false (known .before .is-kind .result) (known .if1 .left), omega (arith, c .before .before .wanted-length .ensures))
+    (sym (known .before .is-single .ensures) ∙ not-false (known .before .is-single .result) (known .if1 .left), omega (arith, c .before .before .wanted-length .ensures))
 
 returns-3 : tie.Need-returns-3
 returns-3 c =
     let known = c .before .before .before .before .before .before in
     let s = known .before .before .before .args in
-    let w = writes-record (s .request) (s .buffer .now) (sym (known .before .is-kind .ensures) ∙ not-false (known .before .is-kind .result) (known .if1 .left)) (omega (arith, c .before .before .before .before .before .wanted-length .ensures, c .before .before .before .before .if2 .left)) in
+    let w = writes-record (s .request) (s .buffer .now) (sym (known .before .is-single .ensures) ∙ not-false (known .before .is-single .result) (known .if1 .left)) (omega (arith, c .before .before .before .before .before .wanted-length .ensures, c .before .before .before .before .if2 .left)) in
     (w .0, c .before .before .put-record .ensures ∙ w .1)
 
 pub write-spec : {M : Type 1} → statement M

@@ -4,13 +4,16 @@ use mathlib.Core.Path.{_≡_, _∙_, sym, ap}
 use mathlib.Core.Bool.{not}
 use mathlib.Core.List.{[], _∷_}
 use native.Mathlib.Omega.{arith}
+use denote.Ref.{now}
 use borrow.Author.Needs.{needs}
 use Rattle.rules.specs.declared.Counts.{Counts}
 use Rattle.rules.specs.Basics.{find, counting}
 use Rattle.rules.specs.Limits.{mostHours}
 use Rattle.rules.specs.Registration.{brokenBy}
 use Rattle.image.specs.Valid.{bookIn}
+use Rattle.book.specs.Members.{IsHour}
 use Rattle.book.proofs.BookRows.{setup-tabled, counts-in, margins-read, accounts-read, hours-few}
+use Rattle.book.proofs.WaitLaws.{tabled-netted}
 use Rattle.registration.specs.Margins.{broken}
 use Rattle.registration.proofs.SearchLaws.{find-done, find-here, find-next}
 use Rattle.registration.proofs.MarginLaws.{hour-room, breaks, broken-by-span, breaks-tested}
@@ -50,14 +53,16 @@ account-hour-requires : tie.Need-account-hour-requires Inv-loop μ-loop
 account-hour-requires c κs =
     let step = c .before .before .before in
     let pre = step .before .before .before .pre in
-    (pre .0, (pre .1 .account-known, (omega (arith, pre .1 .first-low, step .loop .inv .0), omega (arith, pre .1 .last-high))))
+    ((pre .0 .0, pre .0 .1 .whole), (pre .1 .account-known, (omega (arith, pre .1 .first-low, step .loop .inv .0), omega (arith, pre .1 .last-high))))
 
 after-trade-requires : tie.Need-after-trade-requires Inv-loop μ-loop
 after-trade-requires c κs =
     let step = c .before .before .before .before in
     let l = step .loop in
     let pre = step .before .before .before .pre in
-    hour-room _ (pre .0 .0) _ _ _ _ _ (pre .1 .account-known) (omega (arith, pre .1 .first-low, l .inv .0), omega (arith, pre .1 .last-high)) (pre .0 .1) (pre .1 .quantity-high) (c .account-hour .ensures)
+    let hour : IsHour (bookIn (now (step .before .before .before .args .book))) (l .hour) = (omega (arith, pre .1 .first-low, l .inv .0), omega (arith, pre .1 .last-high)) in
+    hour-room _ (pre .0 .0) _ _ _ _ _ (pre .1 .account-known) hour (pre .0 .1) (pre .1 .quantity-high)
+    (c .account-hour .ensures ∙ tabled-netted _ (pre .0 .0) _ _ _ _ (pre .0 .1) hour)
 
 loop-again : tie.Need-loop-again Inv-loop μ-loop
 loop-again c =
@@ -66,11 +71,13 @@ loop-again c =
     let step = x .before .before .before .before in
     let l = step .loop in
     let start = step .before .before .before in
-    let own = margins-read _ (start .pre .0 .0) _ (start .args .number) (l .hour) (x .before .margins .ensures) in (
+    let own = margins-read _ (start .pre .0 .0) _ (start .args .number) (l .hour) (x .before .margins .ensures) in
+    let hour : IsHour (bookIn (now (start .args .book))) (l .hour) = (omega (arith, start .pre .1 .first-low, l .inv .0), omega (arith, start .pre .1 .last-high)) in
+    let held = x .account-hour .ensures ∙ tabled-netted _ (start .pre .0 .0) _ _ _ _ (start .pre .0 .1) hour in (
       omega arith,
       omega arith,
       l .inv .2,
-      l .inv .3 ∙ find-next _ _ _ _ (omega arith) (breaks-tested _ _ _ _ _ _ _ _ _ own (x .account-hour .ensures) (k .before .after-trade .ensures) (k .keeps-margins .ensures)
+      l .inv .3 ∙ find-next _ _ _ _ (omega arith) (breaks-tested _ _ _ _ _ _ _ _ _ own held (k .before .after-trade .ensures) (k .keeps-margins .ensures)
           ∙ ap not (c .if2 .taken)),
     )
 
@@ -85,7 +92,9 @@ returns-2 c =
     let l = step .loop in
     let start = step .before .before .before in
     let own = margins-read _ (start .pre .0 .0) _ (start .args .number) (l .hour) (x .before .margins .ensures) in
-    let test = breaks-tested _ _ _ _ _ _ _ _ _ own (x .account-hour .ensures) (k .before .after-trade .ensures) (k .keeps-margins .ensures) in
+    let hour : IsHour (bookIn (now (start .args .book))) (l .hour) = (omega (arith, start .pre .1 .first-low, l .inv .0), omega (arith, start .pre .1 .last-high)) in
+    let held = x .account-hour .ensures ∙ tabled-netted _ (start .pre .0 .0) _ _ _ _ (start .pre .0 .1) hour in
+    let test = breaks-tested _ _ _ _ _ _ _ _ _ own held (k .before .after-trade .ensures) (k .keeps-margins .ensures) in
     ap broken (sym (l .inv .3 ∙ find-here _ _ _ (omega arith) (test ∙ ap not (c .if2 .left))))
 
 pub first-broken-spec : {M : Type 1} → statement M

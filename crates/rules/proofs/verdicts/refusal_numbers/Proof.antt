@@ -63,6 +63,12 @@ returns-19 c = rw (c .before .enum-told15 .given .1) (c .numbered19 .ensures)
 returns-20 : tie.Need-returns-20
 returns-20 c = rw (c .before .enum-told16 .given .1) (c .numbered20 .ensures)
 
+returns-21 : tie.Need-returns-21
+returns-21 c = rw (c .before .enum-told17 .given .1) (c .numbered21 .ensures)
+
+returns-22 : tie.Need-returns-22
+returns-22 c = rw (c .before .enum-told18 .given .1) (c .numbered22 .ensures)
+
 pub refusal-numbers-spec : {M : Type 1} → statement M
 refusal-numbers-spec =
     tie.close
@@ -111,6 +117,10 @@ refusal-numbers-spec =
     (λ c κs. search needs)
     (λ c. search needs)
     (λ c κs. search needs)
+    (λ c. search needs)
+    (λ c κs. search needs)
+    (λ c. search needs)
+    (λ c κs. search needs)
     returns
     returns-2
     returns-3
@@ -130,4 +140,6 @@ refusal-numbers-spec =
     returns-17
     returns-18
     returns-19
-    returns-20)
+    returns-20
+    returns-21
+    returns-22)
