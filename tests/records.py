@@ -77,6 +77,9 @@ def reading_cases(s):
     for length in range(len(record)):
         s.record(record[:length])
     s.record(record * 20)
+    # a strip is a call, not a record: 3, with rows and without
+    s.record(b"\1\0\x0B\1" + record)
+    s.record(b"\1\0\x0B\0")
     s.record(b"\xFF\xFF")
     s.record(b"\xFF" * 20)
     s.record(b"\0" * 20)

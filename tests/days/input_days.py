@@ -1,6 +1,6 @@
 """Directed days on what the input alone decides: verdicts 1 to 10, and phases."""
 from records import (CLOSE, KEEP, OPEN, SETTLE, UNDO, confirm, flat, guarantee, le, register, schedule,
-                     setup, withdraw)
+                     setup, strip, withdraw)
 
 AMPLE = 10 ** 12
 LAST = 49152
@@ -13,7 +13,8 @@ def market(hours=24, operators=((AMPLE, 0), (AMPLE, 0)),
 
 def no_book(d):
     # the zero buffer is no book: no set-up has 0 hours and no phase is 0
-    for record in (register(1, 2, 1, 1, 1, 1, 1), withdraw(1, 1), OPEN, b'', b'\xff' * 3):
+    for record in (register(1, 2, 1, 1, 1, 1, 1), withdraw(1, 1), OPEN, b'', b'\xff' * 3, strip(register(1, 2, 1, 1, 1, 1, 1)),
+                   strip()):
         d.c(record, 1)
     d.c(SETTLE, 1, flat(24, 1, 1), 8, 8)
     d.a(1, 1, 1)
@@ -143,7 +144,9 @@ def records_of(d):
             d.c(turned, want)
             d.c(turned[:3], want)
         d.c(le(given, 2) + b'\x00' + record[3:], 3)
-        d.c(le(given, 2) + b'\x0b' + record[3:], 3)
+        d.c(le(given, 2) + b'\x0c' + record[3:], 3)
+        # kind 11 is a strip: the map 0001, then a count byte
+        d.c(le(given, 2) + b'\x0b' + record[3:], 5 if given == 1 else (4, 0, bin(given).count('1') - 1))
         d.c(b'\xff\x1f' + record[2:], (4, 0, 13 - bin(given).count('1')))
         if given != 1:
             d.c(b'\x01\x00' + record[2:], (4, bin(given).count('1') - 1, 0))
@@ -207,7 +210,7 @@ def phases(d):
     d.o(market(24, points=[(1, 1, 1, 50, 0)]))
     early = (schedule(1, 1, 1, 1, 1), SETTLE)
     late = (register(1, 2, 5, 1, 1, 1, 1), confirm(2, 1, 9, 2, 1, 1, 1), withdraw(1, 1), guarantee(1, 0), OPEN, UNDO,
-            KEEP, CLOSE)
+            KEEP, CLOSE, strip(register(1, 2, 5, 1, 1, 1, 1)))
     d.c(register(1, 2, 9, 1, 1, 1, 10), (0, 1))
     d.k()
     for record in early:

@@ -8,6 +8,7 @@ import random_days
 import row_days
 import settle_days
 import setup_days
+import strip_days
 import valuation_days
 from cases import Days
 
@@ -17,7 +18,7 @@ PROGRAM = pathlib.Path(__file__).parents[2] / 'crates' / 'day_test'
 
 def make():
     days = Days()
-    for group in (input_days, row_days, settle_days, setup_days, margin_days, random_days, valuation_days):
+    for group in (input_days, row_days, settle_days, setup_days, margin_days, strip_days, random_days, valuation_days):
         for day in group.DAYS:
             day(days)
     return days
@@ -27,12 +28,12 @@ def main():
     days = make()
     text = days.text().encode()
     seen = collections.Counter(line.split()[1] for line in days.lines if line[0] in 'oc')
-    assert {int(verdict) for verdict in seen} == set(range(21)), sorted(seen)
+    assert {int(verdict) for verdict in seen} == set(range(23)), sorted(seen)
     assert len(days.input) < MOST and len(text) < MOST
     (PROGRAM / 'stdin').write_bytes(days.input)
     (PROGRAM / 'stdout').write_bytes(text)
     print('input', len(days.input), 'output', len(text))
-    print(', '.join('%s: %d' % (verdict, seen[str(verdict)]) for verdict in range(21)))
+    print(', '.join('%s: %d' % (verdict, seen[str(verdict)]) for verdict in range(23)))
 
 
 if __name__ == '__main__':

@@ -1,6 +1,6 @@
 """Random days near limits, checked against the ledger and against the list without undone batches.
 
-In some the margins of an account are the same in every hour, in others they differ by hour.
+In some the margins of an account are the same in every hour, in others they differ by hour. Now and then a call is a strip.
 """
 import random
 
@@ -9,6 +9,7 @@ import records as w
 
 SEEDS = range(301, 331)
 SEEDS_BY_HOUR = range(331, 341)
+STRIPS = 0.012
 
 
 def hour_by_hour(chance, margin, hours):
@@ -51,9 +52,9 @@ def hours_of(chance, hours):
     return first, last
 
 
-def room_of(book, account, side, first, last):
-    """The greatest quantity that the account's margins leave for a sale or a purchase."""
-    net, sales, buys = reading.position(book, book.rows, account)
+def room_of(book, account, side, first, last, rows=None):
+    """The greatest quantity that the account's margins leave for a sale or a purchase, with these rows in place of the book's."""
+    net, sales, buys = reading.position(book, book.rows if rows is None else rows, account)
     has = book.accounts[account - 1]
     hours = range(first - 1, last)
     if side == 1:
@@ -78,6 +79,45 @@ def register(chance, book, differing):
     elif chance.random() < 0.5:
         room //= 2
     return w.register(account, other, chance.randrange(4), side, first, last, near(chance, room))
+
+
+def backed(book, rows, account, first, last):
+    """The greatest sale that the guarantee leaves, or None where the estimates are 0."""
+    operator = book.accounts[account - 1].operator
+    price = sum(book.estimates[first - 1:last])
+    left = book.available(operator) - reading.exposure_of(book, rows, operator)
+    return left // price if price else None
+
+
+def strip(chance, book):
+    """Rows of one account that together come close to what its margins and its guarantee leave; at times one of them is spoilt."""
+    account = chance.randrange(1, len(book.accounts) + 1)
+    others = [other for other in range(1, len(book.accounts) + 1) if other != account]
+    count = chance.choice((1, 2, 2, 3, 3, 4, 6))
+    records, rows = [], list(book.rows)
+    codes = chance.sample(range(16), count) if chance.random() < 0.9 else [chance.randrange(3) for _ in range(count)]
+    for place, code in enumerate(codes, 1):
+        side = chance.choice((1, 2))
+        first, last = hours_of(chance, book.hours)
+        room = room_of(book, account, side, first, last, rows)
+        most = backed(book, rows, account, first, last) if side == 1 else None
+        if most is not None and chance.random() < 0.9:
+            room = min(room, most)
+        quantity = max(1, room // (count + 1)) if place < count else near(chance, room)
+        records.append(w.register(account, chance.choice(others), code, side, first, last, quantity))
+        rows.append(reading.row_of(reading.read_record(records[-1])[1]))
+    if chance.random() < 0.15:
+        place = chance.randrange(count)
+        records[place] = spoilt(chance, records[place])
+    return w.strip(*records)
+
+
+def spoilt(chance, record):
+    """A row with another map, kind, account, counterparty or quantity."""
+    data = bytearray(record)
+    place = chance.choice((0, 1, 2, 3, 3, 4, 16))
+    data[place] = data[3] if place == 4 else 0 if place == 16 else data[place] ^ (1 << chance.randrange(8))
+    return bytes(data)
 
 
 def confirm(chance, book):
@@ -167,8 +207,11 @@ def trade_record(chance, book, differing):
     return chance.choice((w.schedule(1, 1, 1, 1, 1), w.SETTLE, register(chance, book, differing)))
 
 
-def random_day(d, seed, differing=False):
+def random_day(d, seed, differing=False, strips=STRIPS):
+    """A day of the seed; `strips` is the share of strips among the calls before the gate."""
     chance = random.Random(seed)
+    # strips have a chance of their own: whatever their share, the opening and the number of calls are the seed's
+    apart = random.Random(seed + 1000)
     setup = opening(chance, differing)
     d.o(setup)
     ledger = reading.Ledger(setup)
@@ -193,7 +236,7 @@ def random_day(d, seed, differing=False):
             d.e(chance.randrange(1, len(d.book.guarantees) + 1))
 
     for step in range(chance.randrange(150, 420)):
-        do(trade_record(chance, d.book, differing))
+        do(strip(apart, d.book) if apart.random() < strips else trade_record(chance, d.book, differing))
         if step % 60 == 30:
             look(3)
             ledger.check(d.book)
@@ -215,6 +258,8 @@ def random_day(d, seed, differing=False):
     ledger.check_total(d.book, reading.read_prices(prices), money)
     do(w.SETTLE, prices, 512, 512)
     do(trade_record(chance, d.book, differing))
+    if seed % 4 == 0:
+        do(strip(apart, d.book))
     if seed % 10 == 0:
         d.read_all()
     # with every undone batch cut out: the same answers outside it, the same book

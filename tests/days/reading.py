@@ -1,14 +1,11 @@
 """Calls and readings of the energy account book, its replay, and the ledger beside it."""
 import copy
 
+import strips
 from market_rules import (BOOK_BYTES, MOST_PRICE, MOST_SCHEDULES, PENDING, STREAM_BYTES,
-                          WITHDRAWN, Row, Schedule, confirm, exposure_of, fault_bit, number,
+                          WITHDRAWN, Schedule, confirm, exposure_of, fault_bit, number,
                           open_book, operator_balances, position, price_at, read_record, register,
-                          schedule_results, withdraw)
-
-
-def row_of(fields):
-    return Row(*(fields[bit] for bit in range(1, 8)), PENDING)
+                          row_of, schedule_results, withdraw)
 
 
 def read_prices(table):
@@ -16,13 +13,15 @@ def read_prices(table):
 
 
 def call(book, record, table=b'', results=b'', balances=b'', size=BOOK_BYTES):
-    """One call of the ten kinds: (verdict, detail, detail).
+    """One call, of the ten kinds or a strip: (verdict, detail, detail).
 
     `book` is None where the lent bytes are no book; `results` and `balances` are lent
     bytearrays that only settle looks at.
     """
     if book is None or size != BOOK_BYTES:
         return 1, 0, 0
+    if strips.is_strip(record):
+        return strips.register_all(book, record)
     refusal, fields = read_record(record)
     if refusal:
         return refusal
@@ -152,6 +151,10 @@ class Ledger:
 
     def feed(self, record, accepted):
         if not accepted:
+            return
+        if strips.is_strip(record):
+            for row in strips.split(record)[1]:
+                self.feed(row, True)
             return
         fields = read_record(record)[1]
         kind = fields[0]

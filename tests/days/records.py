@@ -50,6 +50,11 @@ def bare(kind):
 OPEN, UNDO, KEEP, CLOSE, SETTLE = (bare(kind) for kind in (5, 6, 7, 8, 10))
 
 
+def strip(*rows, count=None):
+    """A strip of register records; the count is that of the rows where none is given."""
+    return bare(11) + bytes([len(rows) if count is None else count]) + b''.join(rows)
+
+
 def schedule(side, hour, quantity, point, price):
     return le(0x18B1, 2) + bytes([9, side, hour]) + le(quantity, 4) + bytes([point]) + le(price, 4)
 

@@ -2,10 +2,11 @@
 import pathlib
 
 import random_days
+import strip_days
 from cases import Days
 from reading import STREAM_BYTES, replay
 from records import (CLOSE, KEEP, OPEN, SETTLE, UNDO, bare, confirm, flat, guarantee, le, register, schedule, setup,
-                     stream, table, withdraw)
+                     stream, strip, table, withdraw)
 
 AMPLE = 10 ** 12
 STREAMS = []
@@ -119,7 +120,8 @@ def verdicts():
     """Each number that a stream can show, in one day; 1 and 10 cannot be shown."""
     mixed = setup([10] * 24, [(10 ** 6, 0), (5, 0)], [(1, 1, 900, 900), (2, 2, 900, 900), (2, 1, 900, 900)],
                   [(1, 1, 1, 100, 0), (2, 2, 1, 0, 90), (2, 3, 1, 50, 50)])
-    items = [mixed, b'', b'\x01\x00', b'\x00\x00\x05', b'\x01\x80\x05', bare(0), bare(11), b'\xff\x1f\x05', b'\x01\x00\x01',
+    items = [mixed, b'', b'\x01\x00', b'\x00\x00\x05', b'\x01\x80\x05', bare(0), bare(11), bare(12), b'\xff\x1f\x05', b'\x01\x00\x01',
+             strip(), strip(SELL, SELL), strip(register(4, 2, 1, 1, 1, 1, 1)),
              OPEN + b'\x00', SELL[:-1], register(4, 2, 1, 1, 1, 1, 1), register(1, 2, 1, 1, 5, 4, 1), register(1, 1, 1, 1, 1, 1, 1),
              SETTLE + flat(24, 400001, 0), SETTLE + flat(24, 0, 0), schedule(1, 1, 1, 1, 1), KEEP, UNDO, OPEN, OPEN, CLOSE,
              register(1, 2, 1, 1, 1, 3, 500), register(1, 2, 1, 2, 1, 3, 5), withdraw(2, 1), confirm(1, 2, 1, 1, 1, 3, 500),
@@ -130,7 +132,7 @@ def verdicts():
     items += [SETTLE + flat(24, 3, 2), SETTLE + flat(24, 3, 2)]
     data = stream(*items)
     seen = {int(line.split()[1]) for line in replay(data).split('\n') if line and line[0].isdigit()}
-    assert seen >= {0, 2, 3, 4, 5, 6, 7, 11, 12, 13, 14, 16, 17, 18, 19, 20}, seen
+    assert seen >= {0, 2, 3, 4, 5, 6, 7, 11, 12, 13, 14, 16, 17, 18, 19, 20, 21, 22}, seen
     add('every verdict of a day', data)
 
 
@@ -209,6 +211,57 @@ def by_hour():
     add('an account too few', stream(small()[:315] + small()[-11:], UNDO), '0 8 0 0\n')
 
 
+def strips():
+    """Strips as items: the whole case with its sale in two rows, every count, and a fault in every place of 24 rows."""
+    def sells(code, quantity, first=1, last=1):
+        return register(1, 2, code, 1, first, last, quantity)
+
+    two = strip(sells(1, 10000), sells(2, 8000))
+    takes = [confirm(2, 1, 1, 2, 1, 1, 10000), confirm(2, 1, 2, 2, 1, 1, 8000)]
+    add('whole case, sold in a strip', stream(small(), two, *takes, *WHOLE[3:]),
+        lines('0 0 0 0', '1 0 1 0', '2 0 1 0', '3 0 2 0', '4 0 0 0', '5 0 1 0', '6 0 0 0', *WHOLE_TEXT.split('\n')[6:9], 't 82500000'))
+    add('18,001 in a strip is 19', stream(small(), strip(sells(1, 10000), sells(2, 8001)), two, two, strip(sells(3, 1))),
+        lines('0 0 0 0', '1 19 0 0', '2 0 1 0', '3 14 0 0', '4 19 0 0'))
+    ample = small(24, AMPLE, 100)
+    add('20,001 in a strip is 18',
+        stream(ample, strip(sells(1, 20000, 2, 3), sells(2, 1, 3, 3)), strip(sells(1, 20000, 2, 3), sells(2, 1, 4, 4))),
+        lines('0 0 0 0', '1 18 3 0', '2 0 1 0'))
+    # an item whose third byte is 11 is a record as a whole, whatever its map says
+    prices = first_hour(24, 6000, 5500)
+    add('strips are not split',
+        stream(ample, bare(11) + prices, b'\x03\x01\x0b' + prices, b'\x00\x00\x0b' + prices, b'\xff\x00\x0b' + prices,
+               two + prices, bare(11), strip(), two[:-1], bare(12) + two[3:]),
+        lines('0 0 0 0', '1 5 0 0', '2 4 0 2', '3 2 0 0', '4 4 0 7', '5 5 0 0', '6 5 0 0', '7 21 0 0', '8 5 0 0', '9 3 0 0'))
+    add('a strip cut short', stream(ample, two)[:-1], lines('0 0 0 0', 'cut 1'))
+    # every count from 0 to 30, with so many rows; then the greatest
+    items, text, row = [ample], ['0 0 0 0'], 1
+    for count in (*range(31), 64, 255):
+        items.append(strip(*(sells(1000 * count + place, 1) for place in range(count))))
+        taken = 0 < count <= 24 and row + count <= 257
+        text.append('%d %s 0' % (len(items) - 1, '0 %d' % row if taken else '15 0' if 0 < count <= 24 else '21 0'))
+        row += count if taken else 0
+    # those of 1 to 22 have 253 rows together: three are left
+    four = [sells(code, 1) for code in range(4)]
+    add('strips of every count', stream(*items, strip(*four), strip(*four[:3]), strip(*four[3:]), strip(*four[2:])),
+        lines(*text, '34 15 0 0', '35 0 254 0', '36 15 0 0', '37 14 0 0'))
+    day = setup([10] * 24, [(10, 0), (10, 0)], [(1, 1, 900, 900), (2, 2, 900, 900)])
+    add('an undone strip has no weight',
+        stream(day, OPEN, strip(sells(1, 400), sells(2, 600)), strip(sells(1, 400), sells(2, 500), register(1, 2, 3, 2, 1, 1, 900)), SELL,
+               UNDO, strip(sells(1, 400), sells(2, 501)), strip(sells(1, 400), sells(2, 500)), OPEN, withdraw(1, 1),
+               strip(sells(1, 200), sells(3, 201)), strip(sells(1, 200), sells(3, 200)), KEEP, UNDO, confirm(2, 1, 3, 2, 1, 1, 200), CLOSE,
+               strip(sells(1, 1))),
+        lines('0 0 0 0', '1 0 0 0', '2 18 1 0', '3 0 1 0', '4 18 1 0', '5 0 3 0', '6 18 1 0', '7 0 1 0', '8 0 0 0', '9 0 0 0',
+              '10 18 1 0', '11 0 3 0', '12 0 0 0', '13 13 0 0', '14 0 4 0', '15 0 0 0', '16 11 0 0'))
+    # 3, 6, 14, 22 and 18 in each place of 24
+    items, text = [strip_days.TIGHT, strip_days.row(7)], ['0 0 0 0', '1 0 1 0']
+    for which in (1, 3, 5, 6, 7):
+        for place in range(1, 25):
+            record, want = strip_days.faulty_strip(24, place, which)
+            text.append('%d %d %d %d' % (len(items), *want))
+            items.append(record)
+    add('a fault in every place of a strip', stream(*items), lines(*text))
+
+
 def full_day():
     """256 rows, then 256 schedules, settled."""
     market = setup([0] * 25, [(0, 0), (0, 0), (0, 1000)], [(1, 1, 5000, 0), (2, 2, 0, 5000), (3, 2, 0, 5000)],
@@ -258,10 +311,13 @@ def random_streams():
     for seed in range(413, 419):
         opening, calls = random_days.random_day(Days(), seed, True)
         add('random day %d, margins by hour' % seed, stream(opening, *(call[0] + call[1] for call in calls)))
+    for seed in range(419, 425):
+        opening, calls = random_days.random_day(Days(), seed, seed % 2 == 0, 0.15)
+        add('random day %d, many strips' % seed, stream(opening, *(call[0] + call[1] for call in calls)))
     assert all(len(data) <= STREAM_BYTES for name, data, _ in STREAMS if name.startswith('random'))
 
 
-for part in (edges, forms, verdicts, undone, by_hour, full_day, long_day, random_streams):
+for part in (edges, forms, verdicts, undone, by_hour, strips, full_day, long_day, random_streams):
     part()
 
 
