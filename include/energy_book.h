@@ -33,8 +33,12 @@ extern "C" {
 #define ENERGY_BOOK_FIGURE_SIZE 8
 /* The fields of a request: exactly this to be written as a record, at least this to be read into. */
 #define ENERGY_BOOK_FIELDS_SIZE 34
-/* The longest record. */
+/* The longest single record: of any kind but a strip. */
 #define ENERGY_BOOK_RECORD_MOST 20
+/* The longest strip, and so the longest record that a call takes. */
+#define ENERGY_BOOK_STRIP_MOST 484
+/* The most rows of a strip. */
+#define ENERGY_BOOK_STRIP_ROWS_MOST 24
 /* The longest set-up. */
 #define ENERGY_BOOK_SETUP_MOST 7433
 /* The longest price table: 4 bytes for each hour, of PUN and then of each zone. */
@@ -46,6 +50,10 @@ extern "C" {
 
 /* ---- kinds of requests */
 
+/* A strip is a call of several registers with one proposer, all or none. Its record is 01 00 (the map), 11, the count of its rows, 1 to
+ * 24, and then the record of each register, 20 bytes each: row i, from 0 on, is at 4 + 20 * i, where energy_book_write can put it. All
+ * rows get consecutive numbers, of which the first is given, or none is registered. Only energy_book_call takes a strip:
+ * energy_book_read and energy_book_write are for single records, and refuse kind 11 by 3. */
 enum energy_book_kind {
     ENERGY_BOOK_REGISTER = 1,
     ENERGY_BOOK_CONFIRM = 2,
@@ -56,19 +64,23 @@ enum energy_book_kind {
     ENERGY_BOOK_KEEP = 7,
     ENERGY_BOOK_CLOSE_GATE = 8,
     ENERGY_BOOK_SCHEDULE = 9,
-    ENERGY_BOOK_SETTLE = 10
+    ENERGY_BOOK_SETTLE = 10,
+    ENERGY_BOOK_STRIP = 11
 };
 
 /* ---- verdicts, and the details that go with them */
 
+/* Of several that apply the lowest is given, but that 21 comes after 5 and before 6, and 22 after 14 and before 15. A strip meets its
+ * own 2, 4, 5 and 21 first; then each number is looked for in all its rows before the next, and the first such row gives the details. */
 enum energy_book_verdict_number {
-    ENERGY_BOOK_ACCEPTED = 0,         /* first: the row of register and confirm, the place of schedule, the rows that undo struck */
+    ENERGY_BOOK_ACCEPTED = 0,         /* first: the row of register and confirm, the first row of a strip, the place of schedule, the
+                                         rows that undo struck */
     ENERGY_BOOK_NOT_A_BOOK = 1,       /* not a book, or not 49,152 bytes */
     ENERGY_BOOK_UNREADABLE = 2,       /* record under 3 bytes, no kind, or a bit past the fields */
-    ENERGY_BOOK_UNKNOWN_KIND = 3,     /* kind not 1 to 10 */
+    ENERGY_BOOK_UNKNOWN_KIND = 3,     /* kind not 1 to 11; of a single record read or written not 1 to 10, of a row of a strip not 1 */
     ENERGY_BOOK_WRONG_MAP = 4,        /* first: wanted fields that are missing; second: fields that stand unwanted */
     ENERGY_BOOK_WRONG_LENGTH = 5,     /* of the record, the price table or the fields */
-    ENERGY_BOOK_OUT_OF_RANGE = 6,     /* first: the lowest bit at fault; 12 for the price table */
+    ENERGY_BOOK_OUT_OF_RANGE = 6,     /* first: the lowest bit at fault; 12 for the price table; 1 for another proposer in a strip */
     ENERGY_BOOK_SAME_ACCOUNT = 7,     /* both accounts the same */
     ENERGY_BOOK_SETUP_SHAPE = 8,      /* the length or a count of the set-up is not one that it may have */
     ENERGY_BOOK_SETUP_VALUE = 9,      /* first: the lowest offset at fault in the set-up */
@@ -77,12 +89,14 @@ enum energy_book_verdict_number {
     ENERGY_BOOK_BATCH_OPEN = 12,
     ENERGY_BOOK_NO_BATCH = 13,
     ENERGY_BOOK_ALREADY_PENDING = 14, /* a row alike in proposer, counterparty and code is still pending */
-    ENERGY_BOOK_ROWS_FULL = 15,       /* 256 rows have numbers */
+    ENERGY_BOOK_ROWS_FULL = 15,       /* 256 rows have numbers; fewer are left than a strip has */
     ENERGY_BOOK_NO_SUCH_ROW = 16,     /* the row that is named is not there, not pending, or not the caller's to end */
     ENERGY_BOOK_NOT_MIRRORED = 17,    /* the terms of a confirm do not mirror */
     ENERGY_BOOK_MARGIN_BROKEN = 18,   /* first: the lowest hour */
     ENERGY_BOOK_UNCOVERED = 19,       /* exposure would be above what is available */
-    ENERGY_BOOK_SCHEDULES_FULL = 20   /* 256 schedules stand */
+    ENERGY_BOOK_SCHEDULES_FULL = 20,  /* 256 schedules stand */
+    ENERGY_BOOK_STRIP_COUNT = 21,     /* a strip has not 1 to 24 rows */
+    ENERGY_BOOK_STRIP_TWINS = 22      /* two rows of a strip are alike in counterparty and code */
 };
 
 /* The number of the verdict. */
@@ -114,7 +128,7 @@ uint64_t energy_book_net(const uint8_t *book, size_t book_len, uint8_t account, 
 uint64_t energy_book_exposure(const uint8_t *book, size_t book_len, uint8_t operator_number, uint8_t *figure,
                               size_t figure_len);
 
-/* What a record says: the fields of its request in the first 34 bytes of `fields`; refuses by 2, 3, 4, 5 or 10. */
+/* What a single record says: the fields of its request in the first 34 bytes of `fields`; refuses by 2, 3, 4, 5 or 10. */
 uint64_t energy_book_read(const uint8_t *record, size_t record_len, uint8_t *fields, size_t fields_len);
 
 /* Writes the record of the request that 34 bytes of fields say into the first bytes of `record`; refuses by 3, 5 or 10. */
@@ -195,13 +209,13 @@ static inline void energy_book_get_fields(const uint8_t fields[ENERGY_BOOK_FIELD
     q->price = (uint32_t)energy_book_get(fields + 30, 4);
 }
 
-/* The length of a record of this kind; 0 for a number that is no kind. */
+/* The length of a single record of this kind; 0 for a strip, whose length goes by its rows, and for a number that is no kind. */
 static inline size_t energy_book_record_length(unsigned kind) {
     static const uint8_t lengths[11] = {0, 20, 20, 6, 12, 3, 3, 3, 3, 14, 3};
     return kind <= 10 ? lengths[kind] : 0;
 }
 
-/* A request of any kind but settle, on a book: written as a record and called. A settle needs energy_book_call. */
+/* A request of any kind but settle and strip, on a book: written as a record and called. These two need energy_book_call. */
 static inline uint64_t energy_book_submit(const struct energy_book_request *q, uint8_t *book, size_t book_len) {
     uint8_t fields[ENERGY_BOOK_FIELDS_SIZE], record[ENERGY_BOOK_RECORD_MOST], none[3] = {0, 0, 0};
     uint64_t outcome;

@@ -3,7 +3,7 @@
 use crate::line::{Line, Work};
 use crate::replay::Replay;
 use crate::state::State;
-use differential::made::{self, call, guarantee, mirror, prices, schedule, simple, trade, withdrawal};
+use differential::made::{self, call, guarantee, mirror, prices, schedule, simple, strip, trade, withdrawal};
 use reference::days::Step;
 use reference::{kind, Request, Setup};
 
@@ -44,6 +44,7 @@ pub fn lines() -> Vec<Line> {
         lines.push(Line::new("is_book", book, state, Work::IsBook));
     }
     registers(&mut lines, &fresh, &half, &full);
+    strips(&mut lines);
     confirms(&mut lines, &half, &full);
     gate_and_batches(&mut lines, &fresh, &half, &full);
     schedules(&mut lines);
@@ -80,6 +81,28 @@ fn registers(lines: &mut Vec<Line>, fresh: &State, half: &State, full: &State) {
     let mut cut = call(&sale);
     cut.record.truncate(2);
     lines.push(Line::new("record refused 2", "full", full, Work::Call(cut, 2)));
+}
+
+/// Sales of one account in 24 hours from the second on, and the same with a row or two changed; then one row, in a strip and alone.
+fn strips(lines: &mut Vec<Line>) {
+    let sale = |number: u8| trade(3, 4, 1, (number + 2, number + 2), 100_000, 1_000 + u64::from(number));
+    let rows_24: Vec<Request> = (0..24).map(sale).collect();
+    let (mut over, mut twins) = (rows_24.clone(), rows_24.clone());
+    // The last two rows break the margin of hour 25 together.
+    over[22].last = 25;
+    over[23].quantity = 10_000_000;
+    twins[23].code = twins[0].code;
+    let (stand, most) = (after(&rows(232), &[]), after(&rows(255), &[]));
+    for (what, rows, verdict) in [
+        ("strip, 24 rows", &rows_24, 0),
+        ("strip, 24 rows, refused 18 (hour 25)", &over, 18),
+        ("strip, 24 rows, refused 22", &twins, 22),
+    ] {
+        lines.push(Line::new(what, "232 rows", &stand, Work::Call(strip(rows), verdict)));
+    }
+    let one = trade(3, 4, 1, (1, 25), 1_000_000, 999);
+    lines.push(Line::new("strip, one row", "255 rows", &most, Work::Call(strip(&[one]), 0)));
+    lines.push(line("register, that row", "255 rows", &most, &one, 0));
 }
 
 fn confirms(lines: &mut Vec<Line>, half: &State, full: &State) {

@@ -10,10 +10,10 @@ use reference::*;
 pub(crate) fn records() -> Day {
     let sale = trade(1, 2, 1, (1, 2), 10, 7);
     let requests = [sale, mirror(&sale), withdrawal(1, 1), guarantee(1, 7), simple(kind::UNDO), schedule(1, 1, 1, 5, 5)];
+    let strip = strip(&[trade(3, 4, 2, (1, 2), 10, 7), trade(3, 5, 2, (2, 3), 10, 8)]);
     let mut calls = Vec::new();
     for phase in 0..2 {
-        for request in &requests {
-            let whole = call(request);
+        for whole in requests.iter().map(call).chain([strip.clone()]) {
             for at in 0..whole.record.len() {
                 calls.extend(beside(&whole.record, at).into_iter().map(|record| Step { record, ..whole.clone() }));
                 calls.push(Step { record: whole.record[..at].to_vec(), ..whole.clone() });

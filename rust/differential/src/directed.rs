@@ -1,10 +1,11 @@
-//! Days made by hand: the paper's case and its edges, margins by hour, a full book, batches, greatest numbers, hourly amounts, and
-//! every byte of a set-up and of a record put to values beside its own.
+//! Days made by hand: the paper's case and its edges, margins by hour, a full book, batches, greatest numbers, hourly amounts, strips,
+//! and every byte of a set-up and of a record put to values beside its own.
 
 use crate::amounts;
 use crate::damaged::{margins_beyond, records, setups};
 use crate::made::*;
 use crate::margins;
+use crate::shaped;
 use crate::Day;
 use reference::days::Step;
 use reference::*;
@@ -26,6 +27,7 @@ pub fn days() -> Vec<(String, Day)> {
         (String::from("records"), records()),
     ];
     days.extend(amounts::days());
+    days.extend(shaped::days());
     let setups = (0..).zip(setups().into_iter().chain(margins_beyond()));
     days.extend(setups.map(|(number, setup)| {
         let calls = Vec::new();

@@ -2,12 +2,14 @@
 //!
 //! A day is played on both ([`play`]): after every call the verdict, its details and both lent buffers are equal, and so are the
 //! readings; with another margin in its set-up, the one is a book exactly if the other is. The balances that the proved book writes
-//! are also the totals of the reference's hourly amounts. A day on which they differ is cut down to the calls that it takes
+//! are also the totals of the reference's hourly amounts. A strip of one row answers as its register, and an accepted one of any length
+//! leaves what its registers in turn leave, in both. A day on which they differ is cut down to the calls that it takes
 //! ([`shrink`]) and stored ([`Day`]).
 
 #![forbid(unsafe_code)]
 
 mod amounts;
+mod counts;
 mod damaged;
 mod day;
 pub mod directed;
@@ -16,8 +18,11 @@ mod margins;
 mod ours;
 mod play;
 pub mod replay;
+mod shaped;
 mod shrink;
+mod strips;
 
+pub use counts::Counts;
 pub use day::Day;
-pub use play::{play, Counts};
+pub use play::play;
 pub use shrink::shrink;

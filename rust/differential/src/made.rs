@@ -104,6 +104,16 @@ pub fn call(request: &Request) -> Step {
     lent(request, Vec::new(), 0, 0)
 }
 
+/// The call of a strip of these rows, lent nothing.
+pub fn strip(rows: &[Request]) -> Step {
+    of_record(strip_record(rows))
+}
+
+/// The call of any record, lent nothing.
+pub fn of_record(record: Vec<u8>) -> Step {
+    Step { record, prices: Vec::new(), results: 0, balances: 0 }
+}
+
 /// A settle, lent buffers of the greatest length.
 pub fn settle(prices: Vec<u8>) -> Step {
     lent(&simple(kind::SETTLE), prices, 256, 128)

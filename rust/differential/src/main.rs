@@ -114,6 +114,11 @@ fn report(counts: &Counts) {
     println!("account hours valued: with a purchase {purchases}, with a sale {sales}, with a CCT {ccts}");
     let [injections, withdrawals, mixed] = counts.registered;
     println!("schedules registered: injections {injections}, withdrawals {withdrawals}, withdrawals on mixed points {mixed}");
+    let [accepted, refused] = counts.strips;
+    println!("strips: accepted {accepted} with rows {}, refused {refused}", counts.strip_rows);
+    let [accepted, refused] = counts.of_one;
+    println!("strips of one row beside their registers: accepted {accepted}, refused {refused}");
+    println!("accepted strips beside their registers in turn: {}", counts.in_turn);
     println!("no difference");
 }
 

@@ -35,6 +35,7 @@ impl Answer {
 const NO_BOOK: energy_book::Verdict = energy_book::Verdict::Refused(Refusal::NotABook);
 
 /// A book as bytes for the public calls, and again for the inner ones, which the owner of a book goes by.
+#[derive(Clone)]
 pub struct Ours {
     public: Vec<u8>,
     owned: Book,

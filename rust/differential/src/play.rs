@@ -2,66 +2,13 @@
 
 use crate::made::{margin, margin_at, Margin};
 use crate::ours::{self, Answer, Ours};
-use crate::Day;
+use crate::{strips, Counts, Day};
 use reference::days::Step;
 use reference::{kind, valuation, Book, Direction, PointKind, Request, Verdict, GREATEST_QUANTITY};
-use std::ops::AddAssign;
 use std::panic::{catch_unwind, AssertUnwindSafe};
 
 /// The bytes of a book that can be other than zero.
 const USED: usize = 26_888;
-
-/// How much was compared.
-#[derive(Clone, Debug, Default)]
-pub struct Counts {
-    pub days: u64,
-    pub calls: u64,
-    /// By verdict, of openings and of calls.
-    pub openings: [u64; 21],
-    pub verdicts: [u64; 21],
-    /// Readings of net and exposure.
-    pub readings: u64,
-    /// Batches that were undone, and calls of the lists without them.
-    pub undone: u64,
-    pub without: u64,
-    /// Calls on bytes that are no book, and on those that still are one.
-    pub damaged: u64,
-    pub undamaged: u64,
-    /// The same of books with another margin, which are held against the reference's.
-    pub margins_broken: u64,
-    pub margins_kept: u64,
-    /// Accepted settles, and the balances that ours wrote there, each held against the total of the reference's hourly amounts.
-    pub settled: u64,
-    pub balances: u64,
-    /// The account hours of these totals with a purchase, with a sale, and with a CCT.
-    pub hours: [u64; 3],
-    /// The registered schedules in them: injections, withdrawals, and withdrawals on mixed points.
-    pub registered: [u64; 3],
-}
-
-impl AddAssign<&Counts> for Counts {
-    fn add_assign(&mut self, more: &Counts) {
-        self.days += more.days;
-        self.calls += more.calls;
-        for number in 0..self.verdicts.len() {
-            self.openings[number] += more.openings[number];
-            self.verdicts[number] += more.verdicts[number];
-        }
-        self.readings += more.readings;
-        self.undone += more.undone;
-        self.without += more.without;
-        self.damaged += more.damaged;
-        self.undamaged += more.undamaged;
-        self.margins_broken += more.margins_broken;
-        self.margins_kept += more.margins_kept;
-        self.settled += more.settled;
-        self.balances += more.balances;
-        for sort in 0..3 {
-            self.hours[sort] += more.hours[sort];
-            self.registered[sort] += more.registered[sort];
-        }
-    }
-}
 
 /// Plays a day on both; says in what they differ.
 pub fn play(day: &Day) -> Result<Counts, String> {
@@ -94,9 +41,11 @@ fn both(day: &Day) -> Result<Counts, String> {
             compare_margin(&theirs, &ours, call, chosen, &mut counts).map_err(at)?;
         }
         let was_open = theirs.batch_is_open();
+        let beside = strips::Beside::before(&theirs, &ours, call, number);
         let answer = compare_call(&mut theirs, &mut ours, call).map_err(at)?;
         counts.calls += 1;
         counts.verdicts[usize::from(answer.verdict.number)] += 1;
+        beside.compare(&theirs, &ours, &answer, &mut counts).map_err(at)?;
         if answer.verdict.is_accepted() && call.record.get(2) == Some(&kind::SETTLE) {
             compare_amounts(&theirs, call, &answer, &mut counts).map_err(at)?;
         }
@@ -127,7 +76,7 @@ fn check_theirs(theirs: &Book) -> Result<(), String> {
 }
 
 /// Makes a call on both.
-fn compare_call(theirs: &mut Book, ours: &mut Ours, call: &Step) -> Result<Answer, String> {
+pub(crate) fn compare_call(theirs: &mut Book, ours: &mut Ours, call: &Step) -> Result<Answer, String> {
     let mut expected = Answer::lent(call);
     expected.verdict = theirs.call(&call.record, &call.prices, &mut expected.results, &mut expected.balances);
     let answer = ours.call(call)?;

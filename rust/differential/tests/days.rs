@@ -48,6 +48,34 @@ fn days_of_some_seeds_show_no_difference() {
     }
     assert!(counts.settled > 200 && counts.balances > 400);
     assert!(counts.hours.iter().chain(&counts.registered).all(|&count| count > 100));
+    assert!(counts.strips.iter().all(|&count| count > 300) && counts.strip_rows > 1_500);
+    assert!(counts.of_one.iter().all(|&count| count > 300) && counts.in_turn == counts.strips[0]);
+    assert!(counts.verdicts[21] > 5 && counts.verdicts[22] > 5);
+}
+
+#[test]
+fn directed_days_of_strips_answer_what_they_are_made_for() {
+    // Strips accepted, and how often a call answers 15, 18, 19, 21 and 22.
+    let expected = [
+        ("strips", 25, [0, 0, 0, 0, 0]),
+        ("strips-batches", 13, [0, 0, 0, 0, 0]),
+        ("strips-margins", 37, [0, 120, 1, 0, 0]),
+        ("strips-shapes", 28, [0, 0, 0, 235, 0]),
+        ("strips-rows", 0, [0, 0, 0, 0, 0]),
+        ("strips-rank", 2, [4, 7, 5, 0, 14]),
+        ("strips-231", 5, [0, 0, 0, 3, 7]),
+        ("strips-232", 6, [2, 0, 0, 2, 7]),
+        ("strips-233", 4, [5, 0, 0, 1, 7]),
+        ("strips-255", 2, [7, 0, 0, 1, 7]),
+        ("strips-256", 0, [13, 0, 0, 2, 7]),
+    ];
+    let days = directed::days();
+    for (name, strips, numbers) in expected {
+        let (_, day) = days.iter().find(|(of, _)| of == name).unwrap();
+        let counts = play(day).unwrap();
+        let found = [15, 18, 19, 21, 22].map(|number: usize| counts.verdicts[number]);
+        assert_eq!((counts.strips[0], found), (strips, numbers), "{name}");
+    }
 }
 
 #[test]

@@ -2,7 +2,7 @@
 
 use std::fmt;
 
-use crate::{inner, raw, Refusal, Request, Verdict, BALANCES_MOST, BOOK_SIZE, FIGURE_SIZE, RESULTS_MOST};
+use crate::{inner, raw, Refusal, Request, Strip, Verdict, BALANCES_MOST, BOOK_SIZE, FIGURE_SIZE, RESULTS_MOST};
 
 /// Where the bytes of a book say how many operators it has and how many schedules stand (docs/LAYOUT.md).
 const OPERATORS_AT: usize = 1;
@@ -59,7 +59,8 @@ impl Book {
         &self.bytes
     }
 
-    /// A request of any kind but settle: lent no price table and no buffers, so that a settle is refused.
+    /// A request of any kind but settle and strip: lent no price table and no buffers, so that a settle is refused. A strip has
+    /// [`Book::submit_strip`].
     pub fn submit(&mut self, request: &Request) -> Verdict {
         match request.to_record() {
             Ok(record) => self.call(&record, &[], &mut [], &mut []),
@@ -67,7 +68,36 @@ impl Book {
         }
     }
 
-    /// The request that a record says. Only settle looks at the price table and fills the two buffers.
+    /// A strip: all its rows are registered, with consecutive numbers of which the first is given, or none is.
+    ///
+    /// ```
+    /// use energy_book::{Account, Book, Operator, Refusal, Request, Setup, Side, Strip, Terms, Verdict};
+    ///
+    /// let setup = Setup {
+    ///     estimates: vec![5_000; 24],
+    ///     operators: vec![Operator { guarantee: 1_000_000, maintenance: 0 }],
+    ///     accounts: vec![Account::same_all_day(1, 1, 20_000, 0, 24), Account::same_all_day(1, 2, 0, 20_000, 24)],
+    ///     points: vec![],
+    ///     zones: 1,
+    /// };
+    /// let mut book = Book::open(&setup.to_bytes())?;
+    /// let sale = |code, hour, quantity| Request::register(1, 2, Terms { code, side: Side::Sells, first: hour, last: hour, quantity });
+    ///
+    /// let strip = Strip::new().with(sale(1, 8, 12_000)).with(sale(2, 9, 15_000));
+    /// assert_eq!(book.submit_strip(&strip), Verdict::Accepted { number: 1 });
+    ///
+    /// // 5,000 kWh are left in hour 9. Half a strip is not taken.
+    /// let more = Strip::new().with(sale(3, 10, 1)).with(sale(4, 9, 5_001));
+    /// assert_eq!(book.submit_strip(&more), Verdict::Refused(Refusal::MarginBroken { hour: 9 }));
+    /// assert_eq!(book.submit(&sale(3, 10, 1)), Verdict::Accepted { number: 3 });
+    /// # Ok::<(), Refusal>(())
+    /// ```
+    pub fn submit_strip(&mut self, strip: &Strip) -> Verdict {
+        self.call(&strip.to_record(), &[], &mut [], &mut [])
+    }
+
+    /// The request that a record says; the longest that is taken is a strip of [`crate::STRIP_MOST`] bytes. Only settle looks at the
+    /// price table and fills the two buffers.
     pub fn call(&mut self, record: &[u8], prices: &[u8], results: &mut [u8], balances: &mut [u8]) -> Verdict {
         // SAFETY: the bytes are a book.
         unsafe { inner::call(record, &mut self.bytes, prices, results, balances) }

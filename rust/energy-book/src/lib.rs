@@ -1,8 +1,8 @@
 //! The energy account book: one flow day of forward energy accounts in 49,152 bytes.
 //!
-//! Trades are registered by one party and confirmed by the other, guarantees cover exposure, batches may be kept or undone, and after
-//! the gate schedules are taken and the day is settled. The work is done by a library whose every function is proved; this crate hands
-//! it slices, and turns its answers into types.
+//! Trades are registered by one party, alone or in strips, and confirmed by the other, guarantees cover exposure, batches may be kept or
+//! undone, and after the gate schedules are taken and the day is settled. The work is done by a library whose every function is proved;
+//! this crate hands it slices, and turns its answers into types.
 //!
 //! ```
 //! use energy_book::{Account, Book, Operator, Point, Refusal, Request, Setup, Side, Terms, Verdict};
@@ -40,11 +40,13 @@ mod inner;
 pub mod raw;
 mod request;
 mod setup;
+mod strip;
 mod verdict;
 
 pub use book::{price_table, Book, Settlement};
 pub use request::{Request, Side, Terms};
 pub use setup::{Account, Operator, Point, Setup};
+pub use strip::Strip;
 pub use verdict::{Refusal, Verdict};
 
 /// The bytes of a book.
@@ -53,8 +55,12 @@ pub const BOOK_SIZE: usize = 49_152;
 pub const FIGURE_SIZE: usize = 8;
 /// The bytes of a request's fields.
 pub const FIELDS_SIZE: usize = 34;
-/// The bytes of the longest record.
+/// The bytes of the longest single record: of any kind but a strip.
 pub const RECORD_MOST: usize = 20;
+/// The bytes of the longest strip, and so of the longest record that a call takes.
+pub const STRIP_MOST: usize = 484;
+/// The most rows of a strip.
+pub const STRIP_ROWS_MOST: usize = 24;
 /// Room for the results of any settle.
 pub const RESULTS_MOST: usize = 256;
 /// Room for the balances of any settle.

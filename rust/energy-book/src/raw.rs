@@ -48,8 +48,8 @@ pub fn is_book(book: &[u8]) -> bool {
     unsafe { library::energy_book_is_book(book.as_ptr(), book.len()) }
 }
 
-/// A call of any kind. Only settle looks at the price table and fills the first bytes of `results` (a byte for each schedule, by
-/// place) and `balances` (a figure of 8 bytes for each operator).
+/// A call of any kind, strips too. Only settle looks at the price table and fills the first bytes of `results` (a byte for each
+/// schedule, by place) and `balances` (a figure of 8 bytes for each operator).
 pub fn call(record: &[u8], book: &mut [u8], prices: &[u8], results: &mut [u8], balances: &mut [u8]) -> Verdict {
     // SAFETY: the pointers and lengths are those of slices that live through the call.
     Verdict::unpacked(unsafe {
@@ -84,7 +84,7 @@ pub fn exposure(book: &[u8], operator: u8, figure: &mut [u8]) -> Verdict {
     })
 }
 
-/// What a record says: the fields of its request in the first 34 bytes; refuses by 2, 3, 4, 5 or 10.
+/// What a single record says: the fields of its request in the first 34 bytes; refuses by 2, 3 (a strip too), 4, 5 or 10.
 pub fn read(record: &[u8], fields: &mut [u8]) -> Verdict {
     // SAFETY: the pointers and lengths are those of slices that live through the call.
     Verdict::unpacked(unsafe { library::energy_book_read(record.as_ptr(), record.len(), fields.as_mut_ptr(), fields.len()) })

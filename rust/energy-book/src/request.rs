@@ -2,7 +2,7 @@
 
 use crate::{raw, Refusal, FIELDS_SIZE, RECORD_MOST};
 
-/// The lengths of records by kind. No kind is 0.
+/// The lengths of single records by kind. No kind is 0.
 const LENGTHS: [usize; 11] = [0, 20, 20, 6, 12, 3, 3, 3, 3, 14, 3];
 
 /// The side of a trade or a schedule.
@@ -140,7 +140,7 @@ impl Request {
         Ok(record[..LENGTHS[usize::from(self.kind)]].to_vec())
     }
 
-    /// The request that a record says; refused by 2, 3, 4 or 5.
+    /// The request that a single record says; refused by 2, 3, 4 or 5, a strip by 3.
     ///
     /// ```
     /// use energy_book::{Refusal, Request};

@@ -7,20 +7,22 @@ use std::fmt;
 #[derive(Clone, Copy, Debug, PartialEq, Eq, Hash)]
 #[must_use]
 pub enum Verdict {
-    /// The number is the row of register and confirm, the place of schedule, the rows that undo struck; else 0.
+    /// The number is the row of register and confirm, the first row of a strip, the place of schedule, the rows that undo struck; else
+    /// 0.
     Accepted { number: u16 },
     /// No lent byte was changed.
     Refused(Refusal),
 }
 
-/// Why a call was refused, in the order of the numbers 1 to 20: the lowest that applies is given.
+/// Why a call was refused, in the order of the numbers 1 to 22. Of several that apply the lowest is given, but that
+/// [`Refusal::StripCount`] comes after 5 and before 6, and [`Refusal::StripTwins`] after 14 and before 15.
 #[derive(Clone, Copy, Debug, PartialEq, Eq, Hash)]
 pub enum Refusal {
     /// Not a book, or not 49,152 bytes.
     NotABook,
     /// A record under 3 bytes, with no kind, or with a bit past the fields.
     Unreadable,
-    /// The kind is not 1 to 10.
+    /// The kind is not 1 to 11; of a single record that is read or written not 1 to 10, of a row of a strip not 1.
     UnknownKind,
     /// How many wanted fields are missing, and how many stand unwanted.
     WrongMap { missing: u16, unwanted: u16 },
@@ -44,7 +46,7 @@ pub enum Refusal {
     NoBatch,
     /// A pending row has this proposer, counterparty and code.
     AlreadyPending,
-    /// 256 rows have numbers.
+    /// 256 rows have numbers; for a strip, fewer are left than it has.
     RowsFull,
     /// There is no such pending row.
     NoSuchRow,
@@ -56,6 +58,10 @@ pub enum Refusal {
     Uncovered,
     /// 256 schedules stand.
     SchedulesFull,
+    /// A strip has not 1 to 24 rows.
+    StripCount,
+    /// Two rows of a strip are alike in counterparty and code.
+    StripTwins,
 }
 
 impl Refusal {
@@ -82,6 +88,8 @@ impl Refusal {
             Refusal::MarginBroken { hour } => (18, hour, 0),
             Refusal::Uncovered => (19, 0, 0),
             Refusal::SchedulesFull => (20, 0, 0),
+            Refusal::StripCount => (21, 0, 0),
+            Refusal::StripTwins => (22, 0, 0),
         }
     }
 
@@ -107,6 +115,8 @@ impl Refusal {
             18 => Refusal::MarginBroken { hour: first },
             19 => Refusal::Uncovered,
             20 => Refusal::SchedulesFull,
+            21 => Refusal::StripCount,
+            22 => Refusal::StripTwins,
             _ => panic!("verdict {number} is unknown: the library is of another version"),
         }
     }
@@ -133,6 +143,8 @@ impl Refusal {
             Refusal::MarginBroken { .. } => "margin would be broken",
             Refusal::Uncovered => "guarantee does not cover the exposure",
             Refusal::SchedulesFull => "no schedule is left",
+            Refusal::StripCount => "strip has not 1 to 24 rows",
+            Refusal::StripTwins => "two rows of the strip are alike",
         }
     }
 }

@@ -3,7 +3,7 @@
 mod common;
 
 use common::{sale, setup, Numbers};
-use energy_book::{raw, Book, Refusal, Request, Side, Terms, Verdict, BOOK_SIZE, FIELDS_SIZE, FIGURE_SIZE, RECORD_MOST};
+use energy_book::{raw, Book, Refusal, Request, Side, Strip, Terms, Verdict, BOOK_SIZE, FIELDS_SIZE, FIGURE_SIZE, RECORD_MOST};
 
 const MARK: u8 = 0xA5;
 
@@ -136,9 +136,24 @@ fn small_request(numbers: &mut Numbers) -> Request {
     }
 }
 
-/// The record of a request, or one that is damaged: cut, longer, or with another byte.
+/// A strip of a few such requests, most of them registers, of one proposer.
+fn small_strip(numbers: &mut Numbers) -> Strip {
+    let rows = 1 + numbers.below(3);
+    let row = |code: u64| {
+        let kind = if numbers.below(16) == 0 { small_request(numbers).kind } else { 1 };
+        let side = if numbers.below(2) == 0 { Side::Sells } else { Side::Buys };
+        let terms = Terms { code: code + 3 * numbers.below(4), side, first: 1, last: 2, quantity: 1 };
+        Request { kind, ..Request::register(1, 2, terms) }
+    };
+    (0..rows).map(row).collect()
+}
+
+/// The record of a request or a strip, or one that is damaged: cut, longer, or with another byte.
 fn some_record(numbers: &mut Numbers) -> Vec<u8> {
-    let mut record = small_request(numbers).to_record().unwrap();
+    let mut record = match numbers.below(12) {
+        0 => small_strip(numbers).to_record(),
+        _ => small_request(numbers).to_record().unwrap(),
+    };
     let at = numbers.below(record.len() as u64) as usize;
     match numbers.below(16) {
         0 => record.truncate(at),
@@ -153,7 +168,7 @@ fn some_record(numbers: &mut Numbers) -> Vec<u8> {
 fn any_record_leaves_a_book_and_a_refusal_leaves_all() {
     let mut numbers = Numbers(88_172_645_463_325_252);
     let mut book = traded().as_bytes().to_vec();
-    let mut accepted = [0; 11];
+    let mut accepted = [0; 12];
     for _ in 0..20_000 {
         let record = some_record(&mut numbers);
         let before = book.clone();

@@ -4,7 +4,7 @@ use std::collections::BTreeMap;
 use std::fs;
 use std::path::Path;
 
-use energy_book::{BALANCES_MOST, BOOK_SIZE, FIELDS_SIZE, FIGURE_SIZE, RECORD_MOST, RESULTS_MOST};
+use energy_book::{BALANCES_MOST, BOOK_SIZE, FIELDS_SIZE, FIGURE_SIZE, RECORD_MOST, RESULTS_MOST, STRIP_MOST, STRIP_ROWS_MOST};
 
 /// By name: the types of the parameters as the machine has them, and of the answer.
 type Declared = BTreeMap<String, (Vec<String>, String)>;
@@ -107,6 +107,8 @@ fn sizes_are_those_of_the_header() {
     assert_eq!(size("FIGURE_SIZE"), FIGURE_SIZE);
     assert_eq!(size("FIELDS_SIZE"), FIELDS_SIZE);
     assert_eq!(size("RECORD_MOST"), RECORD_MOST);
+    assert_eq!(size("STRIP_MOST"), STRIP_MOST);
+    assert_eq!(size("STRIP_ROWS_MOST"), STRIP_ROWS_MOST);
     assert_eq!(size("RESULTS_MOST"), RESULTS_MOST);
     assert_eq!(size("BALANCES_MOST"), BALANCES_MOST);
 }

@@ -1,9 +1,11 @@
 //! The book of one flow day.
 
 mod stands;
+mod strip;
 
 use crate::ledger::Ledger;
 use crate::settlement::{self, Prices, Schedule, MOST_SCHEDULES};
+use crate::strip::is_strip;
 use crate::valuation::{self, Figures};
 use crate::{bit, kind, layout, read, refusal};
 use crate::{Direction, Position, Request, Row, Setup, Verdict};
@@ -55,6 +57,9 @@ impl Book {
         results: &mut [u8],
         balances: &mut [u8],
     ) -> Verdict {
+        if is_strip(record) {
+            return self.strip(record).unwrap_or_else(|refused| refused);
+        }
         let request = match read(record) {
             Ok(request) => request,
             Err(verdict) => return verdict,
@@ -165,6 +170,11 @@ impl Book {
             }
             return Ok(());
         }
+        self.check_fields(request)
+    }
+
+    /// Whether every field is in range and the two accounts differ: 6, 7.
+    fn check_fields(&self, request: &Request) -> Result<(), Verdict> {
         if let Some(field) = self.field_at_fault(request) {
             return Err(out_of_range(field));
         }
@@ -225,7 +235,7 @@ impl Book {
     /// Whether a kind has its time now: 11 to 13.
     fn check_stage(&self, kind: u8) -> Result<(), Verdict> {
         let phase = match kind {
-            kind::REGISTER..=kind::CLOSE_GATE => Phase::Registration,
+            kind::REGISTER..=kind::CLOSE_GATE | kind::STRIP => Phase::Registration,
             _ => Phase::Schedules,
         };
         if self.phase != phase {

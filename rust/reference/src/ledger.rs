@@ -9,6 +9,7 @@
 #[cfg(test)]
 pub(crate) mod damages;
 mod stands;
+mod strip;
 
 use crate::trade::Span;
 use crate::{refusal, Position, Request, Row, Setup, Side, Status, Verdict};

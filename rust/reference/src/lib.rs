@@ -1,9 +1,10 @@
 //! A plain reference implementation of the energy account book.
 //!
 //! A [`Book`] holds one flow day: it is opened from set-up bytes and then
-//! takes requests, each a short record. Trades are registered by one account
-//! and confirmed by its counterparty while the gate is open; schedules are
-//! taken after the gate closes; settlement judges the schedules and draws up
+//! takes requests, each a short record. Trades are registered by one account,
+//! alone or in a strip of several, all or none, and confirmed by its
+//! counterparty while the gate is open; schedules are taken after the gate
+//! closes; settlement judges the schedules and draws up
 //! each operator's balance. Every call answers with a [`Verdict`]. Calls trust
 //! what the book holds; [`Book::stands`] checks it, for one who does not.
 //! [`Book::figures`] says what each account hour comes to, article by article
@@ -23,6 +24,7 @@ mod replay;
 mod request;
 mod settlement;
 mod setup;
+mod strip;
 mod trade;
 pub mod valuation;
 mod verdict;
@@ -33,6 +35,7 @@ pub use replay::{replay, LONGEST_STREAM};
 pub use request::{bit, kind, layout, read, write, Request};
 pub use settlement::{Schedule, MOST_SCHEDULES};
 pub use setup::{Account, Direction, Operator, Point, PointKind, Setup};
+pub use strip::{strip_record, MOST_STRIP_ROWS};
 pub use trade::{Position, Row, Side, Status};
 pub use verdict::{refusal, Verdict};
 

@@ -1,12 +1,13 @@
 //! Requests and the records that carry them.
 //!
 //! A record is a two-byte map of the fields that follow, then those fields in
-//! bit order. Each kind of request has one map and so one length.
+//! bit order. Each kind of request has one map and so one length. A strip is no
+//! single record: it is neither read nor written here, but in `strip`.
 
 use crate::bytes::{u16_at, u32_at, u64_at};
 use crate::{refusal, Verdict};
 
-/// The ten kinds of request.
+/// The kinds of request.
 pub mod kind {
     /// Propose a trade.
     pub const REGISTER: u8 = 1;
@@ -28,6 +29,8 @@ pub mod kind {
     pub const SCHEDULE: u8 = 9;
     /// Settle the day.
     pub const SETTLE: u8 = 10;
+    /// Propose several trades of one account, all or none.
+    pub const STRIP: u8 = 11;
 }
 
 /// The bits of the map, one for each field.
@@ -81,7 +84,7 @@ pub struct Request {
     pub price: u32,
 }
 
-/// The map and the length of a kind's record, if there is such a kind.
+/// The map and the length of a kind's record, if the kind has single records.
 pub const fn layout(kind: u8) -> Option<(u16, usize)> {
     match kind {
         kind::REGISTER | kind::CONFIRM => Some((0x00FF, 20)),
@@ -93,8 +96,8 @@ pub const fn layout(kind: u8) -> Option<(u16, usize)> {
     }
 }
 
-/// Reads a record. Refusals 2 to 5; ranges are the book's to check.
-pub fn read(record: &[u8]) -> Result<Request, Verdict> {
+/// The map and the kind of a record. Refusal 2.
+pub(crate) fn read_head(record: &[u8]) -> Result<(u16, u8), Verdict> {
     if record.len() < 3 {
         return Err(Verdict::refused(refusal::RECORD));
     }
@@ -102,15 +105,26 @@ pub fn read(record: &[u8]) -> Result<Request, Verdict> {
     if map & 1 == 0 || map & UNKNOWN_FIELDS != 0 {
         return Err(Verdict::refused(refusal::RECORD));
     }
-    let kind = record[2];
+    Ok((map, record[2]))
+}
+
+/// Whether a map is the one that is wanted. Refusal 4.
+pub(crate) fn check_map(map: u16, wanted: u16) -> Result<(), Verdict> {
+    if map == wanted {
+        return Ok(());
+    }
+    let missing = (wanted & !map).count_ones() as u16;
+    let unwanted = (map & !wanted).count_ones() as u16;
+    Err(Verdict::refused_with(refusal::MAP, missing, unwanted))
+}
+
+/// Reads a record. Refusals 2 to 5; ranges are the book's to check.
+pub fn read(record: &[u8]) -> Result<Request, Verdict> {
+    let (map, kind) = read_head(record)?;
     let Some((wanted, length)) = layout(kind) else {
         return Err(Verdict::refused(refusal::KIND));
     };
-    if map != wanted {
-        let missing = (wanted & !map).count_ones() as u16;
-        let unwanted = (map & !wanted).count_ones() as u16;
-        return Err(Verdict::refused_with(refusal::MAP, missing, unwanted));
-    }
+    check_map(map, wanted)?;
     if record.len() != length {
         return Err(Verdict::refused(refusal::LENGTH));
     }

@@ -6,7 +6,8 @@
 pub struct Verdict {
     /// 0 for acceptance, else one of the numbers in [`refusal`].
     pub number: u8,
-    /// The first detail: a row number, place, hour, field bit, offset or count.
+    /// The first detail: a row number (of a strip its first), place, hour, field
+    /// bit, offset or count.
     pub first: u16,
     /// The second detail: the count of unwanted fields, at [`refusal::MAP`].
     pub second: u16,
@@ -42,11 +43,13 @@ impl Verdict {
     }
 }
 
-/// The numbers of the refusals. Of several that apply the lowest is given.
+/// The numbers of the refusals. Of several that apply the lowest is given, but
+/// that 21 comes after 5 and before 6, and 22 after 14 and before 15.
 pub mod refusal {
     /// Record under 3 bytes, without a kind, or with an unknown field.
     pub const RECORD: u8 = 2;
-    /// The kind is not 1 to 10.
+    /// The kind is not 1 to 11; of a record read or written by itself, not 1 to
+    /// 10; of a row of a strip, not 1.
     pub const KIND: u8 = 3;
     /// The map is not the kind's: wanted fields missing, fields unwanted.
     pub const MAP: u8 = 4;
@@ -70,7 +73,7 @@ pub mod refusal {
     pub const NO_BATCH: u8 = 13;
     /// A pending row has this proposer, counterparty and code.
     pub const ALREADY_PENDING: u8 = 14;
-    /// All row numbers of the day are used.
+    /// Not as many row numbers of the day are left as are needed.
     pub const ROWS_FULL: u8 = 15;
     /// There is no such pending row.
     pub const NOT_PENDING: u8 = 16;
@@ -82,4 +85,8 @@ pub mod refusal {
     pub const GUARANTEE: u8 = 19;
     /// All places for schedules are used.
     pub const SCHEDULES_FULL: u8 = 20;
+    /// A strip has not 1 to 24 rows.
+    pub const STRIP_COUNT: u8 = 21;
+    /// Two rows of a strip have the same counterparty and code.
+    pub const STRIP_TWINS: u8 = 22;
 }

@@ -65,7 +65,7 @@ fn every_verdict_occurs() {
     println!("{at_limits:?}");
     println!("schedule results 0 to 3: {results_seen:?}");
     assert_eq!(opened.keys().copied().collect::<Vec<_>>(), [0, 8, 9]);
-    let expected: Vec<u8> = [0].into_iter().chain(2..=7).chain(10..=20).collect();
+    let expected: Vec<u8> = [0].into_iter().chain(2..=7).chain(10..=22).collect();
     assert_eq!(called.keys().copied().collect::<Vec<_>>(), expected);
     assert!(by_kind[1..]
         .iter()

@@ -8,6 +8,7 @@ mod damage;
 mod random;
 mod schedules;
 mod setups;
+mod strips;
 mod trades;
 
 use crate::{kind, layout, write, Book, Phase, Request, Row, Status};
@@ -29,6 +30,11 @@ impl Step {
         let length = layout(request.kind).map_or(0, |(_, length)| length);
         let mut record = vec![0; length];
         write(request, &mut record);
+        Self::of_record(record)
+    }
+
+    /// The call of a record, with nothing lent.
+    fn of_record(record: Vec<u8>) -> Self {
         Self {
             record,
             prices: Vec::new(),
@@ -118,6 +124,7 @@ impl Maker {
                 (ends, kind::KEEP),
                 (1, kind::SCHEDULE),
                 (1, kind::SETTLE),
+                (7, kind::STRIP),
             ]);
             let is_pending = |row: &Row| row.status == Status::Pending;
             let can_confirm = self.book.rows().iter().any(is_pending);
@@ -186,11 +193,36 @@ impl Maker {
 
     fn any_kind(&mut self) -> u8 {
         self.random
-            .within(kind::REGISTER.into()..=kind::SETTLE.into()) as u8
+            .within(kind::REGISTER.into()..=kind::STRIP.into()) as u8
     }
 
     /// Makes a call of a kind, at times damaged.
     fn step(&mut self, kind: u8) {
+        let rows = self.book.rows().len();
+        self.step_alone(kind);
+        let registered = self.book.rows().len().saturating_sub(rows);
+        if kind == kind::STRIP && registered > 0 {
+            self.end_some(rows);
+        }
+    }
+
+    /// Confirms or withdraws some of the rows after so many, now and then.
+    fn end_some(&mut self, before: usize) {
+        let often = self.random.pick(&[0, 0, 10, 40]);
+        for index in before..self.book.rows().len() {
+            if !self.random.chance(often) {
+                continue;
+            }
+            let row = self.book.rows()[index];
+            let request = match self.random.chance(65) {
+                true => trades::confirm_of(&row),
+                false => trades::withdraw_of(index as u16 + 1, &row),
+            };
+            self.play(Step::of(&request));
+        }
+    }
+
+    fn step_alone(&mut self, kind: u8) {
         let random = &mut self.random;
         let book = &self.book;
         let mut request = match kind {
@@ -207,11 +239,13 @@ impl Maker {
         if random.chance(3) {
             damage::out_of_range(random, book, &mut request);
         }
-        let mut step = if kind == kind::SETTLE {
-            let careless = random.chance(15);
-            schedules::settle(random, book, careless)
-        } else {
-            Step::of(&request)
+        let mut step = match kind {
+            kind::SETTLE => {
+                let careless = random.chance(15);
+                schedules::settle(random, book, careless)
+            }
+            kind::STRIP => Step::of_record(strips::strip(random, book, self.crowded)),
+            _ => Step::of(&request),
         };
         if random.chance(4) {
             damage::record(random, &mut step.record);

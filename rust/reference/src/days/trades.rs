@@ -70,12 +70,29 @@ fn limits(book: &Book, proposer: Trade) -> (u32, u32) {
         },
         ..proposer
     };
-    let propose = |p: Position, quantity| p.with_proposal(proposer.side, quantity);
     let confirm = |p: Position, quantity| p.with_trade(counterparty.side, quantity);
-    (
-        room(book, proposer, propose),
-        room(book, counterparty, confirm),
-    )
+    (own_limit(book, proposer), room(book, counterparty, confirm))
+}
+
+/// The most that a proposer can propose.
+pub(crate) fn own_limit(book: &Book, proposer: Trade) -> u32 {
+    let propose = |p: Position, quantity| p.with_proposal(proposer.side, quantity);
+    room(book, proposer, propose)
+}
+
+/// The confirmation of a row.
+pub(crate) fn confirm_of(row: &Row) -> Request {
+    Request {
+        kind: kind::CONFIRM,
+        account: row.counterparty,
+        other: row.account,
+        code: row.code,
+        side: 3 - row.side as u8,
+        first: row.first,
+        last: row.last,
+        quantity: row.quantity,
+        ..Request::default()
+    }
 }
 
 /// A confirmation of a pending row, at times of none or on other terms.
@@ -86,17 +103,7 @@ pub(crate) fn confirm(random: &mut Random, book: &Book) -> Request {
             ..register(random, book, false)
         };
     };
-    let mut request = Request {
-        kind: kind::CONFIRM,
-        account: row.counterparty,
-        other: row.account,
-        code: row.code,
-        side: 3 - row.side as u8,
-        first: row.first,
-        last: row.last,
-        quantity: row.quantity,
-        ..Request::default()
-    };
+    let mut request = confirm_of(&row);
     if random.chance(15) {
         match random.within(0..=6) {
             0 => request.code ^= 1 << random.within(0..=63),
@@ -132,6 +139,16 @@ pub(crate) fn withdraw(random: &mut Random, book: &Book) -> Request {
     }
 }
 
+/// The withdrawal of a row by its proposer.
+pub(crate) fn withdraw_of(number: u16, row: &Row) -> Request {
+    Request {
+        kind: kind::WITHDRAW,
+        account: row.account,
+        number,
+        ..Request::default()
+    }
+}
+
 /// A guarantee, often just enough for the exposure or just too small.
 pub(crate) fn guarantee(random: &mut Random, book: &Book) -> Request {
     let operator = random.one_of(book.setup().operators.len());
@@ -155,7 +172,7 @@ pub(crate) fn guarantee(random: &mut Random, book: &Book) -> Request {
 
 /// Some hours of the day: one, a few or all, or those up to where a margin of
 /// the account changes, or from there on.
-fn hours(random: &mut Random, setup: &Setup, account: u8) -> (u8, u8) {
+pub(crate) fn hours(random: &mut Random, setup: &Setup, account: u8) -> (u8, u8) {
     let hours = setup.hours();
     let first = random.one_of(hours.into());
     let from = |random: &mut Random, first: u8| {
@@ -217,12 +234,12 @@ fn a_row(random: &mut Random, book: &Book, chance_of_pending: u64) -> Option<(u1
 
 /// An account's side of a trade.
 #[derive(Clone, Copy)]
-struct Trade {
-    account: u8,
-    other: u8,
-    side: Side,
-    first: u8,
-    last: u8,
+pub(crate) struct Trade {
+    pub account: u8,
+    pub other: u8,
+    pub side: Side,
+    pub first: u8,
+    pub last: u8,
 }
 
 /// The greatest quantity that an account can take on without breaking a margin

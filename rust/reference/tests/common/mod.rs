@@ -27,6 +27,18 @@ impl Day {
         self.call(simple(kind))
     }
 
+    pub fn strip(&mut self, rows: &[Request]) -> Verdict {
+        self.record(&strip_record(rows))
+    }
+
+    /// Hands any bytes over; a refusal is to change nothing.
+    pub fn record(&mut self, record: &[u8]) -> Verdict {
+        let before = self.book.clone();
+        let verdict = self.book.call(record, &[], &mut [], &mut []);
+        assert!(verdict.is_accepted() || self.book == before);
+        verdict
+    }
+
     /// Registers a trade that `other` then confirms.
     pub fn trade(&mut self, request: Request) {
         assert!(self.call(request).is_accepted());

@@ -1,0 +1,68 @@
+//! What a run has compared.
+
+use std::ops::AddAssign;
+
+/// How much was compared.
+#[derive(Clone, Debug, Default)]
+pub struct Counts {
+    pub days: u64,
+    pub calls: u64,
+    /// By verdict, of openings and of calls.
+    pub openings: [u64; 23],
+    pub verdicts: [u64; 23],
+    /// Readings of net and exposure.
+    pub readings: u64,
+    /// Batches that were undone, and calls of the lists without them.
+    pub undone: u64,
+    pub without: u64,
+    /// Calls on bytes that are no book, and on those that still are one.
+    pub damaged: u64,
+    pub undamaged: u64,
+    /// The same of books with another margin, which are held against the reference's.
+    pub margins_broken: u64,
+    pub margins_kept: u64,
+    /// Accepted settles, and the balances that ours wrote there, each held against the total of the reference's hourly amounts.
+    pub settled: u64,
+    pub balances: u64,
+    /// The account hours of these totals with a purchase, with a sale, and with a CCT.
+    pub hours: [u64; 3],
+    /// The registered schedules in them: injections, withdrawals, and withdrawals on mixed points.
+    pub registered: [u64; 3],
+    /// Strips accepted and refused, and the rows of those accepted.
+    pub strips: [u64; 2],
+    pub strip_rows: u64,
+    /// Accepted strips held against their registers in turn.
+    pub in_turn: u64,
+    /// Registers held against strips of that one row, and the other way round: accepted and refused.
+    pub of_one: [u64; 2],
+}
+
+impl AddAssign<&Counts> for Counts {
+    fn add_assign(&mut self, more: &Counts) {
+        self.days += more.days;
+        self.calls += more.calls;
+        for number in 0..self.verdicts.len() {
+            self.openings[number] += more.openings[number];
+            self.verdicts[number] += more.verdicts[number];
+        }
+        self.readings += more.readings;
+        self.undone += more.undone;
+        self.without += more.without;
+        self.damaged += more.damaged;
+        self.undamaged += more.undamaged;
+        self.margins_broken += more.margins_broken;
+        self.margins_kept += more.margins_kept;
+        self.settled += more.settled;
+        self.balances += more.balances;
+        for sort in 0..3 {
+            self.hours[sort] += more.hours[sort];
+            self.registered[sort] += more.registered[sort];
+        }
+        for sort in 0..2 {
+            self.strips[sort] += more.strips[sort];
+            self.of_one[sort] += more.of_one[sort];
+        }
+        self.strip_rows += more.strip_rows;
+        self.in_turn += more.in_turn;
+    }
+}
