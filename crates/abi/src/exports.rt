@@ -34,7 +34,7 @@ pub extern "C" fn energy_book_open(setup: &[u8], book: &mut [u8]) -> u64
 pub extern "C" fn energy_book_is_book(book: &[u8]) -> bool
     ensures { λ r. ⌜ r ≡ isBook (now (book .entry)) ⌝ }
 {
-    audit::whole::is_book(book)
+    asks::whole::is_book(book)
 }
 
 // A call of any kind. Only settle looks at the price table and the buffers for results and balances.

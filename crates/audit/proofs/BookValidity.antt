@@ -1,4 +1,4 @@
--- Bytes are a book exactly where each section stands: the tests of a valid book and those of its image, gathered by section.
+-- Bytes are those of a sound book exactly where each section stands: the tests of such a book and of its image, gathered by section.
 use Prim.Native.Nat.{ℕ, zero, suc, _+_, _-_, _*_, _≤_, _<_}
 use mathlib.Core.Path.{_≡_, refl, sym, ap, _∙_}
 use mathlib.Core.List.{List, [], _∷_, map}
@@ -20,15 +20,16 @@ use Rattle.rules.specs.Registration.{pending}
 use Rattle.rules.proofs.Basics.Tests.{test-same, and-both, Holds, _and_, no-more, all-holds, holds-all, chained-all, chain-holds, holds-chain}
 use Rattle.image.specs.Layout.{scheduleWidth, partSize, usedSize, phaseOffset, flagOffset, scheduleCountOffset, schedulesOffset, presentOffset, savedOffset}
 use Rattle.image.specs.Image.{scheduleIn, savedIn, decode}
-use Rattle.image.specs.Valid.{scheduleOk, partOk, follows, savedOk, bookTests, valid, isBook}
+use Rattle.image.specs.Valid.{scheduleOk, partOk, follows, savedOk, asksOk, bookTests, bookOk, isSound}
 use Rattle.image.specs.Cells.{schedulesFrom, partAt}
 use Rattle.image.proofs.Sound.Soundness.{sound-setup}
-use Rattle.image.proofs.Round.{length-book}
+use Rattle.image.proofs.Round.{length-sound}
 use Rattle.image.proofs.Reading.Places.{bookAt, decode-places}
 use Rattle.image.proofs.Setups.SetupAgain.{setup-in-front}
 use Rattle.audit.specs.Exact.{partExact, savedExact, bookExactTests, bookExact}
-use Rattle.audit.specs.Validity.{setupValidTests, setupValid, rowsOf, partValid, savedValid, schedulesValidTests, schedulesValid, phaseValidTests, phaseValid}
-use Rattle.audit.proofs.Local.{is-book-local}
+use Rattle.audit.specs.Validity.{setupValidTests, setupValid, rowsOf, partValid, savedValid, schedulesValidTests, schedulesValid, phaseValidTests, phaseValid, asksValid}
+use Rattle.audit.proofs.Local.{is-sound-local}
+use Rattle.audit.proofs.AskTests.{asks-valid, valid-asks}
 use Rattle.audit.proofs.PartValidity.{part-places, few-rows}
 use Rattle.audit.proofs.ValidityLaws.{fails-with, setup-known}
 
@@ -120,6 +121,7 @@ pub record Sections (s : List ℕ) : Type 0 where
   pub saved-valid : savedValid mostHours s ≡ true
   pub schedules-valid : schedulesValid s ≡ true
   pub phase-valid : phaseValid s ≡ true
+  pub asks-valid : asksValid mostHours s ≡ true
   pub spare-zero : zerosFrom s (usedSize mostHours) (bookSize - usedSize mostHours) ≡ true
 
 module _ (s : List ℕ) where
@@ -144,8 +146,8 @@ module _ (s : List ℕ) where
 
   valid-sections : length s ≡ bookSize → Holds (bookTests here) → Holds (bookExactTests mostHours bookSize s) → Sections s
   unfolding setupValid partValid savedValid schedulesValid phaseValid
-  valid-sections l (setup and phased and part and saved and count and schedules and ended and early and batch and _)
-      (behind-setup and bare and flagged and behind-schedules and exact and saved-exact and spare and _) =
+  valid-sections l (setup and phased and part and saved and count and schedules and ended and early and batch and asks and _)
+      (behind-setup and bare and flagged and behind-schedules and exact and saved-exact and asks-exact and spare and _) =
       let f = setup-in-front s (sound-setup (here .setup) setup) in
       let a : setupValid s ≡ true = holds-all (setupValidTests s) (setup and bare and behind-setup and no-more) in
       let k = setup-known s l a in
@@ -164,12 +166,13 @@ module _ (s : List ℕ) where
             saved-exact;
         schedules-valid = holds-all (schedulesValidTests s) (le-leb _ _ few and each and behind-schedules and no-more);
         phase-valid = holds-all (phaseValidTests s) (phased and flagged and (sym (none-left e) ∙ ended) and (sym none-yet ∙ early) and (sym none-open ∙ batch) and no-more);
+        asks-valid = asks-valid mostHours s (ap (λ (u : Setup). asksOk u (here .asks)) (sym f) ∙ asks) asks-exact;
         spare-zero = spare;
       }
 
   sections-valid : length s ≡ bookSize → Sections s → Holds (setupValidTests s) → Holds (schedulesValidTests s) → Holds (phaseValidTests s)
-      → (valid here ≡ true) × (bookExact mostHours bookSize s ≡ true)
-  unfolding valid bookExact partValid savedValid
+      → (bookOk here ≡ true) × (bookExact mostHours bookSize s ≡ true)
+  unfolding bookOk bookExact partValid savedValid
   sections-valid l d (setup and bare and behind-setup and _) (count and each and behind-schedules and _) (phased and flagged and ended and early and batch and _) =
       let f = setup-in-front s (sound-setup (here .setup) setup) in
       let k = setup-known s l (d .setup-valid) in
@@ -177,57 +180,59 @@ module _ (s : List ℕ) where
       let e = present-rows (k .operators-high) (d .part-valid) in
       let c = saved-here mostHours s (k .operators-high) (rowsOf s presentOffset) (getD s flagOffset 0) (d .saved-valid) in
       let few : numberAt s scheduleCountOffset 2 ≤ mostSchedules = leb-true _ _ count in
+      let o = valid-asks mostHours s (d .asks-valid) in
       let part = ap (λ (u : Setup). partOk u (here .part)) f ∙ b .0 in
       let saved =
       ap (λ (u : Setup). savedOk u (here .part .rows) (here .saved)) f ∙ ap (λ (r : List Row). savedOk (setupOf s) r (here .saved)) e ∙ c .0 in
       let counted = ap (λ (m : ℕ). leb m mostSchedules) (schedule-count s) ∙ count in
       let schedules = ap (λ (u : Setup). every (scheduleOk u) (here .schedules)) f ∙ ap (every (scheduleOk (setupOf s))) (schedules-there s few) ∙ each in (
-        holds-all (bookTests here) (setup and phased and part and saved and counted and schedules and (none-left e ∙ ended) and (none-yet ∙ early) and (none-open ∙ batch) and no-more),
-        holds-all (bookExactTests mostHours bookSize s) (behind-setup and bare and flagged and behind-schedules and b .1 and c .1 and d .spare-zero and no-more),
+        holds-all (bookTests here) (setup and phased and part and saved and counted and schedules and (none-left e ∙ ended) and (none-yet ∙ early) and (none-open ∙ batch) and (ap (λ (u : Setup). asksOk u (here .asks)) f ∙ o .0) and no-more),
+        holds-all (bookExactTests mostHours bookSize s) (behind-setup and bare and flagged and behind-schedules and b .1 and c .1 and o .1 and d .spare-zero and no-more),
       )
 
 module _ (s : List ℕ) (b : Bytes s) where
-  tests : isBook s ≡ (eqb (length s) bookSize && valid (decode mostHours bookSize s) && bookExact mostHours bookSize s)
-  tests = is-book-local mostHours bookSize s b (omega arith)
+  tests : isSound s ≡ (eqb (length s) bookSize && bookOk (decode mostHours bookSize s) && bookExact mostHours bookSize s)
+  tests = is-sound-local mostHours bookSize s b (omega arith)
 
-  pub book-valid : isBook s ≡ true → Sections s
-  unfolding valid bookExact
-  book-valid t =
-      let w = and-both (eqb (length s) bookSize && valid (decode mostHours bookSize s)) (bookExact mostHours bookSize s) .0 (sym tests ∙ t) in
-      let v = and-both (eqb (length s) bookSize) (valid (decode mostHours bookSize s)) .0 (w .0) in
-      valid-sections s (length-book mostHours bookSize s t)
-      (all-holds (bookTests (bookAt mostHours s)) (ap valid (sym (decode-places mostHours bookSize s)) ∙ v .1))
+  pub sound-valid : isSound s ≡ true → Sections s
+  unfolding bookOk bookExact
+  sound-valid t =
+      let w = and-both (eqb (length s) bookSize && bookOk (decode mostHours bookSize s)) (bookExact mostHours bookSize s) .0 (sym tests ∙ t) in
+      let v = and-both (eqb (length s) bookSize) (bookOk (decode mostHours bookSize s)) .0 (w .0) in
+      valid-sections s (length-sound mostHours bookSize s t)
+      (all-holds (bookTests (bookAt mostHours s)) (ap bookOk (sym (decode-places mostHours bookSize s)) ∙ v .1))
       (all-holds (bookExactTests mostHours bookSize s) (w .1))
 
-  pub sections-book : length s ≡ bookSize → Sections s → isBook s ≡ true
+  pub sections-sound : length s ≡ bookSize → Sections s → isSound s ≡ true
   unfolding setupValid schedulesValid phaseValid
-  sections-book l d =
+  sections-sound l d =
       let w = sections-valid s l d (all-holds (setupValidTests s) (d .setup-valid)) (all-holds (schedulesValidTests s) (d .schedules-valid)) (all-holds (phaseValidTests s) (d .phase-valid)) in
-      tests ∙ rw (eq-eqb (length s) bookSize l, ap valid (decode-places mostHours bookSize s) ∙ w .0, w .1)
+      tests ∙ rw (eq-eqb (length s) bookSize l, ap bookOk (decode-places mostHours bookSize s) ∙ w .0, w .1)
 
-  -- bytes of another length are no book
-  pub not-sized : (length s ≡ bookSize → ⊥) → false ≡ isBook s
+  -- bytes of another length are not those of a sound book
+  pub not-sized : (length s ≡ bookSize → ⊥) → false ≡ isSound s
   not-sized n = sym (tests ∙ rw (ne-eqb (length s) bookSize n))
 
-  -- bytes of which a section does not stand are no book
-  pub one-falls : {t : Bool} → (Sections s → t ≡ true) → t ≡ false → false ≡ isBook s
-  one-falls f e = sym (fails-with (isBook s) (λ h. f (book-valid h)) e)
+  -- nor are bytes of which a section does not stand
+  pub one-falls : {t : Bool} → (Sections s → t ≡ true) → t ≡ false → false ≡ isSound s
+  one-falls f e = sym (fails-with (isSound s) (λ h. f (sound-valid h)) e)
 
   -- where the set-up and the parts stand, the rest decides
-  pub rest-decides : {schedules phase spare : Bool} → length s ≡ bookSize → setupValid s ≡ true → partValid mostHours s presentOffset ≡ true → savedValid mostHours s ≡ true
-      → schedules ≡ schedulesValid s → phase ≡ phaseValid s → spare ≡ zerosFrom s (usedSize mostHours) (bookSize - usedSize mostHours)
-      → ((schedules && phase) && spare) ≡ isBook s
-  rest-decides {schedules} {phase} {spare} l a p v e f z =
-      test-same _ _ (λ t. sections-book l (by-rest (chain-holds schedules (phase ∷ spare ∷ []) t))) (λ t.
-      let d = book-valid t in
-      holds-chain ((e ∙ d .schedules-valid) and (f ∙ d .phase-valid) and (z ∙ d .spare-zero) and no-more))
+  pub rest-decides : {schedules phase asks spare : Bool} → length s ≡ bookSize → setupValid s ≡ true → partValid mostHours s presentOffset ≡ true → savedValid mostHours s ≡ true
+      → schedules ≡ schedulesValid s → phase ≡ phaseValid s → asks ≡ asksValid mostHours s → spare ≡ zerosFrom s (usedSize mostHours) (bookSize - usedSize mostHours)
+      → (((schedules && phase) && asks) && spare) ≡ isSound s
+  rest-decides {schedules} {phase} {asks} {spare} l a p v e f k z =
+      test-same _ _ (λ t. sections-sound l (by-rest (chain-holds schedules (phase ∷ asks ∷ spare ∷ []) t))) (λ t.
+      let d = sound-valid t in
+      holds-chain ((e ∙ d .schedules-valid) and (f ∙ d .phase-valid) and (k ∙ d .asks-valid) and (z ∙ d .spare-zero) and no-more))
     where
-      by-rest : Holds (schedules ∷ phase ∷ spare ∷ []) → Sections s
-      by-rest (schedules-hold and phase-holds and spare-holds and _) = record {
+      by-rest : Holds (schedules ∷ phase ∷ asks ∷ spare ∷ []) → Sections s
+      by-rest (schedules-hold and phase-holds and asks-hold and spare-holds and _) = record {
         setup-valid = a;
         part-valid = p;
         saved-valid = v;
         schedules-valid = sym e ∙ schedules-hold;
         phase-valid = sym f ∙ phase-holds;
+        asks-valid = sym k ∙ asks-hold;
         spare-zero = sym z ∙ spare-holds;
       }

@@ -7,9 +7,9 @@ use native.Mathlib.Omega.{arith}
 use lib.ListN.{length, take, drop}
 use lib.Dec.{eqb}
 use Rattle.rules.specs.declared.Row.{Row}
-use Rattle.rules.specs.Registration.{pending}
+use Rattle.rules.specs.Registration.{pending, sameTerms}
 use Rattle.image.specs.Image.{rowIn}
-use Rattle.image.specs.Valid.{sameTerms, follows}
+use Rattle.image.specs.Valid.{follows}
 use Rattle.image.specs.Cells.{rowsFrom}
 use Rattle.image.specs.Layout.{rowWidth}
 use Rattle.image.proofs.Reading.RowsFrom.{rows-done, rows-step, length-rows}

@@ -1,11 +1,13 @@
--- Laws of the test whether bytes are a book.
+-- Laws of the test whether bytes are those of a sound book.
 -- NetTests: the stored nets, each by a test without signs.
 pub mod NetTests
 -- PartTests: a part that passes its tests is its own image.
 pub mod PartTests
 -- SetupTests: the set-up's section of a book that passes its tests is that of its image.
 pub mod SetupTests
--- Local: bytes are a book by tests that each look at one place.
+-- AskTests: the asks' section of a book that passes its tests is that of its image, and the places as code tests them.
+pub mod AskTests
+-- Local: bytes are those of a sound book by tests that each look at one place.
 pub mod Local
 -- CheckLaws: the tests of a row and of a schedule as code joins them, and a loop that tests entry after entry.
 pub mod CheckLaws
@@ -15,9 +17,9 @@ pub mod FollowLaws
 pub mod TwinLaws
 -- CoverLaws: what is available to an operator, read from bytes.
 pub mod CoverLaws
--- StandLaws: the set-up's section as code tests it.
+-- ValidityLaws: the set-up's section as code tests it.
 pub mod ValidityLaws
--- PartStands: a part as code tests it.
+-- PartValidity: a part as code tests it.
 pub mod PartValidity
--- BookStands: bytes are a book where each section stands.
+-- BookValidity: bytes are those of a sound book where each section stands.
 pub mod BookValidity

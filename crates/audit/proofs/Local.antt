@@ -1,5 +1,5 @@
--- Bytes are a book by tests that each look at one place: for bytes that say a valid book, each section is that of its image exactly where
--- its tests hold. No image is built.
+-- Bytes are those of a sound book by tests that each look at one place: for bytes that say a sound book, each section is that of its image
+-- exactly where its tests hold. No image is built.
 use Prim.Native.Nat.{ℕ, zero, suc, _-_, _*_, _≤_, _<_}
 use mathlib.Core.Path.{_≡_, refl, sym, ap, _∙_}
 use mathlib.Core.Logic.{_↔_}
@@ -22,16 +22,17 @@ use Rattle.rules.specs.Limits.{mostOperators, mostSchedules}
 use Rattle.rules.specs.Books.{Setup}
 use Rattle.rules.specs.Opening.{countsIn}
 use Rattle.rules.proofs.Basics.Tests.{test-same, and-both, Holds, _and_, no-more, all-holds, holds-all}
-use Rattle.image.specs.Layout.{setupRoom, scheduleWidth, partSize, usedSize, bookWidths, phaseOffset, flagOffset, scheduleCountOffset, schedulesOffset, presentOffset, savedOffset, setupSection, phaseSection, flagSection, scheduleCountSection, schedulesSection, presentSection, savedSection, spareSection}
+use Rattle.image.specs.Layout.{setupRoom, scheduleWidth, partSize, asksSize, usedSize, bookWidths, phaseOffset, flagOffset, scheduleCountOffset, schedulesOffset, presentOffset, savedOffset, asksOffset, setupSection, phaseSection, flagSection, scheduleCountSection, schedulesSection, presentSection, savedSection, asksSection, spareSection}
 use Rattle.image.specs.Image.{scheduleBytes, partBytes, flag, savedBytes, sectionsWith, sections, image, scheduleIn, partIn, savedIn, decode}
-use Rattle.image.specs.Valid.{valid, isBookOf}
+use Rattle.image.specs.Valid.{bookOk, isSoundOf}
 use Rattle.image.proofs.Sound.SoundBooks.{SoundBook, SavedSound, sound}
 use Rattle.image.proofs.Writing.Sizes.{fits, length-schedule, wide-book}
-use Rattle.image.proofs.Round.{schedule-again, same-refl, book-is-image, length-book}
+use Rattle.image.proofs.Round.{schedule-again, same-refl, sound-is-image, length-sound}
 use Rattle.image.proofs.Reading.Places.{bookAt, counts-at, decode-places}
 use Rattle.audit.specs.Exact.{partExact, savedExact, bookExactTests, bookExact}
 use Rattle.audit.proofs.SetupTests.{setup-exact, exact-setup}
 use Rattle.audit.proofs.PartTests.{slots-zero, part-exact, exact-part}
+use Rattle.audit.proofs.AskTests.{asks-exact, exact-asks}
 
 -- ---- the flag
 
@@ -74,7 +75,7 @@ unfolding flat
 alike-flat no-others = refl
 alike-flat (e beside rest) = rw (e, alike-flat rest)
 
-module _ (top size : ℕ) (s : List ℕ) (b : Bytes s) (l : length s ≡ size) (g : usedSize top ≤ size) (v : valid (bookAt top s) ≡ true) where
+module _ (top size : ℕ) (s : List ℕ) (b : Bytes s) (l : length s ≡ size) (g : usedSize top ≤ size) (v : bookOk (bookAt top s) ≡ true) where
   abbrev ws : List ℕ
   ws = bookWidths top size
 
@@ -98,6 +99,9 @@ module _ (top size : ℕ) (s : List ℕ) (b : Bytes s) (l : length s ≡ size) (
   saved-place : startOf ws savedSection ≡ savedOffset top
   saved-place = omega arith
 
+  asks-place : startOf ws asksSection ≡ asksOffset top
+  asks-place = omega arith
+
   spare-place : startOf ws spareSection ≡ usedSize top
   spare-place = omega arith
 
@@ -120,12 +124,12 @@ module _ (top size : ℕ) (s : List ℕ) (b : Bytes s) (l : length s ≡ size) (
 
   in-places : flat (take setupRoom s ∷ take 1 (drop phaseOffset s) ∷ take 1 (drop flagOffset s) ∷ take 2 (drop scheduleCountOffset s)
       ∷ take (scheduleWidth * mostSchedules) (drop schedulesOffset s) ∷ take (partSize top) (drop presentOffset s)
-      ∷ take (partSize top) (drop (savedOffset top) s) ∷ take (size - usedSize top) (drop (usedSize top) s) ∷ []) ≡ s
+      ∷ take (partSize top) (drop (savedOffset top) s) ∷ take asksSize (drop (asksOffset top) s) ∷ take (size - usedSize top) (drop (usedSize top) s) ∷ []) ≡ s
   unfolding cut
   in-places =
       alike-flat (sym (cut-at ws s setupSection) beside sym (cut-at ws s phaseSection) beside sym (cut-at ws s flagSection) beside sym (cut-at ws s scheduleCountSection)
-      beside sym (cut-at ws s schedulesSection) beside sym (cut-at ws s presentSection) beside sym (cut-at ws s savedSection ∙ rw saved-place) beside sym (cut-at ws s spareSection ∙ rw spare-place)
-      beside no-others)
+      beside sym (cut-at ws s schedulesSection) beside sym (cut-at ws s presentSection) beside sym (cut-at ws s savedSection ∙ rw saved-place) beside sym (cut-at ws s asksSection ∙ rw asks-place)
+      beside sym (cut-at ws s spareSection ∙ rw spare-place) beside no-others)
       ∙ flat-cut ws s (l ∙ omega arith)
 
   book-exact : image top size (bookAt top s) ≡ s → bookExact top size s ≡ true
@@ -142,12 +146,13 @@ module _ (top size : ℕ) (s : List ℕ) (b : Bytes s) (l : length s ≡ size) (
       let t4 = rest-zeros-tested ws s schedulesSection (scheduleWidth * scheduleCount) (omega arith) (omega arith) (ap (drop (scheduleWidth * scheduleCount)) (cut-at ws s schedulesSection) ∙ z4) in
       let t5 = part-exact top (countsIn s .operators) s presentOffset b (omega arith) few (known .part-sound .rows-high) (at presentSection) in
       let t6 = saved-test .0 (at savedSection ∙ rw saved-place) in
-      let t7 = zeros-tested (size - usedSize top) s (usedSize top) (omega arith) (sym (at spareSection ∙ rw spare-place)) in
-      holds-all (bookExactTests top size s) (t0 .0 and t0 .1 and t2 and t4 and t5 and t6 and t7 and no-more)
+      let t7 = asks-exact top s (omega arith) (at asksSection ∙ rw asks-place) in
+      let t8 = zeros-tested (size - usedSize top) s (usedSize top) (omega arith) (sym (at spareSection ∙ rw spare-place)) in
+      holds-all (bookExactTests top size s) (t0 .0 and t0 .1 and t2 and t4 and t5 and t6 and t7 and t8 and no-more)
 
   exact-book : Holds (bookExactTests top size s) → image top size (bookAt top s) ≡ s
   unfolding image sections sectionsWith
-  exact-book (behind and lodged and flagged and schedules and part and saved and spare and _) =
+  exact-book (behind and lodged and flagged and schedules and part and saved and asks and spare and _) =
       let few-schedules = schedules-few in
       let room : List ℕ = take (scheduleWidth * mostSchedules) (drop schedulesOffset s) in
       let a0 = exact-setup s b (omega arith) (known .setup-sound) behind lodged in
@@ -159,22 +164,23 @@ module _ (top size : ℕ) (s : List ℕ) (b : Bytes s) (l : length s ≡ size) (
       (length-take-le (scheduleWidth * mostSchedules) (drop schedulesOffset s) (omega (arith, length-drop schedulesOffset s))) few-schedules (sym (ap (drop (scheduleWidth * scheduleCount)) (cut-at ws s schedulesSection)) ∙ z4) in
       let a5 = exact-part top (countsIn s .operators) s presentOffset b (omega arith) few (known .part-sound .rows-high) part in
       let a6 = saved-test .1 saved in
-      let a7 = sym (zeros-read (size - usedSize top) s (usedSize top) (omega arith) spare) in
-      alike-flat (a0 beside a1 beside a2 beside a3 beside a4 beside a5 beside a6 beside a7 beside no-others) ∙ in-places
+      let a7 = exact-asks top s (omega arith) b asks in
+      let a8 = sym (zeros-read (size - usedSize top) s (usedSize top) (omega arith) spare) in
+      alike-flat (a0 beside a1 beside a2 beside a3 beside a4 beside a5 beside a6 beside a7 beside a8 beside no-others) ∙ in-places
 
--- bytes are a book where they have its size, say a valid book, and pass the tests of their places
-pub is-book-local : (top size : ℕ) (s : List ℕ) → Bytes s → usedSize top ≤ size
-    → isBookOf top size s ≡ (eqb (length s) size && valid (decode top size s) && bookExact top size s)
-unfolding isBookOf bookExact
-is-book-local top size s b g =
-    test-same _ _ (λ (t : isBookOf top size s ≡ true).
-    let i = book-is-image top size s t in
-    let l = length-book top size s t in
+-- bytes are those of a sound book where they have its size, say a sound book, and pass the tests of their places
+pub is-sound-local : (top size : ℕ) (s : List ℕ) → Bytes s → usedSize top ≤ size
+    → isSoundOf top size s ≡ (eqb (length s) size && bookOk (decode top size s) && bookExact top size s)
+unfolding isSoundOf bookExact
+is-sound-local top size s b g =
+    test-same _ _ (λ (t : isSoundOf top size s ≡ true).
+    let i = sound-is-image top size s t in
+    let l = length-sound top size s t in
     let e = decode-places top size s in
-    let p = book-exact top size s b l g (ap valid (sym e) ∙ i .1) (ap (image top size) (sym e) ∙ sym (i .0)) in
+    let p = book-exact top size s b l g (ap bookOk (sym e) ∙ i .1) (ap (image top size) (sym e) ∙ sym (i .0)) in
     rw (eq-eqb _ _ l, i .1, p)) (λ t.
-    let h = and-both (eqb (length s) size && valid (decode top size s)) (bookExact top size s) .0 t in
-    let k = and-both (eqb (length s) size) (valid (decode top size s)) .0 (h .0) in
+    let h = and-both (eqb (length s) size && bookOk (decode top size s)) (bookExact top size s) .0 t in
+    let k = and-both (eqb (length s) size) (bookOk (decode top size s)) .0 (h .0) in
     let e = decode-places top size s in
-    let p = exact-book top size s b (eqb-true _ _ (k .0)) g (ap valid (sym e) ∙ k .1) (all-holds (bookExactTests top size s) (h .1)) in
+    let p = exact-book top size s b (eqb-true _ _ (k .0)) g (ap bookOk (sym e) ∙ k .1) (all-holds (bookExactTests top size s) (h .1)) in
     rw (k .0, k .1, ap (image top size) e ∙ p, same-refl s))

@@ -1,18 +1,19 @@
 -- Bytes that are an image, by tests that each look at one place: what is not used is zero, the flag is 0 or 1, the set-up has no
--- guarantees, and each stored net is that of the rows. No image is built.
+-- guarantees, each stored net is that of the rows, and an account's place has an ask or zeros. No image is built.
 use Prim.Native.Nat.{ℕ, zero, suc, _+_, _-_, _*_, _%_, _^_}
 use mathlib.Core.List.{List, [], _∷_}
-use mathlib.Core.Bool.{Bool, true, _&&_}
-use lib.ListN.{getD}
+use mathlib.Core.Bool.{Bool, true, _&&_, _||_}
+use lib.ListN.{getD, take, drop}
 use lib.Dec.{eqb, leb}
 use Rattle.wire.specs.Numbers.{numberAt}
 use Rattle.wire.specs.Regions.{zerosFrom}
 use Rattle.rules.specs.declared.Row.{Row}
-use Rattle.rules.specs.Basics.{every, allOf, upTo}
+use Rattle.rules.specs.Basics.{every, allOf, isSome, upTo}
 use Rattle.rules.specs.Limits.{mostOperators, mostAccounts, mostRows, mostSchedules}
 use Rattle.rules.specs.Registration.{bought, sold}
 use Rattle.rules.specs.Opening.{countsIn, operatorsOffset, setupLength, guaranteeWidth, operatorEntry}
-use Rattle.image.specs.Layout.{setupRoom, rowWidth, scheduleWidth, partSize, usedSize, flagOffset, scheduleCountOffset, schedulesOffset, presentOffset, savedOffset, rowCountOffset, rowOffset, netOffset, netWidth}
+use Rattle.image.specs.Layout.{setupRoom, rowWidth, scheduleWidth, partSize, usedSize, flagOffset, scheduleCountOffset, schedulesOffset, presentOffset, savedOffset, rowCountOffset, rowOffset, netOffset, netWidth, askOffset}
+use Rattle.image.specs.Image.{askIn}
 use Rattle.image.specs.Cells.{partAt}
 
 -- the n operators from `at` on have no guarantees
@@ -45,6 +46,14 @@ unfoldable pub savedExact : ℕ → ℕ → ℕ → List ℕ → Bool
 savedExact zero top operators s = zerosFrom s (savedOffset top) (partSize top)
 savedExact (suc flag) top operators s = partExact top operators s (savedOffset top)
 
+-- the place that begins at `at` has an ask, or is zero
+abbrev pub askExact : List ℕ → ℕ → Bool
+askExact s at = isSome (askIn (take rowWidth (drop at s))) || zerosFrom s at rowWidth
+
+-- that holds of the place of each account
+unfoldable pub asksExact : ℕ → List ℕ → Bool
+asksExact top s = every (λ a. askExact s (askOffset top a)) (upTo mostAccounts)
+
 -- the tests of a book, in the order of its sections
 abbrev pub bookExactTests : ℕ → ℕ → List ℕ → List Bool
 bookExactTests top size s =
@@ -54,6 +63,7 @@ bookExactTests top size s =
     ∷ zerosFrom s (schedulesOffset + scheduleWidth * numberAt s scheduleCountOffset 2) (scheduleWidth * mostSchedules - scheduleWidth * numberAt s scheduleCountOffset 2)
     ∷ partExact top (countsIn s .operators) s presentOffset
     ∷ savedExact (getD s flagOffset 0) top (countsIn s .operators) s
+    ∷ asksExact top s
     ∷ zerosFrom s (usedSize top) (size - usedSize top)
     ∷ []
 

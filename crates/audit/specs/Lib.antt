@@ -1,4 +1,4 @@
--- Whether bytes are a book.
+-- Whether bytes are those of a sound book.
 -- Exact: tests, each of one place, that bytes are an image.
 pub mod Exact
 -- Twins: the keys by which pending rows alike are found.

@@ -4,17 +4,18 @@ use Prim.Native.Nat.{ℕ, _+_, _-_, _*_, _≤_}
 use mathlib.Core.Path.{_≡_}
 use mathlib.Core.List.{List, [], _∷_}
 use mathlib.Core.Bool.{Bool, not, _&&_, _||_}
-use lib.ListN.{length, getD, take}
+use lib.ListN.{length, getD, take, drop}
 use lib.Dec.{eqb, leb}
 use Rattle.wire.specs.Numbers.{numberAt}
 use Rattle.wire.specs.Regions.{zerosFrom}
 use Rattle.rules.specs.declared.Row.{Row}
-use Rattle.rules.specs.Basics.{if_then_else_, anyPasses, every, allOf, within, Each}
-use Rattle.rules.specs.Limits.{mostGuarantee, thousand, mostOperators, mostRows, mostSchedules, bookSize}
+use Rattle.rules.specs.Basics.{if_then_else_, anyPasses, every, allOf, upTo, within, Each}
+use Rattle.rules.specs.Limits.{mostGuarantee, thousand, mostOperators, mostAccounts, mostRows, mostSchedules, bookSize}
 use Rattle.rules.specs.Books.{Part, registrationPhase, settledPhase}
 use Rattle.rules.specs.Opening.{countsIn, operatorsOffset, setupLength, setupOf, guaranteeWidth}
 use Rattle.rules.specs.Registration.{pending}
-use Rattle.image.specs.Layout.{setupRoom, rowWidth, scheduleWidth, partSize, phaseOffset, flagOffset, scheduleCountOffset, schedulesOffset, presentOffset, savedOffset, rowCountOffset, rowsOffset}
+use Rattle.image.specs.Layout.{setupRoom, rowWidth, scheduleWidth, partSize, phaseOffset, flagOffset, scheduleCountOffset, schedulesOffset, presentOffset, savedOffset, rowCountOffset, rowsOffset, askOffset}
+use Rattle.image.specs.Image.{rowIn}
 use Rattle.image.specs.Valid.{setupOk, rowOk, scheduleOk, noTwins, marginsKept, operatorsCovered, partOk, follows}
 use Rattle.image.specs.Cells.{rowsFrom, schedulesFrom, guaranteesFrom, partAt}
 use Rattle.image.specs.Tables.{SetupTabled}
@@ -144,3 +145,17 @@ phaseValidTests s =
 -- all of these hold
 unfoldable pub phaseValid : List ℕ → Bool
 phaseValid s = allOf (phaseValidTests s)
+
+-- ---- asks
+
+-- the place that begins at `at` is zero, or has a pending row of account a with every field in range
+unfoldable pub askValid : List ℕ → ℕ → ℕ → Bool
+askValid s a at =
+    let r = rowIn (take rowWidth (drop at s)) in
+    if eqb (r .status) 0
+    then zerosFrom s at rowWidth
+    else (eqb (r .proposer) a && pending r && rowOk (setupOf s) r)
+
+-- that holds of the place of each account
+unfoldable pub asksValid : ℕ → List ℕ → Bool
+asksValid top s = every (λ a. askValid s a (askOffset top a)) (upTo mostAccounts)

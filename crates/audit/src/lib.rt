@@ -1,4 +1,5 @@
-// Whether bytes are a book.
+// Whether bytes are those of a sound book.
+pub mod asks;
 pub mod checks;
 pub mod part;
 pub mod saved;

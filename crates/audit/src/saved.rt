@@ -4,27 +4,15 @@ ghost use mathlib.Core.Bool.{_&&_, _||_};
 ghost use Prim.Native.Nat.{_+_, _*_, _≤_};
 ghost use lib.ListN.{length};
 ghost use lib.Dec.{eqb};
-ghost use Rattle.rules.specs.Registration.{pending};
-ghost use Rattle.image.specs.Valid.{sameTerms, follows};
+ghost use Rattle.rules.specs.Registration.{pending, sameTerms};
+ghost use Rattle.image.specs.Valid.{follows};
 ghost use Rattle.image.specs.Cells.{rowsFrom};
 ghost use Rattle.image.specs.Layout.{rowWidth};
 use image::layout::ROW_WIDTH;
 use image::rows::row_at;
+use image::rows::same_terms;
 use rules::Row;
 use rules::statuses::PENDING;
-
-// The rows are the same but for their status.
-fn same_terms(x: Row, y: Row) -> bool
-    ensures { λ b. ⌜ b ≡ sameTerms x y ⌝ }
-{
-    (x.proposer == y.proposer)
-        & (x.counterparty == y.counterparty)
-        & (x.code == y.code)
-        & (x.side == y.side)
-        & (x.first == y.first)
-        & (x.last == y.last)
-        & (x.quantity.0 == y.quantity.0)
-}
 
 // The saved row `x` can since have become `y`: a pending one may be confirmed or withdrawn, any other stays.
 fn row_follows(x: Row, y: Row) -> bool

@@ -1,4 +1,4 @@
-// Whether bytes are a book: section by section, the set-up first.
+// Whether bytes are those of a sound book: section by section, the set-up first.
 ghost use mathlib.Core.Path.{_≡_};
 ghost use mathlib.Core.Bool.{not};
 ghost use Prim.Native.Nat.{_+_, _*_, _≤_};
@@ -7,9 +7,10 @@ ghost use Rattle.rules.specs.Basics.{isSome};
 ghost use Rattle.rules.specs.Limits.{mostRows, bookSize, mostHours};
 ghost use Rattle.rules.specs.Opening.{setupRefusal, operatorEntry};
 ghost use Rattle.image.specs.Layout.{presentOffset, partSize};
-ghost use Rattle.image.specs.Valid.{isBook};
+ghost use Rattle.image.specs.Valid.{isSound};
 ghost use Rattle.audit.specs.Exact.{noGuarantees};
 ghost use Rattle.audit.specs.Validity.{setupValid, SetupKnown, rowCount, partValid, savedValid, schedulesValid, phaseValid};
+use crate::asks::asks_valid;
 use crate::checks::none_pending;
 use crate::checks::schedules_ok;
 use crate::part::part_valid;
@@ -152,9 +153,9 @@ fn saved_valid(book: &[u8]) -> bool
     )
 }
 
-// Whether bytes are a book, for all bytes of all lengths.
-pub fn is_book(book: &[u8]) -> bool
-    ensures { λ r. ⌜ r ≡ isBook (now (book .entry)) ⌝ }
+// Whether bytes are the image of a sound book: every section passes its tests, whatever its asks need of the book.
+pub fn is_sound(book: &[u8]) -> bool
+    ensures { λ r. ⌜ r ≡ isSound (now (book .entry)) ⌝ }
 {
     if book.len() != BOOK_SIZE {
         return false;
@@ -170,5 +171,6 @@ pub fn is_book(book: &[u8]) -> bool
     }
     schedules_valid(book)
         & phase_valid(book)
+        & asks_valid(book)
         & all_zero(book, SPARE_OFFSET, BOOK_SIZE - SPARE_OFFSET)
 }

@@ -20,7 +20,7 @@ use Rattle.rules.specs.Calls.{restored, given, savePart, restorePart, dropSaved
 use Rattle.rules.proofs.Checks.Clearing.{checked-same}
 use Rattle.rules.proofs.Checks.Passed.{passed-11, passed-12, passed-13}
 use Rattle.image.specs.Layout.{rowWidth, phaseOffset, presentOffset, savedOffset, rowOffset}
-use Rattle.image.specs.Valid.{isBook, bookIn}
+use Rattle.image.specs.Valid.{isSound, bookIn}
 use Rattle.image.specs.Changes.{ended}
 use Rattle.image.proofs.Writing.Sizes.{statuses-small}
 use Rattle.image.proofs.Writing.BookWrites.{write-saved, write-restored, write-dropped, write-closed}
@@ -31,7 +31,7 @@ use Rattle.book.proofs.Answers.{decided-clear, AnsweredAll, accepted-answered, 
 use Rattle.batches.specs.Rooms.{partCopied}
 use Rattle.batches.specs.Saving.{isClear, answerTo, savedIf, batchOpened, batchEnded}
 
-module _ (s t : List ℕ) (h : isBook s ≡ true) where
+module _ (s t : List ℕ) (h : isSound s ≡ true) where
   -- 5: the present part copied over the saved one, and the flag
   pub opened-answered : ((q : Request) → decided openBatch (bookIn s) q ≡ none)
       → t ≡ batchOpened s → AnsweredAll openBatch s (accepted 0) t

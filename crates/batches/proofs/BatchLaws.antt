@@ -22,7 +22,7 @@ use Rattle.rules.specs.Calls.{restored}
 use Rattle.rules.proofs.Basics.Searches.{some-of}
 use Rattle.image.specs.Layout.{rowWidth, partWidths, partSize, bookWidths, presentOffset, savedOffset, rowOffset, netsOffset}
 use Rattle.image.specs.Image.{rowBytes, partSections, partBytes, savedBytes, sectionsWith, sections, image}
-use Rattle.image.specs.Valid.{isBook, bookIn}
+use Rattle.image.specs.Valid.{isSound, bookIn}
 use Rattle.image.proofs.Writing.Sizes.{PartFits, Fits, length-row, wide-part, wide-book}
 use Rattle.image.proofs.Reading.ImageReads.{present-read, saved-read}
 use Rattle.book.proofs.StateLaws.{book-image, book-fits, row-count-high, saved-rows-fewer}
@@ -163,7 +163,7 @@ saved-none b f e j m l =
     read-part (bookWidths mostHours bookSize) (sections mostHours bookSize b) (wide-book mostHours bookSize b f) 6 j m (savedOffset mostHours + j) (omega arith) l (omega arith)
     ∙ rw e (zeros-piece j m size l)
 
-module _ (s : List ℕ) (h : isBook s ≡ true) where
+module _ (s : List ℕ) (h : isSound s ≡ true) where
   pub present-rows-end : (n : ℕ) → n ≡ length (bookIn s .part .rows) → NoRowsPast s presentOffset n
   unfolding NoRowsPast
   present-rows-end n e =

@@ -9,7 +9,7 @@ ghost use Rattle.rules.specs.declared.Request.{Request};
 ghost use Rattle.rules.specs.Requests.{closeGate};
 ghost use Rattle.image.specs.Layout.{rowWidth};
 ghost use Rattle.image.specs.Changes.{ended};
-ghost use Rattle.image.specs.Valid.{isBook, bookIn, bookBytes};
+ghost use Rattle.image.specs.Valid.{isSound, bookIn, bookBytes};
 ghost use Rattle.book.specs.Kinds.{outcomeOn, bookAfter};
 use crate::saving::outside_batch;
 use book::state::row_count;
@@ -53,10 +53,10 @@ fn end_rows(s: &mut [u8], from: usize, n: u16)
 
 // Kind 8: withdraws all pending rows and goes over to schedules.
 pub fn close_gate(book: &mut [u8]) -> Outcome
-    requires { ⌜ isBook (now book) ≡ true ⌝ }
+    requires { ⌜ isSound (now book) ≡ true ⌝ }
     ensures answer { λ o. ⌜ ((q : Request) → o ≡ outcomeOn closeGate (bookIn (now (book .entry))) q) ⌝ }
     ensures bytes { λ _. ⌜ ((q : Request) → now (book .exit) ≡ bookBytes (bookAfter closeGate (bookIn (now (book .entry))) q)) ⌝ }
-    ensures still { λ _. ⌜ isBook (now (book .exit)) ≡ true ⌝ }
+    ensures still { λ _. ⌜ isSound (now (book .exit)) ≡ true ⌝ }
 {
     if let Checked::Fails(r) = outside_batch(book) {
         return Outcome {

@@ -1,3 +1,3 @@
-// Batches and the gate on a book that is known to be one: kinds 5 to 8.
+// Batches and the gate on a sound book: kinds 5 to 8.
 pub mod gate;
 pub mod saving;

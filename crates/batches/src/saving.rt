@@ -9,7 +9,7 @@ ghost use Rattle.rules.specs.declared.Request.{Request};
 ghost use Rattle.rules.specs.Limits.{mostHours, mostRows, bookSize};
 ghost use Rattle.rules.specs.Requests.{openBatch, undo, keep, closeGate};
 ghost use Rattle.image.specs.Layout.{savedOffset, partSize};
-ghost use Rattle.image.specs.Valid.{isBook, bookIn, bookBytes};
+ghost use Rattle.image.specs.Valid.{isSound, bookIn, bookBytes};
 ghost use Rattle.book.specs.Kinds.{outcomeOn, bookAfter};
 ghost use Rattle.batches.specs.Rooms.{HasPart, NoRowsPast, partCopied, partCleared};
 ghost use Rattle.batches.specs.Saving.{FaultOfEach, isClear, answerTo, savedIf, batchEnded};
@@ -35,7 +35,7 @@ use wire::regions::copy_within;
 
 // What opening a batch and closing the gate are refused for.
 pub fn outside_batch(book: &[u8]) -> Checked
-    requires { ⌜ isBook (now book) ≡ true ⌝ }
+    requires { ⌜ isSound (now book) ≡ true ⌝ }
     ensures { λ r. ⌜ FaultOfEach (openBatch ∷ closeGate ∷ []) (bookIn (now (book .entry))) r ⌝ }
 {
     if phase(book) != REGISTRATION {
@@ -49,7 +49,7 @@ pub fn outside_batch(book: &[u8]) -> Checked
 
 // What undo and keep are refused for.
 pub fn inside_batch(book: &[u8]) -> Checked
-    requires { ⌜ isBook (now book) ≡ true ⌝ }
+    requires { ⌜ isSound (now book) ≡ true ⌝ }
     ensures { λ r. ⌜ FaultOfEach (undo ∷ keep ∷ []) (bookIn (now (book .entry))) r ⌝ }
 {
     if phase(book) != REGISTRATION {
@@ -122,7 +122,7 @@ fn outcome_of(fault: Checked) -> Outcome
 
 // Saves the present part and sets the flag, if nothing is wrong.
 fn save_if(clear: bool, book: &mut [u8])
-    requires { ⌜ isBook (now book) ≡ true ⌝ }
+    requires { ⌜ isSound (now book) ≡ true ⌝ }
     ensures { λ _. ⌜ now (book .exit) ≡ savedIf clear (now (book .entry)) ⌝ }
 {
     if clear {
@@ -134,10 +134,10 @@ fn save_if(clear: bool, book: &mut [u8])
 
 // Kind 5: saves the present part.
 pub fn open_batch(book: &mut [u8]) -> Outcome
-    requires { ⌜ isBook (now book) ≡ true ⌝ }
+    requires { ⌜ isSound (now book) ≡ true ⌝ }
     ensures answer { λ o. ⌜ ((q : Request) → o ≡ outcomeOn openBatch (bookIn (now (book .entry))) q) ⌝ }
     ensures bytes { λ _. ⌜ ((q : Request) → now (book .exit) ≡ bookBytes (bookAfter openBatch (bookIn (now (book .entry))) q)) ⌝ }
-    ensures still { λ _. ⌜ isBook (now (book .exit)) ≡ true ⌝ }
+    ensures still { λ _. ⌜ isSound (now (book .exit)) ≡ true ⌝ }
 {
     let fault = outside_batch(book);
     let clear = is_clear(fault);
@@ -147,10 +147,10 @@ pub fn open_batch(book: &mut [u8]) -> Outcome
 
 // Kind 6: puts back what the batch saved, guarantees and rows alike, and gives the number of rows registered since.
 pub fn undo(book: &mut [u8]) -> Outcome
-    requires { ⌜ isBook (now book) ≡ true ⌝ }
+    requires { ⌜ isSound (now book) ≡ true ⌝ }
     ensures answer { λ o. ⌜ ((q : Request) → o ≡ outcomeOn undo (bookIn (now (book .entry))) q) ⌝ }
     ensures bytes { λ _. ⌜ ((q : Request) → now (book .exit) ≡ bookBytes (bookAfter undo (bookIn (now (book .entry))) q)) ⌝ }
-    ensures still { λ _. ⌜ isBook (now (book .exit)) ≡ true ⌝ }
+    ensures still { λ _. ⌜ isSound (now (book .exit)) ≡ true ⌝ }
 {
     if let Checked::Fails(r) = inside_batch(book) {
         return Outcome {
@@ -169,10 +169,10 @@ pub fn undo(book: &mut [u8]) -> Outcome
 
 // Kind 7: keeps the present part, and clears what the batch saved.
 pub fn keep(book: &mut [u8]) -> Outcome
-    requires { ⌜ isBook (now book) ≡ true ⌝ }
+    requires { ⌜ isSound (now book) ≡ true ⌝ }
     ensures answer { λ o. ⌜ ((q : Request) → o ≡ outcomeOn keep (bookIn (now (book .entry))) q) ⌝ }
     ensures bytes { λ _. ⌜ ((q : Request) → now (book .exit) ≡ bookBytes (bookAfter keep (bookIn (now (book .entry))) q)) ⌝ }
-    ensures still { λ _. ⌜ isBook (now (book .exit)) ≡ true ⌝ }
+    ensures still { λ _. ⌜ isSound (now (book .exit)) ≡ true ⌝ }
 {
     if let Checked::Fails(r) = inside_batch(book) {
         return Outcome {

@@ -22,7 +22,7 @@ use Rattle.rules.proofs.Basics.Searches.{each-map, each-nth, each-at}
 use Rattle.rules.proofs.Setups.SetupEntries.{counts-of-setup}
 use Rattle.image.specs.Layout.{setupRoom, rowWidth, partWidths, partSize, presentOffset, rowCountOffset, rowsOffset, rowCountSection, rowsSection}
 use Rattle.image.specs.Image.{partOf, partIn}
-use Rattle.image.specs.Valid.{isBook, bookIn}
+use Rattle.image.specs.Valid.{isSound, bookIn}
 use Rattle.image.specs.Cells.{partAt, rowsFrom}
 use Rattle.image.specs.Tables.{Tabled, SetupTabled}
 use Rattle.image.proofs.Sound.Soundness.{SoundSetup, SoundRow}
@@ -62,7 +62,7 @@ sound-tabled u k r s =
 
 -- ---- bytes that are a book
 
-module _ (s : List ℕ) (h : isBook s ≡ true) where
+module _ (s : List ℕ) (h : isSound s ≡ true) where
   -- the counts are the first bytes
   pub counts-in : countsOf (bookIn s .setup) ≡ countsIn s
   counts-in =
@@ -137,6 +137,6 @@ module _ (s : List ℕ) (h : isBook s ≡ true) where
 -- ---- the operator of a calling account
 
 -- the operator of an account is one of the book's
-pub caller-operator : (s : List ℕ) (a : ℕ) → isBook s ≡ true → IsAccount (bookIn s) a → IsOperator (bookIn s) (operatorOf (bookIn s .setup) a)
+pub caller-operator : (s : List ℕ) (a : ℕ) → isSound s ≡ true → IsAccount (bookIn s) a → IsOperator (bookIn s) (operatorOf (bookIn s .setup) a)
 caller-operator s zero h own = absurd (omega arith)
 caller-operator s (suc i) h own = let x = each-at noAccount i (values-in s h .accounts-sound) (omega arith) in (x .operator-low, x .operator-high)

@@ -10,7 +10,7 @@ use Rattle.rules.specs.declared.Net.{Net}
 use Rattle.rules.specs.Limits.{mostHours}
 use Rattle.rules.specs.Registration.{netOf}
 use Rattle.image.specs.Layout.{presentOffset, netOffset, netWidth}
-use Rattle.image.specs.Valid.{isBook, bookIn}
+use Rattle.image.specs.Valid.{isSound, bookIn}
 use Rattle.book.specs.Members.{IsAccount, IsHour}
 use Rattle.book.specs.Netted.{netted}
 use Rattle.book.proofs.ReadingLaws.{net-near, net-stored}
@@ -21,7 +21,7 @@ use Rattle.book.proofs.ReadingLaws.{net-near, net-stored}
 net-same : (b s c d : ℕ) → b ≡ c → s ≡ d → _≡_ {A = Net} (record { bought = kwh b; sold = kwh s }) (record { bought = kwh c; sold = kwh d })
 net-same b s c d e f = rw (e, f)
 
-module _ (s : List ℕ) (k : isBook s ≡ true) (a h : ℕ) (i : IsAccount (bookIn s) a) (j : IsHour (bookIn s) h)
+module _ (s : List ℕ) (k : isSound s ≡ true) (a h : ℕ) (i : IsAccount (bookIn s) a) (j : IsHour (bookIn s) h)
     (v : ℕ) (q : v ≡ numberAt s (presentOffset + netOffset mostHours a h) netWidth) where
   -- below 2^31 they say what was bought beyond what was sold
   pub net-bought : v < 2 ^ 31 → record { bought = kwh v; sold = kwh 0 } ≡ netted (netOf (bookIn s .part .rows) a h)

@@ -32,9 +32,9 @@ use Rattle.rules.proofs.Setups.SetupShape.{accepted-shape}
 use Rattle.image.specs.Layout.{setupRoom, rowWidth, scheduleWidth, accountWidth, partWidths, partSize, usedSize, bookWidths, phaseOffset, presentOffset, setupSection, phaseSection, presentSection, guaranteesSection}
 use Rattle.image.specs.Image.{rowBytes, scheduleBytes, accountNets, netsBytes, partSections, partBytes, savedBytes, storedSetup, sectionsWith, sections, image}
 use Rattle.image.proofs.Sound.Soundness.{sound-setup}
-use Rattle.image.proofs.Sound.SoundBooks.{sound}
 use Rattle.image.proofs.Writing.Sizes.{Fits, fits, length-row, length-schedule, length-guarantee, length-joined, length-operator-bytes, length-operators, length-stored}
-use Rattle.image.proofs.Keeping.Opened.{opened-valid}
+use Rattle.image.proofs.Writing.BookWrites.{no-asks-zero}
+use Rattle.image.proofs.Keeping.Opened.{opened-sound}
 use Rattle.image.proofs.Setups.SetupAgain.{bytes-again, length-guarantees, accepted-sound}
 use Rattle.book.specs.Fresh.{guaranteesCleared, guaranteesPut}
 
@@ -145,7 +145,7 @@ module _ (s : List ℕ) (b : Bytes s) (h : setupRefusal s ≡ none) where
       bytes-again s b (omega arith) ∙ take-all (setupLength (countsIn s)) s (omega arith)
 
   fit : Fits (opened s)
-  fit = fits (opened s) (sound (opened s) (opened-valid s h))
+  fit = fits (opened s) (opened-sound s h)
 
   pub length-stored-opened : length (storedSetup (setupOf s)) ≡ length s
   length-stored-opened =
@@ -220,7 +220,7 @@ image-opened top size s b h g =
     let a2 = write-whole ws (set s0 setupSection y) w1 phaseSection phaseOffset (le 1 1) (omega arith) (length-le 1 1) (omega arith) in
     let w2 = wide-set ws (set s0 setupSection y) phaseSection (le 1 1) w1 (length-le 1 1) in
     let a3 = write-part ws (set (set s0 setupSection y) phaseSection (le 1 1)) w2 presentSection 0 presentOffset x (omega arith) (omega arith) (omega arith) in
-    rw (a0, a1, a2, a3, part-fresh top (guaranteesOf s) lg, le-zero 1, le-zero 2, slots-none scheduleWidth mostSchedules scheduleBytes length-schedule)
+    rw (a0, a1, a2, a3, part-fresh top (guaranteesOf s) lg, le-zero 1, le-zero 2, slots-none scheduleWidth mostSchedules scheduleBytes length-schedule, no-asks-zero)
 
 -- the same, as it is written: the set-up copied, its guarantees made zero, the phase, and the guarantees copied one by one
 pub opening-writes : (top size : ℕ) (s : List ℕ) → Bytes s → setupRefusal s ≡ none → usedSize top ≤ size

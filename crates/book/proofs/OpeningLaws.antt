@@ -24,10 +24,9 @@ use Rattle.rules.proofs.Checks.Clearing.{clear, clear-applies}
 use Rattle.rules.proofs.Setups.SetupShape.{accepted-shape}
 use Rattle.image.specs.Layout.{setupRoom, phaseOffset, presentOffset}
 use Rattle.image.specs.Valid.{isBook, bookBytes}
-use Rattle.image.proofs.Sound.SoundBooks.{sound}
 use Rattle.image.proofs.Writing.Sizes.{Fits, fits}
 use Rattle.image.proofs.Setups.SetupAgain.{length-guarantees}
-use Rattle.image.proofs.Keeping.Opened.{opened-valid, opened-is-book}
+use Rattle.image.proofs.Keeping.Opened.{opened-sound, opened-is-book}
 use Rattle.book.specs.Fresh.{guaranteesCleared, guaranteesPut}
 use Rattle.book.specs.Answers.{openBytes}
 use Rattle.book.proofs.OpenedBytes.{length-stored-opened, opening-writes}
@@ -79,7 +78,7 @@ module _ (s : List ℕ) (b : Bytes s) (h : setupRefusal s ≡ none) where
   pub openable : {n : Counts} → n ≡ countsIn s → Openable n s
   unfolding opened
   openable e =
-      let f : Fits (opened s) = fits (opened s) (sound (opened s) (opened-valid s h)) in
+      let f : Fits (opened s) = fits (opened s) (opened-sound s h) in
       let l = accepted-shape s h .exact in
       let ls = length-stored-opened s b h in
       let lg = length-guarantees s in

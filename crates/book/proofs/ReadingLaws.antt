@@ -30,12 +30,12 @@ use Rattle.rules.specs.Readings.{position, netChecks, netReadingOf, netReading,
 use Rattle.rules.proofs.Basics.Tests.{and-both, within-true}
 use Rattle.rules.proofs.Checks.Clearing.{clear-applies}
 use Rattle.image.specs.Layout.{presentOffset, netOffset, netWidth}
-use Rattle.image.specs.Valid.{isBook, bookIn}
+use Rattle.image.specs.Valid.{isSound, bookIn}
 use Rattle.image.specs.Tables.{InTable}
 use Rattle.book.specs.Members.{IsAccount, IsHour}
 use Rattle.image.proofs.Writing.Sizes.{fits}
 use Rattle.image.proofs.Setups.SetupRanges.{margins-in-range}
-use Rattle.image.proofs.Round.{book-is-image}
+use Rattle.image.proofs.Round.{sound-is-image}
 use Rattle.image.proofs.Reading.ImageReads.{net-read}
 use Rattle.book.proofs.StateLaws.{book-is-sound}
 use Rattle.book.proofs.BookRows.{counts-in, setup-in, values-in}
@@ -83,7 +83,7 @@ margins-near margins x small h =
 
 -- ---- the net of an account hour of a book
 
-module _ (s : List ℕ) (h : isBook s ≡ true) (a t : ℕ) (i : IsAccount (bookIn s) a) (j : IsHour (bookIn s) t)
+module _ (s : List ℕ) (h : isSound s ≡ true) (a t : ℕ) (i : IsAccount (bookIn s) a) (j : IsHour (bookIn s) t)
   where
     -- it is within the margins
     pub net-near : (sold (bookIn s .part .rows) a t ≤ bought (bookIn s .part .rows) a t + mostEnergy) × (bought (bookIn s .part .rows) a t ≤ sold (bookIn s .part .rows) a t + mostEnergy)
@@ -110,12 +110,12 @@ module _ (s : List ℕ) (h : isBook s ≡ true) (a t : ℕ) (i : IsAccount (book
         let k = net-has-place in
         let at : ℕ = presentOffset + netOffset mostHours a t in
         q
-        ∙ ap (λ (z : List ℕ). numberAt z at 4) (book-is-image mostHours bookSize s h .0)
+        ∙ ap (λ (z : List ℕ). numberAt z at 4) (sound-is-image mostHours bookSize s h .0)
         ∙ net-read mostHours bookSize (bookIn s) (fits (bookIn s) (book-is-sound s h)) a t at (k .account-low) (k .account-high) (k .hour-low) (k .hour-high) refl
 
 -- ---- the readings of a book with these counts
 
-module _ (s : List ℕ) (h : isBook s ≡ true) (n : Counts) (e : n ≡ countsIn s) where
+module _ (s : List ℕ) (h : isSound s ≡ true) (n : Counts) (e : n ≡ countsIn s) where
   abbrev u : Setup
   u = bookIn s .setup
 

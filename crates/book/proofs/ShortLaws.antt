@@ -15,7 +15,7 @@ use Rattle.rules.specs.Limits.{mostEnergy, mostPrice}
 use Rattle.rules.specs.Books.{Setup, estimateAt, operatorOf, accountCount, periods}
 use Rattle.rules.specs.Registration.{confirmed, includesHour, seller, netOf, afterTrade, ofOperator}
 use Rattle.rules.proofs.Basics.Tests.{or-neither}
-use Rattle.image.specs.Valid.{isBook, bookIn}
+use Rattle.image.specs.Valid.{isSound, bookIn}
 use Rattle.image.proofs.Tables.MoneyLaws.{where-most}
 use Rattle.book.specs.Members.{IsAccount, IsHour}
 use Rattle.book.specs.Netted.{netted}
@@ -38,7 +38,7 @@ neither : (x y z : Bool) → x && (y || z) ≡ false → x ≡ true → (y ≡ f
 neither true y z h e = or-neither y z .0 h
 neither false y z h e = let w : false ≡ true = e in (cc, cc)
 
-module _ (s : List ℕ) (k : isBook s ≡ true) (a h : ℕ) (i : IsAccount (bookIn s) a) (j : IsHour (bookIn s) h)
+module _ (s : List ℕ) (k : isSound s ≡ true) (a h : ℕ) (i : IsAccount (bookIn s) a) (j : IsHour (bookIn s) h)
     (net : Net) (e : net ≡ netted (netOf (bookIn s .part .rows) a h)) where
   -- what was read is in range
   pub net-small : (net .bought .0 ≤ mostEnergy) × (net .sold .0 ≤ mostEnergy)

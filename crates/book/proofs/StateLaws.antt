@@ -17,13 +17,13 @@ use Rattle.rules.specs.Calls.{restored}
 use Rattle.rules.proofs.Basics.Searches.{some-of, each-at}
 use Rattle.image.specs.Layout.{rowWidths, rowWidth, phaseOffset, flagOffset, scheduleCountOffset, presentOffset, savedOffset, rowCountOffset, rowOffset}
 use Rattle.image.specs.Image.{rowValues, rowBytes, rowIn, flag}
-use Rattle.image.specs.Valid.{valid, follows, isBook, bookIn, bookBytes}
+use Rattle.image.specs.Valid.{bookOk, follows, isSound, bookIn, bookBytes}
 use Rattle.image.proofs.Sound.SoundBooks.{SoundBook, sound}
 use Rattle.image.proofs.Writing.Sizes.{Fits, fits, row-small}
 use Rattle.image.proofs.Keeping.KeepsRows.{follows-cons}
 use Rattle.image.proofs.Keeping.Keeps.{batch-follows}
 use Rattle.image.proofs.Reading.ImageReads.{phase-read, flag-read, schedule-count-read, row-count-read, saved-row-count-read, row-read, row-value-read}
-use Rattle.image.proofs.Round.{row-back, book-is-image, length-book}
+use Rattle.image.proofs.Round.{row-back, sound-is-image, length-sound}
 use Rattle.book.specs.Members.{IsRow, numberedRow}
 
 -- the flag says whether a batch is open
@@ -38,20 +38,20 @@ follows-longer [] ys h = omega arith
 follows-longer (x ∷ xs) [] h = let z : _≡_ {A = ℕ} 0 1 = cc in absurd (omega arith)
 follows-longer (x ∷ xs) (y ∷ ys) h = let ih = follows-longer xs ys (follows-cons x y xs ys .0 h .1) in omega arith
 
-module _ (s : List ℕ) (h : isBook s ≡ true) where
-  -- bytes that are a book are the image of the book that they say
+module _ (s : List ℕ) (h : isSound s ≡ true) where
+  -- bytes of a sound book are the image of the book that they say
   pub book-image : s ≡ bookBytes (bookIn s)
-  book-image = book-is-image mostHours bookSize s h .0
+  book-image = sound-is-image mostHours bookSize s h .0
 
-  pub book-valid : valid (bookIn s) ≡ true
-  book-valid = book-is-image mostHours bookSize s h .1
+  pub book-ok : bookOk (bookIn s) ≡ true
+  book-ok = sound-is-image mostHours bookSize s h .1
 
   pub book-length : length s ≡ bookSize
-  book-length = length-book mostHours bookSize s h
+  book-length = length-sound mostHours bookSize s h
 
   -- it is sound, and every value fits its place
   pub book-is-sound : SoundBook (bookIn s)
-  book-is-sound = sound (bookIn s) book-valid
+  book-is-sound = sound (bookIn s) book-ok
 
   pub book-fits : Fits (bookIn s)
   book-fits = fits (bookIn s) book-is-sound
@@ -94,7 +94,7 @@ module _ (s : List ℕ) (h : isBook s ≡ true) where
       → length (restored (bookIn s .saved) (bookIn s .part) .rows) ≤ length (bookIn s .part .rows)
   saved-rows-fewer batch =
       let (p, e) = some-of (bookIn s .saved) batch in
-      rw e (follows-longer (p .rows) (bookIn s .part .rows) (batch-follows (bookIn s) p book-valid e))
+      rw e (follows-longer (p .rows) (bookIn s .part .rows) (batch-follows (bookIn s) p book-is-sound e))
 
   -- value k of the row that has i before it
   pub row-value-stands : (i k at : ℕ) → i < length (bookIn s .part .rows) → at ≡ presentOffset + rowOffset i + startOf rowWidths k

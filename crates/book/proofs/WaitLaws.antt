@@ -15,9 +15,10 @@ use Rattle.rules.specs.Basics.{if_then_else_, total, anyPasses, nth}
 use Rattle.rules.specs.Limits.{mostEnergy, mostHours}
 use Rattle.rules.specs.Books.{noRow}
 use Rattle.rules.specs.Registration.{pending, includesHour, alike, waiting}
-use Rattle.rules.proofs.Basics.Totals.{total-append}
+use Rattle.rules.proofs.Basics.Searches.{any-step}
+use Rattle.rules.proofs.Rows.Easing.{waiting-append}
 use Rattle.image.specs.Layout.{presentOffset, rowOffset}
-use Rattle.image.specs.Valid.{isBook, bookIn}
+use Rattle.image.specs.Valid.{isSound, bookIn}
 use Rattle.image.specs.Tables.{cellOf, InTable, Tabled, Raised}
 use Rattle.image.proofs.Tables.SumLaws.{raised-cell, raised-most, zero-at}
 use Rattle.image.proofs.Reading.RowBytes.{row-at}
@@ -119,14 +120,10 @@ waiting-last a rows k table e n f =
 
 -- ---- rows more, behind those that the table holds
 
-waiting-append : (side a h : ℕ) (xs ys : List Row) → waiting side (xs ++ ys) a h ≡ waiting side xs a h + waiting side ys a h
-unfolding waiting
-waiting-append side a h xs ys = total-append _ xs ys
-
 pub waits-with : (a : ℕ) (rows added : List Row) (table : List ℕ) → WaitsOf rows a table → Waiting a (rows ++ added) added table (length rows * mostEnergy)
 waits-with a rows added table w =
     record {
-      sums = λ side h i. omega (arith, w .waits-at side h i, waiting-append side a h rows added);
+      sums = λ side h i. omega (arith, w .waits-at side h i, waiting-append side rows added a h);
       bounded = λ k. omega (arith, w .bounded k);
     }
 
@@ -149,7 +146,7 @@ waits-all a all table n f =
 -- ---- a book
 
 -- the first byte of a row is its proposer, the last its status
-pub own-stands : (s : List ℕ) (h : isBook s ≡ true) (n at : ℕ) → IsRow (bookIn s) n → at ≡ presentOffset + rowOffset (n - 1)
+pub own-stands : (s : List ℕ) (h : isSound s ≡ true) (n at : ℕ) → IsRow (bookIn s) n → at ≡ presentOffset + rowOffset (n - 1)
     → (numberAt s at 1 ≡ numberedRow (bookIn s) n .proposer) × (numberAt s (at + 17) 1 ≡ numberedRow (bookIn s) n .status)
 own-stands s h n at own e =
     let r = sym (row-at s at) ∙ numbered-row-stands s h n at own e in
@@ -183,14 +180,6 @@ own-alike r a counterparty code e d = rw (e, eq-eqb (r .proposer) a d)
 -- ---- whether some row passes a test, number by number: one that was found, or one that is left
 
 module _ (p : Row → Bool) (rows : List Row) where
-  any-step : (x : Row) (xs : List Row) → anyPasses p (x ∷ xs) ≡ p x || anyPasses p xs
-  unfolding anyPasses
-  any-step x xs = go (p x) refl
-    where
-      go : (t : Bool) → p x ≡ t → anyPasses p (x ∷ xs) ≡ t || anyPasses p xs
-      go true e = rw (e, anyPasses)
-      go false e = rw (e, anyPasses)
-
   pub told-next : (n : ℕ) (found here : Bool) → 1 ≤ n → n ≤ length rows → here ≡ p (nth rows n noRow)
       → found || anyPasses p (drop (n - 1) rows) ≡ anyPasses p rows → (found || here) || anyPasses p (drop (n + 1 - 1) rows) ≡ anyPasses p rows
   told-next zero found here low high e h = absurd (omega arith)
@@ -198,7 +187,7 @@ module _ (p : Row → Bool) (rows : List Row) where
       let this : suc i - 1 ≡ i = omega arith in
       let next : suc i + 1 - 1 ≡ suc i = omega arith in
       let split : anyPasses p (drop i rows) ≡ here || anyPasses p (drop (suc i) rows) =
-      rw (drop-cons rows i noRow (omega arith), e) (any-step (getD rows i noRow) (drop (suc i) rows)) in
+      rw (drop-cons rows i noRow (omega arith), e) (any-step p (getD rows i noRow) (drop (suc i) rows)) in
       rw next (or-assoc found here (anyPasses p (drop (suc i) rows)) ∙ ap (λ (b : Bool). found || b) (sym split) ∙ rw this at h)
 
   pub told-last : (k : ℕ) (found : Bool) → k ≡ length rows → found || anyPasses p (drop k rows) ≡ anyPasses p rows → found ≡ anyPasses p rows
@@ -206,12 +195,12 @@ module _ (p : Row → Bool) (rows : List Row) where
   told-last k found e h = sym (or-false found) ∙ rw (e, drop-length rows) at h
 
 -- a side and an hour of the set-up have their cell
-pub side-hour : (s : List ℕ) → isBook s ≡ true → (side h : ℕ) → 1 ≤ side → side ≤ 2 → IsHour (bookIn s) h → Waits side h
+pub side-hour : (s : List ℕ) → isSound s ≡ true → (side h : ℕ) → 1 ≤ side → side ≤ 2 → IsHour (bookIn s) h → Waits side h
 side-hour s b side h low high i =
     record { side-low = low; side-high = high; hour-low = i .0; hour-high = omega (arith, i .1, book-is-sound s b .setup-sound .hours-high) }
 
 -- what is read off a table of the account's pending sums among the rows
-pub tabled-netted : (s : List ℕ) → isBook s ≡ true → (rows : List Row) (a h : ℕ) (table : List ℕ) → WaitsOf rows a table → IsHour (bookIn s) h
+pub tabled-netted : (s : List ℕ) → isSound s ≡ true → (rows : List Row) (a h : ℕ) (table : List ℕ) → WaitsOf rows a table → IsHour (bookIn s) h
     → tabledHour rows table a h ≡ nettedHour rows a h
 tabled-netted s b rows a h table w i =
     rw (w .waits-at 1 h (side-hour s b 1 h (omega arith) (omega arith) i), w .waits-at 2 h (side-hour s b 2 h (omega arith) (omega arith) i))

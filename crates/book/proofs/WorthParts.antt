@@ -23,7 +23,7 @@ use Rattle.rules.proofs.Basics.Searches.{each-map}
 use Rattle.rules.proofs.Basics.Tests.{within-true}
 use Rattle.rules.proofs.Basics.Totals.{total-zero, total-last, total-upTo}
 use Rattle.rules.proofs.Basics.Differences.{lt-or-ge}
-use Rattle.image.specs.Valid.{isBook, bookIn}
+use Rattle.image.specs.Valid.{isSound, bookIn}
 use Rattle.image.proofs.Sound.Soundness.{SoundRow}
 use Rattle.image.proofs.Tables.MoneyLaws.{price-most}
 use Rattle.book.specs.Members.{IsAccount}
@@ -34,7 +34,7 @@ use Rattle.book.proofs.WorthLaws.{exposure-split}
 
 -- ---- prices
 
-module _ (s : List ℕ) (k : isBook s ≡ true) where
+module _ (s : List ℕ) (k : isSound s ≡ true) where
   pub hours-in : countsIn s .hours ≡ periods (bookIn s .setup)
   hours-in = sym (ap (λ (n : Counts). n .hours) (counts-in s k))
 
@@ -122,7 +122,7 @@ pub named-done : (u : Setup) (operators : List ℕ) (n : ℕ) → accountCount u
 named-done u operators n l t = record { whole = t .whole; operator = λ a low high. t .operator a low (omega arith) }
 
 -- an account of a book has its entry
-pub operator-listed : (s operators : List ℕ) (a : ℕ) → isBook s ≡ true → AccountOperators (bookIn s .setup) operators → IsAccount (bookIn s) a
+pub operator-listed : (s operators : List ℕ) (a : ℕ) → isSound s ≡ true → AccountOperators (bookIn s .setup) operators → IsAccount (bookIn s) a
     → a < length operators
 operator-listed s operators a k t own = omega (arith, t .whole, own .1, book-is-sound s k .setup-sound .accounts-high)
 
@@ -185,8 +185,8 @@ spanned s sums operators r i t p =
     let whole = span-sum (λ h. estimateAt u h .0) (r .first) (r .last) (periods u) (k .0) (k .1) (k .2) in
     let end = i .price-sums .sum (r .last) (k .2) in
     let start = i .price-sums .sum (r .first - 1) (omega arith) in
-    let most = prices-most u (cheap-in s (i .is-book)) (r .last) in
-    let short = book-is-sound s (i .is-book) .setup-sound .hours-high in
+    let most = prices-most u (cheap-in s (i .is-sound)) (r .last) in
+    let short = book-is-sound s (i .is-sound) .setup-sound .hours-high in
     record {
       priced = record {
         whole = i .price-sums .whole;
@@ -281,7 +281,7 @@ module _ (f : Row → ℕ) where
 -- ---- the exposure
 
 -- it is the sum of three parts, added one after the other
-pub exposure-joined : (s : List ℕ) → isBook s ≡ true → (o : ℕ) (added : List Row) → Each (TradeInRange (bookIn s .setup)) added → (below waits own two three : ℕ)
+pub exposure-joined : (s : List ℕ) → isSound s ≡ true → (o : ℕ) (added : List Row) → Each (TradeInRange (bookIn s .setup)) added → (below waits own two three : ℕ)
     → below ≡ shortWorth (bookIn s .setup) (netWith (bookIn s .part .rows) added) o → waits ≡ total (saleWorth (bookIn s .setup) o) (bookIn s .part .rows)
     → own ≡ total (saleWorth (bookIn s .setup) o) added → two ≡ below + waits → three ≡ two + own
     → three ≡ exposureWith (bookIn s .setup) (bookIn s .part .rows) added o
@@ -297,6 +297,6 @@ pub trade-quantity : (u : Setup) {added : List Row} → Each (TradeInRange u) ad
 trade-quantity u t = each-map (λ r w. w .quantity-high) t
 
 -- the exposure at the set-up that the bytes say
-pub exposure-read : (s : List ℕ) → isBook s ≡ true → (o m : ℕ) → m ≡ exposure (bookIn s .setup) (bookIn s .part .rows) o
+pub exposure-read : (s : List ℕ) → isSound s ≡ true → (o m : ℕ) → m ≡ exposure (bookIn s .setup) (bookIn s .part .rows) o
     → m ≡ exposure (setupOf s) (bookIn s .part .rows) o
 exposure-read s k o m e = e ∙ ap (λ (u : Setup). exposure u (bookIn s .part .rows) o) (setup-in s k)

@@ -11,9 +11,9 @@ use Rattle.rules.specs.declared.Refusal.{Refusal}
 use Rattle.rules.specs.Verdicts.{firstToApply, outcomeOf}
 use Rattle.rules.specs.Books.{Book, countsOf}
 use Rattle.rules.specs.Requests.{Kind, kindNumber, faultyBit, sameAccounts, unlessRefused}
-use Rattle.rules.specs.Calls.{stateChecks, next, given}
+use Rattle.rules.specs.Calls.{stateChecks, changed, given}
 
--- what the state refuses it for, if anything: 11 to 20
+-- what the state refuses it for, if anything: 11 to 20, and 23
 unfoldable pub decided : Kind → Book → Request → Option Refusal
 decided k b q = firstToApply (stateChecks b k (q ∷ []))
 
@@ -21,9 +21,9 @@ decided k b q = firstToApply (stateChecks b k (q ∷ []))
 unfoldable pub outcomeOn : Kind → Book → Request → Outcome
 outcomeOn k b q = outcomeOf (decided k b q) (given k b (q ∷ []))
 
--- the book after it: a refusal changes nothing
+-- the book after it, before asks are cleared: a refusal changes nothing
 unfoldable pub bookAfter : Kind → Book → Request → Book
-bookAfter k b q = unlessRefused (decided k b q) b (next k b (q ∷ []))
+bookAfter k b q = unlessRefused (decided k b q) b (changed k b (q ∷ []))
 
 -- a request of that kind whose fields are in range of the book
 pub record Ready (k : Kind) (b : Book) (q : Request) : Type 0 where

@@ -12,7 +12,7 @@ use Rattle.rules.specs.Basics.{if_then_else_, total, upTo, Each}
 use Rattle.rules.specs.Limits.{mostEnergy, mostPrice, mostHours, mostAccounts}
 use Rattle.rules.specs.Books.{Setup, Book, estimateAt, operatorOf, accountCount, periods, sellingSide}
 use Rattle.rules.specs.Registration.{pending, includesHour, accountHour, afterTrade, afterTrades, ofOperator}
-use Rattle.image.specs.Valid.{isBook, bookIn}
+use Rattle.image.specs.Valid.{isSound, bookIn}
 use Rattle.book.specs.declared.worth.Added.{Added}
 use Rattle.book.specs.declared.worth.Added.the-variants.{Nothing, One}
 
@@ -113,7 +113,7 @@ mostSaleWorth = mostEnergy * mostPriceSum
 
 -- what the pending sales are worked out from: bytes that are a book, the sums of its estimated prices, and the operators of its accounts
 pub record SaleInputs (s sums operators : List ℕ) : Type 0 where
-  pub is-book : isBook s ≡ true
+  pub is-sound : isSound s ≡ true
   pub price-sums : PriceSums (bookIn s .setup) sums
   pub account-operators : AccountOperators (bookIn s .setup) operators
 

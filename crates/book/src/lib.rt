@@ -1,4 +1,4 @@
-// A book that is known to be one, read from its bytes, and opening.
+// A sound book, read from its bytes, and opening.
 pub mod opening;
 pub mod positions;
 pub mod readings;

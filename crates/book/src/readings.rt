@@ -1,4 +1,4 @@
-// The readings: a net position and an exposure, of bytes that are known to be a book.
+// The readings: a net position and an exposure, of a sound book.
 ghost use mathlib.Core.Path.{_≡_};
 ghost use mathlib.Core.Bool.{true, not};
 ghost use Prim.Native.Nat.{_-_, _^_};
@@ -7,7 +7,7 @@ ghost use Rattle.units.specs.Units.{kwh};
 ghost use Rattle.rules.specs.declared.Position.the-variants.{Long, Short};
 ghost use Rattle.rules.specs.Basics.{if_then_else_, within};
 ghost use Rattle.rules.specs.Readings.{netReading, exposureReading};
-ghost use Rattle.image.specs.Valid.{isBook, bookIn};
+ghost use Rattle.image.specs.Valid.{isSound, bookIn};
 use crate::positions::stored_net;
 use crate::worth::Added;
 use crate::worth::exposure_with;
@@ -39,7 +39,7 @@ fn position_of(stored: u32) -> Position
 
 // The net position of an account in an hour.
 pub fn net_in(book: &[u8], account: u8, hour: u8) -> NetReading
-    requires { ⌜ isBook (now book) ≡ true ⌝ }
+    requires { ⌜ isSound (now book) ≡ true ⌝ }
     ensures { λ r. ⌜ r ≡ netReading (bookIn (now (book .entry))) account hour ⌝ }
 {
     let n = counts(book);
@@ -54,7 +54,7 @@ pub fn net_in(book: &[u8], account: u8, hour: u8) -> NetReading
 
 // The exposure of an operator.
 pub fn exposure_in(book: &[u8], operator: u8) -> ExposureReading
-    requires { ⌜ isBook (now book) ≡ true ⌝ }
+    requires { ⌜ isSound (now book) ≡ true ⌝ }
     ensures { λ r. ⌜ r ≡ exposureReading (bookIn (now (book .entry))) operator ⌝ }
 {
     let n = counts(book);

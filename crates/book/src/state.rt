@@ -8,7 +8,7 @@ ghost use Rattle.rules.specs.Limits.{mostRows, mostSchedules, mostHours, mostOp
 ghost use Rattle.rules.specs.Books.{operatorOf};
 ghost use Rattle.rules.specs.Calls.{restored};
 ghost use Rattle.image.specs.Layout.{presentOffset, rowOffset, netOffset};
-ghost use Rattle.image.specs.Valid.{isBook, bookIn};
+ghost use Rattle.image.specs.Valid.{isSound, bookIn};
 ghost use Rattle.image.specs.Tables.{InTable};
 ghost use Rattle.book.specs.Members.{IsAccount, IsOperator};
 use image::layout::ACCOUNT_NETS;
@@ -28,7 +28,7 @@ use wire::numbers::get_u16;
 
 // The phase: 1 registration, 2 schedules, 3 settled.
 pub fn phase(book: &[u8]) -> u8
-    requires { ⌜ isBook (now book) ≡ true ⌝ }
+    requires { ⌜ isSound (now book) ≡ true ⌝ }
     ensures { λ r. ⌜ r ≡ bookIn (now (book .entry)) .phase ⌝ }
 {
     get_u8(book, PHASE_OFFSET)
@@ -36,7 +36,7 @@ pub fn phase(book: &[u8]) -> u8
 
 // Whether a batch is open.
 pub fn batch_open(book: &[u8]) -> bool
-    requires { ⌜ isBook (now book) ≡ true ⌝ }
+    requires { ⌜ isSound (now book) ≡ true ⌝ }
     ensures { λ r. ⌜ r ≡ isSome (bookIn (now (book .entry)) .saved) ⌝ }
 {
     get_u8(book, FLAG_OFFSET) == 1
@@ -44,7 +44,7 @@ pub fn batch_open(book: &[u8]) -> bool
 
 // How many rows there are, withdrawn ones too.
 pub fn row_count(book: &[u8]) -> u16
-    requires { ⌜ isBook (now book) ≡ true ⌝ }
+    requires { ⌜ isSound (now book) ≡ true ⌝ }
     ensures meaning { λ r. ⌜ r ≡ length (bookIn (now (book .entry)) .part .rows) ⌝ }
     ensures bounded { λ r. ⌜ r ≤ mostRows ⌝ }
 {
@@ -53,7 +53,7 @@ pub fn row_count(book: &[u8]) -> u16
 
 // How many schedules there are.
 pub fn schedule_count(book: &[u8]) -> u16
-    requires { ⌜ isBook (now book) ≡ true ⌝ }
+    requires { ⌜ isSound (now book) ≡ true ⌝ }
     ensures meaning { λ r. ⌜ r ≡ length (bookIn (now (book .entry)) .schedules) ⌝ }
     ensures bounded { λ r. ⌜ r ≤ mostSchedules ⌝ }
 {
@@ -62,7 +62,7 @@ pub fn schedule_count(book: &[u8]) -> u16
 
 // How many rows the open batch saved: at most as many as there are now.
 pub fn saved_row_count(book: &[u8]) -> u16
-    requires { ⌜ isBook (now book) ≡ true ⌝ }
+    requires { ⌜ isSound (now book) ≡ true ⌝ }
     requires { ⌜ isSome (bookIn (now book) .saved) ≡ true ⌝ }
     ensures meaning { λ r. ⌜ (let b = bookIn (now (book .entry)) in r ≡ length (restored (b .saved) (b .part) .rows)) ⌝ }
     ensures bounded { λ r. ⌜ r ≤ length (bookIn (now (book .entry)) .part .rows) ⌝ }
@@ -89,7 +89,7 @@ pub fn net_offset(account: u8, hour: u8) -> usize
 
 // The operator of an account.
 pub fn operator_of(book: &[u8], number: u8) -> u8
-    requires { ⌜ (isBook (now book) ≡ true) × IsAccount (bookIn (now book)) number ⌝ }
+    requires { ⌜ (isSound (now book) ≡ true) × IsAccount (bookIn (now book)) number ⌝ }
     ensures meaning { λ r. ⌜ r ≡ operatorOf (bookIn (now (book .entry)) .setup) number ⌝ }
     ensures inside { λ r. ⌜ IsOperator (bookIn (now (book .entry))) r ⌝ }
     ensures bounded { λ r. ⌜ r ≤ mostOperators ⌝ }

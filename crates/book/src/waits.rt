@@ -6,7 +6,7 @@ ghost use lib.ListN.{length, getD};
 ghost use Rattle.rules.specs.Basics.{anyPasses};
 ghost use Rattle.rules.specs.Limits.{mostEnergy, mostHours};
 ghost use Rattle.rules.specs.Registration.{alike};
-ghost use Rattle.image.specs.Valid.{isBook, bookIn};
+ghost use Rattle.image.specs.Valid.{isSound, bookIn};
 ghost use Rattle.image.specs.Tables.{Tabled, Raised};
 ghost use Rattle.book.specs.Members.{IsAccount, IsHour, IsRow, numberedRow};
 ghost use Rattle.book.specs.Waits.{waitCell, Waits, WaitsOf, RoomInWaits, noWaits, WaitAdded, tabledHour, waitsSize};
@@ -57,7 +57,7 @@ fn add_own(
     counterparty: u8,
     code: u64,
 ) -> bool
-    requires { ⌜ RoomInWaits (now table) mostEnergy × (isBook (now book) ≡ true) × IsRow (bookIn (now book)) number ⌝ }
+    requires { ⌜ RoomInWaits (now table) mostEnergy × (isSound (now book) ≡ true) × IsRow (bookIn (now book)) number ⌝ }
     ensures waits { λ _. ⌜ WaitAdded (now (table .entry)) (now (table .exit)) (numberedRow (bookIn (now (book .entry))) number) account ⌝ }
     ensures tells { λ r. ⌜ r ≡ alike account counterparty code (numberedRow (bookIn (now (book .entry))) number) ⌝ }
 {
@@ -82,7 +82,7 @@ pub fn no_waits() -> [u32; WAITS_SIZE]
 
 // Adds the pending rows that the account proposed to a table of no rows. Answers whether one of them has this counterparty and code.
 pub fn fill_waits(table: &mut [u32], book: &[u8], account: u8, counterparty: u8, code: u64) -> bool
-    requires { ⌜ (now table ≡ noWaits) × (isBook (now book) ≡ true) ⌝ }
+    requires { ⌜ (now table ≡ noWaits) × (isSound (now book) ≡ true) ⌝ }
     ensures waits { λ _. ⌜ WaitsOf (bookIn (now (book .entry)) .part .rows) account (now (table .exit)) ⌝ }
     ensures tells { λ r. ⌜ r ≡ anyPasses (alike account counterparty code) (bookIn (now (book .entry)) .part .rows) ⌝ }
 {
@@ -108,7 +108,7 @@ fn wait_at(waits: &[u32], side: u8, hour: u8) -> u32
 
 // The net position of an account in an hour, from the book, with its pending sales and purchases, from the table.
 pub fn account_hour(book: &[u8], waits: &[u32], account: u8, hour: u8) -> AccountHour
-    requires { ⌜ (isBook (now book) ≡ true) × (length (now waits) ≡ waitsSize) ⌝ }
+    requires { ⌜ (isSound (now book) ≡ true) × (length (now waits) ≡ waitsSize) ⌝ }
     requires { ⌜ IsAccount (bookIn (now book)) account × IsHour (bookIn (now book)) hour ⌝ }
     ensures { λ r. ⌜ r ≡ tabledHour (bookIn (now (book .entry)) .part .rows) (now (waits .entry)) account hour ⌝ }
 {

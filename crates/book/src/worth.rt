@@ -7,7 +7,7 @@ ghost use Rattle.rules.specs.Basics.{total, Each};
 ghost use Rattle.rules.specs.Limits.{mostEnergy, mostPrice, mostAccounts, mostRows};
 ghost use Rattle.rules.specs.Books.{estimateAt};
 ghost use Rattle.rules.specs.Registration.{exposureWith};
-ghost use Rattle.image.specs.Valid.{isBook, bookIn};
+ghost use Rattle.image.specs.Valid.{isSound, bookIn};
 ghost use Rattle.book.specs.Members.{IsAccount, IsHour, IsRow, numberedRow};
 ghost use Rattle.book.specs.Worth.{AccountOperators, addedRows, QuantityInRange, shortOf, shortAfter, shortWorth, saleWorth, PriceSums, PricedSpan, SaleInputs, TradeInRange, accountShort, shortShare, netsWith, operatorsSize, sumsSize, mostShort, mostShortWorth, mostSaleWorth};
 use crate::positions::net_at;
@@ -47,7 +47,7 @@ const PRICE_SUMS: usize = PERIODS + 1;
 
 // Puts the operator of each account, by the account's number.
 fn fill_operators(operators: &mut [u8], book: &[u8])
-    requires { ⌜ (length (now operators) ≡ operatorsSize) × (isBook (now book) ≡ true) ⌝ }
+    requires { ⌜ (length (now operators) ≡ operatorsSize) × (isSound (now book) ≡ true) ⌝ }
     ensures { λ _. ⌜ AccountOperators (bookIn (now (book .entry)) .setup) (now (operators .exit)) ⌝ }
 {
     let n = counts(book);
@@ -60,7 +60,7 @@ fn fill_operators(operators: &mut [u8], book: &[u8])
 
 // The operators of all accounts, side by side: entry a is that of account a.
 pub fn account_operators(book: &[u8]) -> [u8; ACCOUNT_OPERATORS]
-    requires { ⌜ isBook (now book) ≡ true ⌝ }
+    requires { ⌜ isSound (now book) ≡ true ⌝ }
     ensures { λ r. ⌜ AccountOperators (bookIn (now (book .entry)) .setup) r ⌝ }
 {
     let mut operators = [0u8; ACCOUNT_OPERATORS];
@@ -72,7 +72,7 @@ pub fn account_operators(book: &[u8]) -> [u8; ACCOUNT_OPERATORS]
 
 // The estimated price of an hour.
 fn price(book: &[u8], hour: u8) -> CentsPerMwh
-    requires { ⌜ (isBook (now book) ≡ true) × IsHour (bookIn (now book)) hour ⌝ }
+    requires { ⌜ (isSound (now book) ≡ true) × IsHour (bookIn (now book)) hour ⌝ }
     ensures meaning { λ r. ⌜ r ≡ estimateAt (bookIn (now (book .entry)) .setup) hour ⌝ }
     ensures bounded { λ r. ⌜ r .0 ≤ mostPrice ⌝ }
 {
@@ -81,7 +81,7 @@ fn price(book: &[u8], hour: u8) -> CentsPerMwh
 
 // Puts the sums of the estimated prices, hour by hour.
 fn fill_prices(sums: &mut [u64], book: &[u8])
-    requires { ⌜ (length (now sums) ≡ sumsSize) × (isBook (now book) ≡ true) ⌝ }
+    requires { ⌜ (length (now sums) ≡ sumsSize) × (isSound (now book) ≡ true) ⌝ }
     ensures { λ _. ⌜ PriceSums (bookIn (now (book .entry)) .setup) (now (sums .exit)) ⌝ }
 {
     let n = counts(book);
@@ -96,7 +96,7 @@ fn fill_prices(sums: &mut [u64], book: &[u8])
 
 // The sums of the estimated prices: entry k is that of the hours 1 to k.
 pub fn price_sums(book: &[u8]) -> [u64; PRICE_SUMS]
-    requires { ⌜ isBook (now book) ≡ true ⌝ }
+    requires { ⌜ isSound (now book) ≡ true ⌝ }
     ensures { λ r. ⌜ PriceSums (bookIn (now (book .entry)) .setup) r ⌝ }
 {
     let mut sums = [0u64; PRICE_SUMS];
@@ -195,7 +195,7 @@ fn short_with(net: Net, account: u8, hour: u8, trade: Row) -> Kwh
 
 // What of an account's net position in an hour lies below zero, with what is to be added.
 fn short_at(book: &[u8], account: u8, hour: u8, added: Added) -> Kwh
-    requires { ⌜ (let b = bookIn (now book) in (isBook (now book) ≡ true) × IsAccount b account × IsHour b hour × QuantityInRange added) ⌝ }
+    requires { ⌜ (let b = bookIn (now book) in (isSound (now book) ≡ true) × IsAccount b account × IsHour b hour × QuantityInRange added) ⌝ }
     ensures meaning { λ r. ⌜ r .0 ≡ shortOf (netsWith (bookIn (now (book .entry))) added account hour) ⌝ }
     ensures bounded { λ r. ⌜ r .0 ≤ mostShort ⌝ }
 {
@@ -208,7 +208,7 @@ fn short_at(book: &[u8], account: u8, hour: u8, added: Added) -> Kwh
 
 // What of an account's net positions in all hours lies below zero, at estimated prices.
 fn account_short(book: &[u8], account: u8, added: Added) -> MilliCents
-    requires { ⌜ (isBook (now book) ≡ true) × IsAccount (bookIn (now book)) account × QuantityInRange added ⌝ }
+    requires { ⌜ (isSound (now book) ≡ true) × IsAccount (bookIn (now book)) account × QuantityInRange added ⌝ }
     ensures meaning { λ r. ⌜ (let b = bookIn (now (book .entry)) in r .0 ≡ accountShort (b .setup) (netsWith b added) account) ⌝ }
     ensures bounded { λ r. ⌜ r .0 ≤ mostShortWorth ⌝ }
 {
@@ -226,7 +226,7 @@ fn account_short(book: &[u8], account: u8, added: Added) -> MilliCents
 
 // What the account adds to the operator's sum of these: nothing where it is another operator's.
 fn short_share(book: &[u8], operators: &[u8], account: u8, operator: u8, added: Added) -> MilliCents
-    requires { ⌜ (let b = bookIn (now book) in (isBook (now book) ≡ true) × AccountOperators (b .setup) (now operators) × IsAccount b account × QuantityInRange added) ⌝ }
+    requires { ⌜ (let b = bookIn (now book) in (isSound (now book) ≡ true) × AccountOperators (b .setup) (now operators) × IsAccount b account × QuantityInRange added) ⌝ }
     ensures meaning { λ r. ⌜ (let b = bookIn (now (book .entry)) in r .0 ≡ shortShare (b .setup) (netsWith b added) operator account) ⌝ }
     ensures bounded { λ r. ⌜ r .0 ≤ mostShortWorth ⌝ }
 {
@@ -238,7 +238,7 @@ fn short_share(book: &[u8], operators: &[u8], account: u8, operator: u8, added: 
 
 // What of the net positions of all the operator's accounts lies below zero, at estimated prices.
 fn short_worth(book: &[u8], operators: &[u8], operator: u8, added: Added) -> MilliCents
-    requires { ⌜ (isBook (now book) ≡ true) × AccountOperators (bookIn (now book) .setup) (now operators) × QuantityInRange added ⌝ }
+    requires { ⌜ (isSound (now book) ≡ true) × AccountOperators (bookIn (now book) .setup) (now operators) × QuantityInRange added ⌝ }
     ensures meaning { λ r. ⌜ (let b = bookIn (now (book .entry)) in r .0 ≡ shortWorth (b .setup) (netsWith b added) operator) ⌝ }
     ensures bounded { λ r. ⌜ r .0 ≤ mostAccounts * mostShortWorth ⌝ }
 {
@@ -256,7 +256,7 @@ fn short_worth(book: &[u8], operators: &[u8], operator: u8, added: Added) -> Mil
 
 // The exposure of an operator, with what is to be added.
 pub fn exposure_with(book: &[u8], operator: u8, added: Added) -> MilliCents
-    requires { ⌜ (isBook (now book) ≡ true) × Each (TradeInRange (bookIn (now book) .setup)) (addedRows added) ⌝ }
+    requires { ⌜ (isSound (now book) ≡ true) × Each (TradeInRange (bookIn (now book) .setup)) (addedRows added) ⌝ }
     ensures meaning { λ r. ⌜ (let b = bookIn (now (book .entry)) in r .0 ≡ exposureWith (b .setup) (b .part .rows) (addedRows added) operator) ⌝ }
     ensures bounded { λ r. ⌜ r .0 < 2 ^ 63 ⌝ }
 {

@@ -1,5 +1,5 @@
 // One case: what the proved functions say of the bytes in the room, of which the first 49,152 are the book.
-use audit::whole::is_book;
+use asks::whole::is_book;
 use book::opening::open;
 use day::interface::exposure;
 use day::interface::net;

@@ -9,13 +9,14 @@ use Rattle.rules.specs.Books.{Book}
 use Rattle.rules.specs.Calls.{Call, carried, step}
 use Rattle.rules.proofs.Lists.Carrying.{Carries}
 use Rattle.image.specs.Valid.{valid, isBook, bookBytes, bookIn}
+use Rattle.image.proofs.Sound.SoundBooks.{book-sound, valid-sound}
 use Rattle.image.proofs.Round.{decode-image, image-is-book}
 use Rattle.image.proofs.Keeping.Keeps.{keeps-valid}
 use Rattle.day.specs.Answers.{callAnswer}
 
 module _ (b : Book) (v : valid b ≡ true) where
   pub image-says : bookIn (bookBytes b) ≡ b
-  image-says = decode-image mostHours bookSize b v
+  image-says = decode-image mostHours bookSize b (book-sound b (valid-sound b v))
 
   pub image-stands : isBook (bookBytes b) ≡ true
   image-stands = image-is-book mostHours bookSize b (omega arith) v

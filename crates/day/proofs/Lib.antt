@@ -3,11 +3,11 @@
 pub mod Images
 -- AnswerLaws: a call on any bytes; a refused one changes no lent byte.
 pub mod AnswerLaws
--- Stages: what a call on the bytes of a book answers, by what it is refused for.
+-- Stages: what a call on the bytes of a sound book answers before asks are cleared, by what it is refused for.
 pub mod Stages
--- RequestLaws: what a request of kinds 1 to 9 is answered on a book, whatever record says it.
+-- RequestLaws: what a request of any single kind but settle is answered on a book, whatever record says it.
 pub mod RequestLaws
--- CallLaws: what a call on a book answers, by what its record reads as.
+-- CallLaws: what a call on a book answers, by what its record reads as, and once asks are cleared.
 pub mod CallLaws
 -- SettleLaws: what an accepted settle writes, and that its figures are read back.
 pub mod SettleLaws
@@ -17,5 +17,7 @@ pub mod Readings
 pub mod Refusals
 -- StripLaws: a strip of one record answers as that register, and an accepted strip leaves what its registers in turn would leave.
 pub mod StripLaws
+-- AskLaws: an ask is answered as the register of its fields.
+pub mod AskLaws
 -- Theorem: demand 3 whole, and that no call of such a list answers 1.
 pub mod Theorem

@@ -13,7 +13,7 @@ use Rattle.rules.specs.Basics.{if_then_else_, every, Each, nil, cons}
 use Rattle.rules.specs.Verdicts.{Check, _⇒_, _⇒↑_, applies, firstToApply, refusalNumbers, numbers}
 use Rattle.rules.specs.Books.{Book}
 use Rattle.rules.specs.Requests.{Kind, readChecks, isStrip, stripRows, rowChecks, stripChecks}
-use Rattle.rules.specs.Calls.{Call, callKind, callRequests, bytesChecks, inputChecks, stateChecks, checks, refusal, answer, step}
+use Rattle.rules.specs.Calls.{Call, callKind, callRequests, checkedAs, bytesChecks, inputChecks, stateChecks, checks, refusal, answer, step}
 use Rattle.rules.specs.Lists.{Run, runs}
 use Rattle.rules.proofs.Basics.Searches.{each-append, each-any, each-image, every-each}
 use Rattle.rules.proofs.Checks.Passed.{single-requests}
@@ -33,7 +33,7 @@ rank (o ⇒↑ r) = refusalNumbers (r (found o)) .0
 
 -- the checks of the state, by their numbers
 abbrev stateRanks : List ℕ
-stateRanks = 11 ∷ 12 ∷ 13 ∷ 14 ∷ 22 ∷ 15 ∷ 16 ∷ 16 ∷ 17 ∷ 18 ∷ 19 ∷ 20 ∷ []
+stateRanks = 11 ∷ 12 ∷ 13 ∷ 23 ∷ 14 ∷ 22 ∷ 15 ∷ 16 ∷ 16 ∷ 17 ∷ 18 ∷ 19 ∷ 20 ∷ []
 
 -- every check of a call with a single record, by its number
 pub ranks-of-a-record : (b : Book) (c : Call) → isStrip (c .bytes) ≡ false
@@ -95,8 +95,8 @@ unfolding refusal checks
 refusal-above b c r e =
     applies-above
     (each-append
-    (each-append (bytes-above (c .bytes)) (input-above b c (callKind c) (callRequests c)))
-    (state-above b (callKind c) (callRequests c)))
+    (each-append (bytes-above (c .bytes)) (input-above b c (checkedAs (callKind c)) (callRequests c)))
+    (state-above b (checkedAs (callKind c)) (callRequests c)))
     r e
 
 step-not-one : (b : Book) (c : Call) → numbers (step b c .outcome) .0 ≡ 1 → ⊥

@@ -28,6 +28,7 @@ use Rattle.rules.proofs.Checks.Passed.{passed-6-prices}
 use Rattle.rules.proofs.Lists.CallLists.{accepts-passed}
 use Rattle.rules.proofs.Lists.Batches.{the-kind}
 use Rattle.image.specs.Valid.{valid}
+use Rattle.image.proofs.Sound.SoundBooks.{book-sound, valid-sound}
 use Rattle.image.proofs.Tables.MoneyLaws.{mostMoney, settled-gained-most, settled-lost-most}
 
 each-made : {A B : Type 0} {P : B → Type 0} (f : A → B) (xs : List A) → ((x : A) → P (f x)) → Each P (map f xs)
@@ -85,10 +86,11 @@ module _ (b : Book) (c : Call) where
       pub balances-small : Each (λ z. natAbs z ≤ mostMoney) (map balanceFigure (worked .balances))
       unfolding balances
       balances-small =
+          let ok = book-sound b (valid-sound b v) in
           let js = settled (b .setup) (netOf (b .part .rows)) lentPrices (b .schedules) in
           let figure : ℕ → ℤ = λ o. balanceFigure (balance (b .setup) (netOf (b .part .rows)) lentPrices js o) in
           rw map-map (each-made {P = λ z. natAbs z ≤ mostMoney} figure (upTo (operatorCount (b .setup))) (λ o.
-          difference-most _ _ mostMoney (settled-gained-most b v lentPrices prices-in-range o) (settled-lost-most b v lentPrices prices-in-range o)))
+          difference-most _ _ mostMoney (settled-gained-most b ok lentPrices prices-in-range o) (settled-lost-most b ok lentPrices prices-in-range o)))
 
       -- the figures in the buffer sum to what the balances sum to
       pub written-total : sumOf (figuresIn (operatorCount (b .setup)) (step b c .balances)) ≡ sumOf (map balanceFigure (worked .balances))

@@ -15,17 +15,19 @@ use Rattle.rules.specs.Requests.{settle}
 use Rattle.rules.specs.Registration.{netOf, figure}
 use Rattle.rules.specs.Settlement.{pricesIn, registeredTotal, figuresIn}
 use Rattle.rules.specs.Calls.{Call, Answer, step}
-use Rattle.rules.specs.Lists.{runs, after, acceptsAs, UndoneBatch, CutOut}
+use Rattle.rules.specs.Lists.{runs, after, acceptsAs, UndoneBatch, EmptyKeptBatch, Matched}
+use Rattle.rules.specs.Asks.{AskCommitted, CommittedAsAsked}
 use Rattle.rules.specs.Ledger.{newLedger, fedAll, ledgerAfter, ledgerNet}
 use Rattle.rules.proofs.Checks.Clearing.{clear, clear-applies}
 use Rattle.rules.proofs.Ledgers.Agreement.{day-agrees}
 use Rattle.rules.proofs.Ledgers.LedgerReadings.{net-is-the-ledgers, hour-is-the-ledgers, exposure-is-the-ledgers, available-is-the-ledgers}
 use Rattle.rules.proofs.Ledgers.LedgerDay.{dayBook, dayLedger, day-setup, day-settled}
 use Rattle.rules.proofs.Settling.SettledTotal.{Owned}
-use Rattle.rules.proofs.Basics.Searches.{each-map}
-use Rattle.rules.proofs.Lists.CallLists.{cut-out}
-use Rattle.rules.proofs.Lists.Batches.{undo-restores}
-use Rattle.rules.proofs.Lists.Carrying.{runs-carried, after-carried, heard-carried, accepts-carried, undone-carried}
+use Rattle.rules.proofs.Basics.Searches.{first-and-rest, each-map}
+use Rattle.rules.proofs.Lists.CallLists.{matched}
+use Rattle.rules.proofs.Lists.Batches.{like-an-empty-batch}
+use Rattle.rules.proofs.Lists.Asks.{commit-of-its-ask}
+use Rattle.rules.proofs.Lists.Carrying.{runs-carried, after-carried, heard-carried, accepts-carried, undone-carried, kept-carried, committed-carried, as-asked-carried}
 use Rattle.image.specs.Valid.{bookBytes}
 use Rattle.image.proofs.Setups.SetupRanges.{each-split}
 use Rattle.image.proofs.Setups.SetupAgain.{accepted-in-range}
@@ -89,21 +91,43 @@ module _ (setup : List ℕ) (h : setupRefusal setup ≡ none) where
         ∙ day-settled setup cs owned c _ (settle-writes b c accepted .0) .total
         ∙ ap (λ (u : Setup). registeredTotal u (ledgerNet l) (pricesIn u (c .prices)) (l .page .schedules)) (day-setup setup cs)
 
-  -- an undone batch cut out of the list
-  batch-cut-out : (before : List Call) (opening : Call) (between : List Call) (undoing : Call) (rest : List Call)
+  -- an undone batch in the list, matched with an empty kept one
+  batch-matched : (before : List Call) (opening : Call) (between : List Call) (undoing : Call) (rest : List Call)
       → OfBytes (before ++ (opening ∷ between ++ undoing ∷ []) ++ rest)
       → UndoneBatch callAnswer (after callAnswer fresh before) opening between undoing
-      → CutOut callAnswer fresh before (opening ∷ between ++ undoing ∷ []) rest
-  batch-cut-out before opening between undoing rest bytes batch =
-      let out : List Call = opening ∷ between ++ undoing ∷ [] in
+      → (other keeping : Call) → OfBytes (other ∷ keeping ∷ []) → EmptyKeptBatch callAnswer (after callAnswer fresh before) other keeping
+      → Matched callAnswer fresh before (opening ∷ between ++ undoing ∷ []) (other ∷ keeping ∷ []) rest
+  batch-matched before opening between undoing rest bytes batch other keeping others empty =
+      let calls : List Call = opening ∷ between ++ undoing ∷ [] in
+      let instead : List Call = other ∷ keeping ∷ [] in
       let b : Book = dayBook setup before in
-      let parts = each-split before out (each-split (before ++ out) rest bytes .0) in
+      let parts = each-split before calls (each-split (before ++ calls) rest bytes .0) in
       let v = reachable-valid setup h before (parts .0) in
       let there = bytes-are before (parts .0) in
       let opens = each-split (opening ∷ between) (undoing ∷ []) (parts .1) .0 in
       let undone = undone-carried books-in-bytes b opening between undoing opens v (rw there at batch) in
-      let same = after-carried books-in-bytes b out (parts .1) v ∙ ap (λ (x : Book). bookBytes x) (undo-restores b opening between undoing undone) in
-      cut-out callAnswer fresh before out rest (ap (λ (s : List ℕ). after callAnswer s out) there ∙ same ∙ sym there)
+      let kept = kept-carried books-in-bytes b other keeping (first-and-rest others .0) v (rw there at empty) in
+      let same =
+      after-carried books-in-bytes b calls (parts .1) v
+      ∙ ap (λ (x : Book). bookBytes x) (like-an-empty-batch b opening between undoing undone other keeping kept)
+      ∙ sym (after-carried books-in-bytes b instead others v) in
+      matched callAnswer fresh before calls instead rest
+      (ap (λ (s : List ℕ). after callAnswer s calls) there ∙ same ∙ sym (ap (λ (s : List ℕ). after callAnswer s instead) there))
+
+  -- an ask in the list, and its commit
+  ask-committed : (before : List Call) (asking : Call) (between : List Call) (committing : Call) (rest : List Call)
+      → OfBytes (before ++ (asking ∷ between ++ committing ∷ []) ++ rest)
+      → AskCommitted callAnswer (after callAnswer fresh before) asking between committing
+      → CommittedAsAsked callAnswer (after callAnswer fresh before) asking between committing
+  ask-committed before asking between committing rest bytes pair =
+      let calls : List Call = asking ∷ between ++ committing ∷ [] in
+      let b : Book = dayBook setup before in
+      let parts = each-split before calls (each-split (before ++ calls) rest bytes .0) in
+      let v = reachable-valid setup h before (parts .0) in
+      let there = bytes-are before (parts .0) in
+      let many = first-and-rest (each-split (asking ∷ between) (committing ∷ []) (parts .1) .0) in
+      let plain = committed-carried books-in-bytes b asking between committing (many .0) (many .1) v (rw there at pair) in
+      rw there (as-asked-carried books-in-bytes b asking between committing (many .0) (many .1) v (commit-of-its-ask b asking between committing plain))
 
   fresh-promise : (cs : List Call) → OfBytes cs → Promise setup fresh cs
   fresh-promise cs bytes =
@@ -124,8 +148,10 @@ module _ (setup : List ℕ) (h : setupRefusal setup ≡ none) where
             rw (is, ← hour-is-the-ledgers b l g a k, ← su) (reachable-margins-kept setup h cs bytes a k al (rw su ah) kl (rw su kh));
         exposures-covered = λ o low high.
             rw (is, ← exposure-is-the-ledgers b l g o, ← available-is-the-ledgers b l g o) (reachable-covered setup h cs bytes o low (rw su high));
-        undone-batches-cut-out = λ before opening between undoing rest e batch.
-            batch-cut-out before opening between undoing rest (rw e at bytes) batch;
+        undone-batches-matched = λ before opening between undoing rest e batch other keeping others empty.
+            batch-matched before opening between undoing rest (rw e at bytes) batch other keeping others empty;
+        commits-as-asked = λ before asking between committing rest e pair.
+            ask-committed before asking between committing rest (rw e at bytes) pair;
         balances-total = λ before c rest e accepted.
             let some = each-split before (c ∷ rest) (rw e at bytes) .0 in
             rw (ledger-is before some) (settle-total before some c accepted);

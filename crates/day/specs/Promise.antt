@@ -6,7 +6,8 @@ use mathlib.Core.List.{List, [], _∷_, _++_, map}
 use mathlib.Core.Bool.{true}
 use lib.IntN.{pos, negℤ}
 use lib.Signed.{_≤ℤ_}
-use Rattle.rules.specs.Basics.{sumOf, upTo}
+use Rattle.wire.specs.Numbers.{Bytes}
+use Rattle.rules.specs.Basics.{sumOf, upTo, Each}
 use Rattle.rules.specs.Books.{accountCount, operatorCount, periods, lowerAt, upperAt}
 use Rattle.rules.specs.Opening.{setupOf}
 use Rattle.rules.specs.Requests.{settle}
@@ -14,7 +15,8 @@ use Rattle.rules.specs.Registration.{figure, low, high}
 use Rattle.rules.specs.Readings.{netReadOut, exposureReadOut}
 use Rattle.rules.specs.Settlement.{pricesIn, registeredTotal, figuresIn}
 use Rattle.rules.specs.Calls.{Call}
-use Rattle.rules.specs.Lists.{after, acceptsAs, UndoneBatch, CutOut}
+use Rattle.rules.specs.Lists.{after, acceptsAs, UndoneBatch, EmptyKeptBatch, Matched}
+use Rattle.rules.specs.Asks.{AskCommitted, CommittedAsAsked}
 use Rattle.rules.specs.Ledger.{Ledger, ledgerAfter, ledgerNet, ledgerHour, ledgerExposure, ledgerAvailable}
 use Rattle.book.specs.Answers.{netAnswer, exposureAnswer}
 use Rattle.day.specs.Answers.{callAnswer}
@@ -49,12 +51,20 @@ module _ (setup start : List ℕ) where
     -- no exposure is above the available guarantee
     pub exposures-covered : (o : ℕ) → 1 ≤ o → o ≤ operatorCount (setupOf setup)
         → ledgerExposure (ledger cs) o ≤ ledgerAvailable (ledger cs) o
-    -- with an undone batch cut out (an accepted open, the next accepted undo with no accepted keep between, and all between) the list
-    -- gives the same answers outside it and leaves the same book
-    pub undone-batches-cut-out : (before : List Call) (opening : Call) (between : List Call) (undoing : Call) (rest : List Call)
+    -- an undone batch (an accepted open, the next accepted undo with no accepted keep between, and all between) matched with an empty kept
+    -- batch in its place: every other call answers the same, and the last bytes are equal
+    pub undone-batches-matched : (before : List Call) (opening : Call) (between : List Call) (undoing : Call) (rest : List Call)
         → cs ≡ before ++ (opening ∷ between ++ undoing ∷ []) ++ rest
         → UndoneBatch callAnswer (book before) opening between undoing
-        → CutOut callAnswer start before (opening ∷ between ++ undoing ∷ []) rest
+        → (other keeping : Call) → Each (λ c. Bytes (c .bytes)) (other ∷ keeping ∷ [])
+        → EmptyKeptBatch callAnswer (book before) other keeping
+        → Matched callAnswer start before (opening ∷ between ++ undoing ∷ []) (other ∷ keeping ∷ []) rest
+    -- between an accepted ask and its accepted commit no accepted call but asks stands, and the commit is answered as its ask was, number
+    -- and all; its ask is the last accepted one of its account before it
+    pub commits-as-asked : (before : List Call) (asking : Call) (between : List Call) (committing : Call) (rest : List Call)
+        → cs ≡ before ++ (asking ∷ between ++ committing ∷ []) ++ rest
+        → AskCommitted callAnswer (book before) asking between committing
+        → CommittedAsAsked callAnswer (book before) asking between committing
     -- the balances that an accepted settle wrote total the registered schedules at their prices, registered being what the rules give 0 on
     -- the ledger's schedules and net: injections and mixed withdrawals at zone price, other withdrawals at PUN, withdrawals negative
     pub balances-total : (before : List Call) (c : Call) (rest : List Call)

@@ -2,22 +2,26 @@
 ghost use mathlib.Core.Path.{_≡_};
 ghost use mathlib.Core.Bool.{true};
 ghost use Rattle.rules.specs.Calls.{Gives};
-ghost use Rattle.image.specs.Valid.{isBook};
-ghost use Rattle.day.specs.Answers.{callOn};
+ghost use Rattle.rules.specs.Asks.{clearsAsks};
+ghost use Rattle.image.specs.Valid.{isSound, isBook};
+ghost use Rattle.day.specs.Answers.{callOn, changeOn};
 use crate::kinds::answer;
-use audit::whole::is_book;
+use asks::places::clear_asks;
+use asks::whole::is_book;
+use records::reader::is_of_kind;
 use records::reader::read;
 use rules::Outcome;
 use rules::Reading;
 use rules::Refusal;
 use rules::Verdict;
+use rules::kinds::ASK;
 use rules::kinds::SETTLE;
 use settlement::settle::settle;
 use strip_rows::record::is_strip;
 use strips::strip::strip;
 
-// A call on bytes that are known to be a book. It leaves a book.
-pub fn call_in(
+// What a call on bytes that are known to be a book answers and leaves, before asks are cleared.
+fn change_in(
     bytes: &[u8],
     book: &mut [u8],
     prices: &[u8],
@@ -26,9 +30,9 @@ pub fn call_in(
 ) -> Outcome
     requires { ⌜ isBook (now book) ≡ true ⌝ }
     ensures answer { λ o. ⌜ Gives
-        (callOn (now (book .entry)) (now (bytes .entry)) (now (prices .entry)) (now (results .entry)) (now (balances .entry)))
+        (changeOn (now (book .entry)) (now (bytes .entry)) (now (prices .entry)) (now (results .entry)) (now (balances .entry)))
         o (now (book .exit)) (now (results .exit)) (now (balances .exit)) ⌝ }
-    ensures still { λ _. ⌜ isBook (now (book .exit)) ≡ true ⌝ }
+    ensures still { λ _. ⌜ isSound (now (book .exit)) ≡ true ⌝ }
 {
     if is_strip(bytes) {
         return strip(book, bytes);
@@ -45,6 +49,38 @@ pub fn call_in(
             answer(book, request)
         }
     }
+}
+
+// Whether a call with these bytes that is answered so clears the asks: every accepted one but an ask.
+fn clears_asks(bytes: &[u8], outcome: Outcome) -> bool
+    ensures { λ r. ⌜ r ≡ clearsAsks (now (bytes .entry)) outcome ⌝ }
+{
+    let verdict = outcome.verdict;
+    match verdict {
+        Verdict::Accepted { number: _ } => !is_of_kind(bytes, ASK),
+        Verdict::Refused(_) => false,
+    }
+}
+
+// A call on bytes that are known to be a book. It leaves a book.
+pub fn call_in(
+    bytes: &[u8],
+    book: &mut [u8],
+    prices: &[u8],
+    results: &mut [u8],
+    balances: &mut [u8],
+) -> Outcome
+    requires { ⌜ isBook (now book) ≡ true ⌝ }
+    ensures answer { λ o. ⌜ Gives
+        (callOn (now (book .entry)) (now (bytes .entry)) (now (prices .entry)) (now (results .entry)) (now (balances .entry)))
+        o (now (book .exit)) (now (results .exit)) (now (balances .exit)) ⌝ }
+    ensures still { λ _. ⌜ isBook (now (book .exit)) ≡ true ⌝ }
+{
+    let outcome = change_in(bytes, book, prices, results, balances);
+    if clears_asks(bytes, outcome) {
+        clear_asks(book);
+    }
+    outcome
 }
 
 // A call on any bytes, refused (1) where they are no book.

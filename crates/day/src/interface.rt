@@ -6,7 +6,7 @@ ghost use Rattle.rules.specs.Requests.{reading, writeOutcome, written};
 ghost use Rattle.rules.specs.Readings.{netReading, exposureReading};
 ghost use Rattle.image.specs.Valid.{isBook, bookIn};
 ghost use Rattle.book.specs.Answers.{openBytes, netAnswer, exposureAnswer};
-use audit::whole::is_book;
+use asks::whole::is_book;
 use rules::ExposureReading;
 use rules::NetReading;
 use rules::Outcome;

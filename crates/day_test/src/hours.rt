@@ -1,12 +1,12 @@
 // The account hours of a book valued at a price table, and the line that each prints.
 ghost use mathlib.Core.Path.{_≡_};
 ghost use mathlib.Core.Bool.{true};
-ghost use Rattle.image.specs.Valid.{isBook, bookIn};
+ghost use Rattle.image.specs.Valid.{isSound, bookIn};
 ghost use Rattle.book.specs.Members.{IsAccount};
 ghost use Rattle.valuation.specs.Tables.{Priced};
 ghost use Rattle.valuation.specs.Registered.{AllRegistered};
 ghost use Rattle.settlement.specs.Judging.{InOrder};
-use audit::whole::is_book;
+use asks::whole::is_book;
 use book::state::schedule_count;
 use rules::Placed;
 use rules::limits::MOST_SCHEDULES;
@@ -79,7 +79,7 @@ fn show_valued(book: &[u8], prices: &[u8])
 
 // The lines of a book, where the price table is one for it.
 fn show_priced(book: &[u8], prices: &[u8])
-    requires { ⌜ isBook (now book) ≡ true ⌝ }
+    requires { ⌜ isSound (now book) ≡ true ⌝ }
 {
     let n = price_count(book);
     if prices.len() != PRICE_WIDTH * n {

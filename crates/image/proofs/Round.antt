@@ -1,6 +1,6 @@
--- A valid book is read back from its image, as each value fits its bytes, and so bytes are a book exactly when they are the image of a
+-- A sound book is read back from its image, as each value fits its bytes, and so bytes are a book exactly when they are the image of a
 -- valid one.
-use Prim.Native.Nat.{ℕ, _≤_}
+use Prim.Native.Nat.{ℕ, suc, _≤_}
 use mathlib.Core.Path.{_≡_, refl, sym, ap, _∙_}
 use mathlib.Core.List.{List, [], _∷_, map}
 use mathlib.Core.Option.{Option, none, some}
@@ -8,9 +8,9 @@ use mathlib.Core.Bool.{true, _&&_}
 use native.Mathlib.Omega.{arith}
 use lib.ListN.{length}
 use lib.Dec.{eqb}
-use borrow.Author.Tests.{eqb-true, eq-eqb}
-use Rattle.wire.specs.Numbers.{number, le, Bytes}
-use Rattle.wire.specs.Parts.{Small}
+use borrow.Author.Tests.{eqb-true, eq-eqb, ne-eqb}
+use Rattle.wire.specs.Numbers.{number, numberAt, le, Bytes}
+use Rattle.wire.specs.Parts.{Small, zeros, chunks, slots}
 use Rattle.wire.proofs.NumberLaws.{number-le, le-number-wide}
 use Rattle.wire.proofs.PartLaws.{cut-flat}
 use Rattle.wire.proofs.PackLaws.{number-in-pack, pack-numbers}
@@ -20,17 +20,18 @@ use Rattle.units.specs.Units.{cents}
 use Rattle.rules.specs.declared.Row.{Row}
 use Rattle.rules.specs.declared.Schedule.{Schedule}
 use Rattle.rules.specs.Basics.{Each, nil, cons, entries}
-use Rattle.rules.specs.Limits.{mostOperators, mostRows, mostSchedules, mostGuarantee}
-use Rattle.rules.specs.Books.{Setup, Part, Book, operatorCount}
+use Rattle.rules.specs.Limits.{mostOperators, mostAccounts, mostRows, mostSchedules, mostGuarantee}
+use Rattle.rules.specs.Books.{Setup, Part, Book, askAt, operatorCount}
 use Rattle.rules.specs.Opening.{guaranteeWidth}
-use Rattle.rules.proofs.Basics.Tests.{and-both}
-use Rattle.rules.proofs.Basics.Searches.{each-map}
+use Rattle.rules.specs.Asks.{asksStand}
+use Rattle.rules.proofs.Basics.Tests.{test-same, and-both}
+use Rattle.rules.proofs.Basics.Searches.{each-map, at-each}
 use Rattle.image.specs.Layout.{rowWidths, rowWidth, scheduleWidths, scheduleWidth, partWidths, usedSize, bookWidths}
-use Rattle.image.specs.Image.{rowValues, rowBytes, scheduleValues, scheduleBytes, partSections, partBytes, flag, savedBytes, sectionsWith, sections, image, rowIn, scheduleIn, partOf, partIn, savedIn, bookOf, decode}
-use Rattle.image.specs.Valid.{valid, same, isBookOf}
+use Rattle.image.specs.Image.{rowValues, rowBytes, scheduleValues, scheduleBytes, partSections, partBytes, askBytes, flag, savedBytes, sectionsWith, sections, image, rowIn, askIn, scheduleIn, partOf, partIn, savedIn, bookOf, decode}
+use Rattle.image.specs.Valid.{bookOk, valid, same, isSoundOf, isBookOf}
 use Rattle.image.proofs.Sound.Soundness.{SoundSetup, SoundRow, SoundSchedule}
-use Rattle.image.proofs.Sound.SoundBooks.{SoundPart, SavedSound, sound}
-use Rattle.image.proofs.Writing.Sizes.{row-small, schedule-small, part-fits-of, fits, length-row, length-schedule, length-guarantee, wide-part, wide-book, length-image}
+use Rattle.image.proofs.Sound.SoundBooks.{SoundPart, SavedSound, SoundAsk, sound, book-sound, valid-sound, valid-stands, stands-valid}
+use Rattle.image.proofs.Writing.Sizes.{row-small, schedule-small, part-fits-of, fits, length-row, length-ask, length-schedule, length-guarantee, wide-part, wide-book, length-image}
 use Rattle.image.proofs.Setups.StoredSetup.{setup-back}
 
 -- ---- rows and schedules
@@ -89,12 +90,30 @@ module _ (top : ℕ) (u : Setup) (s : SoundSetup u) where
   saved-back rows none k = refl
   saved-back rows (some p) k = ap (λ (x : Part). some x) (part-back p (k .0))
 
+-- ---- asks
+
+-- zeros say no ask
+pub ask-none : askIn (zeros rowWidth) ≡ none
+unfolding askIn rowIn zeros number numberAt
+ask-none = refl
+
+pub ask-back : (u : Setup) → SoundSetup u → (a : ℕ) (o : Option Row) → SoundAsk u a o → askIn (askBytes o) ≡ o
+unfolding askIn
+ask-back u s a none k = ask-none
+ask-back u s a (some r) k = rw (row-back u s r (k .row-sound), ne-eqb (r .status) 0 (λ e. omega (arith, k .row-sound .status-low)))
+
 -- ---- a book
 
-pub decode-image : (top size : ℕ) (b : Book) → valid b ≡ true → decode top size (image top size b) ≡ b
+pub decode-image : (top size : ℕ) (b : Book) → bookOk b ≡ true → decode top size (image top size b) ≡ b
 unfolding decode bookOf entries image sections sectionsWith
 decode-image top size b v =
     let s = sound b v in
+    let n = s .asks-all in
+    let own : Each (λ o. askIn (askBytes o) ≡ o) (b .asks) =
+    at-each none (b .asks) (λ i h. ask-back (b .setup) (s .setup-sound) (suc i) (askAt b (suc i)) (s .asks-sound (suc i) (omega arith) (omega arith))) in
+    let asks-again : map askIn (chunks rowWidth mostAccounts (slots rowWidth mostAccounts askBytes (b .asks))) ≡ b .asks =
+    ap (λ (k : ℕ). map askIn (chunks rowWidth k (slots rowWidth mostAccounts askBytes (b .asks)))) (sym n)
+    ∙ unslots rowWidth mostAccounts askBytes length-ask askIn (b .asks) (map-same own) in
     let u = s .setup-sound in
     let f = fits b s in
     let c = cut-flat (bookWidths top size) (sections top size b) (wide-book top size b f) in
@@ -102,9 +121,9 @@ decode-image top size b v =
     let ph : number (le 1 (b .phase)) ≡ b .phase = number-le 1 _ (omega (arith, s .phase-high)) in
     let pt = part-back top (b .setup) u (b .part) (s .part-sound) in
     let sv = saved-back top (b .setup) u (b .part .rows) (b .saved) (s .saved-sound) in
-    let n : number (le 2 (length (b .schedules))) ≡ length (b .schedules) = number-le 2 _ (omega (arith, s .schedules-high)) in
+    let m : number (le 2 (length (b .schedules))) ≡ length (b .schedules) = number-le 2 _ (omega (arith, s .schedules-high)) in
     let sc = unslots scheduleWidth mostSchedules scheduleBytes length-schedule scheduleIn (b .schedules) (map-same (each-map (schedule-back (b .setup) u) (s .schedules-sound))) in
-    rw (c, so, ph, pt, n, sc, sv)
+    rw (c, so, ph, pt, m, sc, sv, asks-again)
 
 -- ---- bytes that are a book
 
@@ -122,29 +141,65 @@ same-true (x ∷ xs) (y ∷ ys) h =
     let w = and-both (eqb x y) (same xs ys) .0 h in
     rw (eqb-true x y (w .0), same-true xs ys (w .1))
 
+-- ---- what is sound
+
+-- the image of a sound book is one
+pub image-is-sound : (top size : ℕ) (b : Book) → usedSize top ≤ size → bookOk b ≡ true → isSoundOf top size (image top size b) ≡ true
+unfolding isSoundOf
+image-is-sound top size b h v =
+    rw (decode-image top size b v, v, same-refl (image top size b), eq-eqb _ _ (length-image top size b (fits b (sound b v)) h))
+
+-- and bytes of a sound book are the image of the one that they say
+pub sound-is-image : (top size : ℕ) (s : List ℕ) → isSoundOf top size s ≡ true
+    → (s ≡ image top size (decode top size s)) × (bookOk (decode top size s) ≡ true)
+unfolding isSoundOf
+sound-is-image top size s h =
+    let b : Book = decode top size s in
+    let w = and-both (eqb (length s) size && bookOk b) (same (image top size b) s) .0 h in
+    (sym (same-true _ _ (w .1)), and-both (eqb (length s) size) (bookOk b) .0 (w .0) .1)
+
+-- they have its size
+pub length-sound : (top size : ℕ) (s : List ℕ) → isSoundOf top size s ≡ true → length s ≡ size
+unfolding isSoundOf
+length-sound top size s h =
+    let b : Book = decode top size s in
+    let w = and-both (eqb (length s) size && bookOk b) (same (image top size b) s) .0 h in
+    eqb-true _ _ (and-both (eqb (length s) size) (bookOk b) .0 (w .0) .0)
+
+-- so a sound book has one image, and an image says one sound book
+pub one-book : (top size : ℕ) (b c : Book) → bookOk b ≡ true → bookOk c ≡ true → image top size b ≡ image top size c → b ≡ c
+one-book top size b c v w e = sym (decode-image top size b v) ∙ ap (decode top size) e ∙ decode-image top size c w
+
+-- ---- what is a book
+
+-- bytes are a book where they are sound and register would accept each ask
+pub book-by-asks : (top size : ℕ) (s : List ℕ) → isBookOf top size s ≡ (isSoundOf top size s && asksStand (decode top size s))
+unfolding isBookOf isSoundOf valid
+book-by-asks top size s =
+    let b : Book = decode top size s in
+    test-same _ _ (λ t.
+    let w = and-both (eqb (length s) size && (bookOk b && asksStand b)) (same (image top size b) s) .0 t in
+    let v = and-both (eqb (length s) size) (bookOk b && asksStand b) .0 (w .0) in
+    let a = and-both (bookOk b) (asksStand b) .0 (v .1) in
+    rw (v .0, a .0, a .1, w .1)) (λ t.
+    let w = and-both (eqb (length s) size && bookOk b && same (image top size b) s) (asksStand b) .0 t in
+    let v = and-both (eqb (length s) size && bookOk b) (same (image top size b) s) .0 (w .0) in
+    let a = and-both (eqb (length s) size) (bookOk b) .0 (v .0) in
+    rw (a .0, a .1, w .1, v .1))
+
+pub book-is-sound : (top size : ℕ) (s : List ℕ) → isBookOf top size s ≡ true → isSoundOf top size s ≡ true
+book-is-sound top size s h = and-both (isSoundOf top size s) (asksStand (decode top size s)) .0 (sym (book-by-asks top size s) ∙ h) .0
+
 -- the image of a valid book is a book
 pub image-is-book : (top size : ℕ) (b : Book) → usedSize top ≤ size → valid b ≡ true → isBookOf top size (image top size b) ≡ true
-unfolding isBookOf
 image-is-book top size b h v =
-    rw (decode-image top size b v, v, same-refl (image top size b), eq-eqb _ _ (length-image top size b (fits b (sound b v)) h))
+    let ok = book-sound b (valid-sound b v) in
+    book-by-asks top size (image top size b) ∙ rw (image-is-sound top size b h ok, decode-image top size b ok, valid-stands b v)
 
 -- and bytes that are a book are the image of the valid book that they say
 pub book-is-image : (top size : ℕ) (s : List ℕ) → isBookOf top size s ≡ true
     → (s ≡ image top size (decode top size s)) × (valid (decode top size s) ≡ true)
-unfolding isBookOf
 book-is-image top size s h =
-    let b : Book = decode top size s in
-    let w = and-both (eqb (length s) size && valid b) (same (image top size b) s) .0 h in
-    (sym (same-true _ _ (w .1)), and-both (eqb (length s) size) (valid b) .0 (w .0) .1)
-
--- bytes of a book have its size
-pub length-book : (top size : ℕ) (s : List ℕ) → isBookOf top size s ≡ true → length s ≡ size
-unfolding isBookOf
-length-book top size s h =
-    let b : Book = decode top size s in
-    let w = and-both (eqb (length s) size && valid b) (same (image top size b) s) .0 h in
-    eqb-true _ _ (and-both (eqb (length s) size) (valid b) .0 (w .0) .0)
-
--- so a valid book has one image, and an image says one valid book
-pub one-book : (top size : ℕ) (b c : Book) → valid b ≡ true → valid c ≡ true → image top size b ≡ image top size c → b ≡ c
-one-book top size b c v w e = sym (decode-image top size b v) ∙ ap (decode top size) e ∙ decode-image top size c w
+    let w = and-both (isSoundOf top size s) (asksStand (decode top size s)) .0 (sym (book-by-asks top size s) ∙ h) in
+    let i = sound-is-image top size s (w .0) in
+    (i .0, stands-valid (decode top size s) (sound (decode top size s) (i .1)) (w .1))

@@ -1,19 +1,20 @@
--- The image of a plain book in bytes (document 01, "Opening"), and the plain book that bytes say.
+-- The image of a plain book in bytes (document 01, "Opening"; document 02, note 4), and the plain book that bytes say.
 use Prim.Native.Nat.{ℕ, zero, suc, _-_}
 use mathlib.Core.List.{List, [], _∷_}
 use mathlib.Core.Option.{Option, none, some}
 use lib.ListN.{length, getD, replicate}
+use lib.Dec.{eqb}
 use Rattle.wire.specs.Numbers.{number, numberAt, le, signed}
 use Rattle.wire.specs.Parts.{zeros, flat, cut, pack, slots, padded}
 use Rattle.units.specs.Units.{kwh, cents, centsPerMwh}
 use Rattle.rules.specs.declared.Row.{Row}
 use Rattle.rules.specs.declared.Schedule.{Schedule}
-use Rattle.rules.specs.Basics.{upTo, entries, joined}
+use Rattle.rules.specs.Basics.{if_then_else_, upTo, entries, joined}
 use Rattle.rules.specs.Limits.{mostOperators, mostAccounts, mostRows, mostSchedules}
 use Rattle.rules.specs.Books.{Setup, Part, Book, operatorCount}
 use Rattle.rules.specs.Opening.{setupBytes, setupOf, guaranteeWidth}
 use Rattle.rules.specs.Registration.{netOf, figure}
-use Rattle.image.specs.Layout.{setupRoom, rowWidths, rowWidth, scheduleWidths, scheduleWidth, partWidths, partSize, usedSize, bookWidths, netWidth, setupSection, phaseSection, flagSection, scheduleCountSection, schedulesSection, presentSection, savedSection, guaranteesSection, rowCountSection, rowsSection}
+use Rattle.image.specs.Layout.{setupRoom, rowWidths, rowWidth, scheduleWidths, scheduleWidth, partWidths, partSize, usedSize, bookWidths, netWidth, setupSection, phaseSection, flagSection, scheduleCountSection, schedulesSection, presentSection, savedSection, asksSection, guaranteesSection, rowCountSection, rowsSection}
 
 -- ---- the image
 
@@ -50,6 +51,11 @@ partSections top p =
 unfoldable pub partBytes : ℕ → Part → List ℕ
 partBytes top p = flat (partSections top p)
 
+-- the place of an account's ask: the row, or zeros where none stands
+abbrev pub askBytes : Option Row → List ℕ
+askBytes none = zeros rowWidth
+askBytes (some r) = rowBytes r
+
 -- a batch is open
 abbrev pub flag : Option Part → ℕ
 flag none = 0
@@ -74,6 +80,7 @@ sectionsWith top size b part =
     ∷ slots scheduleWidth mostSchedules scheduleBytes (b .schedules)
     ∷ part
     ∷ savedBytes top (b .saved)
+    ∷ slots rowWidth mostAccounts askBytes (b .asks)
     ∷ zeros (size - usedSize top)
     ∷ []
 
@@ -97,6 +104,10 @@ rowIn x =
       quantity = kwh (numberAt x 13 4);
       status = numberAt x 17 1;
     }
+
+-- the ask in the bytes of its place: none where the status is 0
+unfoldable pub askIn : List ℕ → Option Row
+askIn x = if eqb (rowIn x .status) 0 then none else some (rowIn x)
 
 unfoldable pub scheduleIn : List ℕ → Schedule
 scheduleIn x =
@@ -132,6 +143,7 @@ bookOf top c =
       part = partIn top (operatorCount u) (getD c presentSection []);
       schedules = entries scheduleWidth scheduleIn (number (getD c scheduleCountSection [])) (getD c schedulesSection []);
       saved = savedIn (number (getD c flagSection [])) top (operatorCount u) (getD c savedSection []);
+      asks = entries rowWidth askIn mostAccounts (getD c asksSection []);
     }
 
 unfoldable pub decode : ℕ → ℕ → List ℕ → Book

@@ -72,8 +72,11 @@ presentSection = 5
 abbrev pub savedSection : ℕ
 savedSection = 6
 
+abbrev pub asksSection : ℕ
+asksSection = 7
+
 abbrev pub spareSection : ℕ
-spareSection = 7
+spareSection = 8
 
 -- ---- places in a part
 
@@ -130,11 +133,22 @@ presentOffset = schedulesOffset + scheduleWidth * mostSchedules
 abbrev pub savedOffset : ℕ → ℕ
 savedOffset top = presentOffset + partSize top
 
+abbrev pub asksOffset : ℕ → ℕ
+asksOffset top = savedOffset top + partSize top
+
+-- a place for each account that a day may have, as wide as a row
+abbrev pub asksSize : ℕ
+asksSize = rowWidth * mostAccounts
+
+-- the place of an account's ask, accounts from 1
+abbrev pub askOffset : ℕ → ℕ → ℕ
+askOffset top a = asksOffset top + rowWidth * (a - 1)
+
 -- what is not spare
 abbrev pub usedSize : ℕ → ℕ
-usedSize top = presentOffset + 2 * partSize top
+usedSize top = presentOffset + 2 * partSize top + asksSize
 
--- a book: set-up, phase, batch flag, schedule count, schedules, present part, saved part, spare
+-- a book: set-up, phase, batch flag, schedule count, schedules, present part, saved part, asks, spare
 abbrev pub bookWidths : ℕ → ℕ → List ℕ
 bookWidths top size =
-    setupRoom ∷ 1 ∷ 1 ∷ 2 ∷ scheduleWidth * mostSchedules ∷ partSize top ∷ partSize top ∷ (size - usedSize top) ∷ []
+    setupRoom ∷ 1 ∷ 1 ∷ 2 ∷ scheduleWidth * mostSchedules ∷ partSize top ∷ partSize top ∷ asksSize ∷ (size - usedSize top) ∷ []

@@ -1,4 +1,4 @@
--- Which plain books are valid, and which bytes are a book (document 01, "Opening").
+-- Which plain books are valid, and which bytes are a book (document 01, "Opening"; document 02, note 4).
 use Prim.Native.Nat.{ℕ, _^_}
 use mathlib.Core.List.{List, [], _∷_}
 use mathlib.Core.Option.{Option, none, some}
@@ -8,11 +8,12 @@ use lib.Dec.{eqb, leb, ltb}
 use Rattle.units.specs.Units.{cents}
 use Rattle.rules.specs.declared.Row.{Row}
 use Rattle.rules.specs.declared.Schedule.{Schedule}
-use Rattle.rules.specs.Basics.{anyPasses, every, allOf, isSome, upTo, within}
-use Rattle.rules.specs.Limits.{mostEnergy, mostPrice, mostGuarantee, mostRows, mostSchedules, mostHours, bookSize}
+use Rattle.rules.specs.Basics.{anyPasses, every, allOf, isSome, nth, upTo, within}
+use Rattle.rules.specs.Limits.{mostEnergy, mostPrice, mostGuarantee, mostRows, mostSchedules, mostAccounts, mostHours, bookSize}
 use Rattle.rules.specs.Books.{Account, Setup, Part, Book, countsOf, operatorCount, accountCount, pointCount, periods, marginsAt, sellingSide, buyingSide, pendingStatus, withdrawnStatus, injectingSide, withdrawingSide, registrationPhase, settledPhase}
 use Rattle.rules.specs.Opening.{badCounts, operatorsOf, faultyOffset}
-use Rattle.rules.specs.Registration.{pending, alike, accountHour, keepsMargins, covered}
+use Rattle.rules.specs.Registration.{pending, sameTerms, alike, accountHour, keepsMargins, covered}
+use Rattle.rules.specs.Asks.{asksStand}
 use Rattle.image.specs.Image.{image, decode}
 
 -- ---- the set-up: one that opening would accept
@@ -95,17 +96,6 @@ partTests u p =
 unfoldable pub partOk : Setup → Part → Bool
 partOk u p = allOf (partTests u p)
 
--- the rows are the same but for their status
-unfoldable pub sameTerms : Row → Row → Bool
-sameTerms x y =
-    eqb (x .proposer) (y .proposer)
-    && eqb (x .counterparty) (y .counterparty)
-    && eqb (x .code) (y .code)
-    && eqb (x .side) (y .side)
-    && eqb (x .first) (y .first)
-    && eqb (x .last) (y .last)
-    && eqb (x .quantity .0) (y .quantity .0)
-
 -- the saved rows are the first of the present ones but for their status: a saved pending row may since be confirmed or withdrawn
 unfoldable pub follows : List Row → List Row → Bool
 follows [] ys = true
@@ -115,6 +105,16 @@ follows (x ∷ xs) (y ∷ ys) = sameTerms x y && (eqb (x .status) (y .status) ||
 unfoldable pub savedOk : Setup → List Row → Option Part → Bool
 savedOk u rows none = true
 savedOk u rows (some p) = partOk u p && follows (p .rows) rows
+
+-- ---- asks
+
+-- the place of an account has no ask, or a pending row of its own with every field in range
+abbrev pub askOk : Setup → ℕ → Option Row → Bool
+askOk u a none = true
+askOk u a (some r) = eqb (r .proposer) a && pending r && rowOk u r
+
+abbrev pub asksOk : Setup → List (Option Row) → Bool
+asksOk u asks = eqb (length asks) mostAccounts && every (λ a. askOk u a (nth asks a none)) (upTo mostAccounts)
 
 -- ---- a book: none pending after phase 1, schedules only after it, an open batch only in it
 
@@ -129,10 +129,16 @@ bookTests b =
     ∷ (eqb (b .phase) registrationPhase || not (anyPasses pending (b .part .rows)))
     ∷ (not (eqb (b .phase) registrationPhase) || eqb (length (b .schedules)) 0)
     ∷ (eqb (b .phase) registrationPhase || not (isSome (b .saved)))
+    ∷ asksOk (b .setup) (b .asks)
     ∷ []
 
+-- every section passes its tests: a sound book
+unfoldable pub bookOk : Book → Bool
+bookOk b = allOf (bookTests b)
+
+-- a valid book is sound, and register would accept each of its asks
 unfoldable pub valid : Book → Bool
-valid b = allOf (bookTests b)
+valid b = bookOk b && asksStand b
 
 -- ---- bytes that are a book: the image of a valid one
 
@@ -142,12 +148,20 @@ same [] (y ∷ ys) = false
 same (x ∷ xs) [] = false
 same (x ∷ xs) (y ∷ ys) = eqb x y && same xs ys
 
+-- the image of a sound book
+unfoldable pub isSoundOf : ℕ → ℕ → List ℕ → Bool
+isSoundOf top size s = eqb (length s) size && bookOk (decode top size s) && same (image top size (decode top size s)) s
+
 unfoldable pub isBookOf : ℕ → ℕ → List ℕ → Bool
 isBookOf top size s = eqb (length s) size && valid (decode top size s) && same (image top size (decode top size s)) s
 
 -- today's book: at most 25 hours, 49,152 bytes
 abbrev pub isBook : List ℕ → Bool
 isBook s = isBookOf mostHours bookSize s
+
+-- bytes of a sound book: the functions of the kinds leave one, before asks are cleared
+abbrev pub isSound : List ℕ → Bool
+isSound s = isSoundOf mostHours bookSize s
 
 abbrev pub bookBytes : Book → List ℕ
 bookBytes b = image mostHours bookSize b

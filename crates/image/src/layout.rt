@@ -30,12 +30,17 @@ pub const SCHEDULE_COUNT_OFFSET: usize = FLAG_OFFSET + 1;
 
 pub const SCHEDULES_OFFSET: usize = SCHEDULE_COUNT_OFFSET + 2;
 
-// The two parts, of one shape, and what is spare.
+// The two parts, of one shape, the asks, and what is spare.
 pub const PRESENT_OFFSET: usize = SCHEDULES_OFFSET + SCHEDULE_WIDTH * MOST_SCHEDULES;
 
 pub const SAVED_OFFSET: usize = PRESENT_OFFSET + PART_SIZE;
 
-pub const SPARE_OFFSET: usize = SAVED_OFFSET + PART_SIZE;
+pub const ASKS_OFFSET: usize = SAVED_OFFSET + PART_SIZE;
+
+pub const SPARE_OFFSET: usize = ASKS_OFFSET + ASKS_SIZE;
+
+// The asks: a place as wide as a row for each account that a day may have.
+pub const ASKS_SIZE: usize = ROW_WIDTH * LANE_SLOTS;
 
 pub const PART_SIZE: usize = NETS_OFFSET + LANE_SLOTS * ACCOUNT_NETS;
 

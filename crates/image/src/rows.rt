@@ -1,9 +1,12 @@
-// Rows in bytes: where each field stands in a row, and a row read and written.
+// Rows in bytes: where each field stands in a row, and a row read and written; two rows compared; the place of a row that is asked for.
 ghost use mathlib.Core.Path.{_≡_};
 ghost use Prim.Native.Nat.{_+_, _≤_};
 ghost use lib.ListN.{length, take, drop};
-ghost use Rattle.image.specs.Layout.{rowWidth};
+ghost use Rattle.rules.specs.Registration.{sameTerms};
+ghost use Rattle.rules.specs.Limits.{mostAccounts, mostHours};
+ghost use Rattle.image.specs.Layout.{rowWidth, askOffset};
 ghost use Rattle.image.specs.Image.{rowIn, rowBytes};
+use crate::layout::ASKS_OFFSET;
 use crate::layout::CODE_WIDTH;
 use crate::layout::QUANTITY_WIDTH;
 use crate::layout::ROW_WIDTH;
@@ -62,4 +65,25 @@ pub fn row_bytes(r: Row) -> [u8; ROW_WIDTH]
     put_u32(&mut b, QUANTITY_OFFSET, r.quantity.0);
     put_u8(&mut b, STATUS_OFFSET, r.status);
     b
+}
+
+// The rows are the same but for their status.
+pub fn same_terms(x: Row, y: Row) -> bool
+    ensures { λ b. ⌜ b ≡ sameTerms x y ⌝ }
+{
+    (x.proposer == y.proposer)
+        & (x.counterparty == y.counterparty)
+        & (x.code == y.code)
+        & (x.side == y.side)
+        & (x.first == y.first)
+        & (x.last == y.last)
+        & (x.quantity.0 == y.quantity.0)
+}
+
+// Where the place of an account's ask begins in a book.
+pub fn ask_offset(number: u8) -> usize
+    requires { ⌜ (1 ≤ number) × (number ≤ mostAccounts) ⌝ }
+    ensures { λ r. ⌜ r ≡ askOffset mostHours number ⌝ }
+{
+    ASKS_OFFSET + ROW_WIDTH * (number as usize - 1)
 }

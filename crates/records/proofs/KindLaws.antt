@@ -20,14 +20,14 @@ wanted-run from n m k e l h =
     ∙ rw e (getD-replicate n j m 0 (omega arith))
 
 -- a number past the last kind wants no field
-pub wanted-none : (k : ℕ) → 11 < k → wantedMap k ≡ 0
+pub wanted-none : (k : ℕ) → 13 < k → wantedMap k ≡ 0
 wanted-none k h = List·getD-eq-default maps 0 h
 
 -- a number that wants a field is a kind
 pub wanted-kind : (k : ℕ) → 0 < wantedMap k → isKind k ≡ true
 wanted-kind zero h = absurd (omega arith)
-wanted-kind (suc k) h = go (leb (suc k) 11) refl
+wanted-kind (suc k) h = go (leb (suc k) 13) refl
   where
-    go : (t : Bool) → leb (suc k) 11 ≡ t → isKind (suc k) ≡ true
+    go : (t : Bool) → leb (suc k) 13 ≡ t → isKind (suc k) ≡ true
     go true e = rw (e, le-leb 1 (suc k) (omega arith))
-    go false e = absurd (omega (arith, wanted-none (suc k) (leb-false (suc k) 11 e)))
+    go false e = absurd (omega (arith, wanted-none (suc k) (leb-false (suc k) 13 e)))

@@ -10,7 +10,9 @@ use rules::Checked;
 use rules::Counts;
 use rules::Refusal;
 use rules::Request;
+use rules::kinds::ASK;
 use rules::kinds::CLOSE_GATE;
+use rules::kinds::COMMIT;
 use rules::kinds::CONFIRM;
 use rules::kinds::GUARANTEE;
 use rules::kinds::OPEN_BATCH;
@@ -111,7 +113,7 @@ pub fn check_ranges(request: Request, counts: Counts) -> Checked
 {
     let kind = request.kind;
     match kind {
-        REGISTER | CONFIRM => trade_fields(request, counts),
+        REGISTER | CONFIRM | ASK | COMMIT => trade_fields(request, counts),
         WITHDRAW => withdrawal_fields(request, counts),
         GUARANTEE => guarantee_fields(request, counts),
         OPEN_BATCH..=CLOSE_GATE => Checked::Clear,

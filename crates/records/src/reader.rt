@@ -4,8 +4,10 @@ ghost use mathlib.Core.Bool.{true, false};
 ghost use Prim.Native.Nat.{_+_, _≤_};
 ghost use mathlib.Core.List.{map};
 ghost use lib.ListN.{length};
+ghost use lib.Dec.{eqb};
 ghost use Rattle.wire.specs.Numbers.{numberAt};
-ghost use Rattle.rules.specs.Requests.{fieldCount, mapOf, offset, bits, fieldIn, requestOf, isSingle, unreadable, reading};
+ghost use Rattle.rules.specs.Verdicts.{applies, checked};
+ghost use Rattle.rules.specs.Requests.{fieldCount, mapOf, offset, bits, fieldIn, requestOf, isSingle, unreadable, mapCheck, reading};
 use crate::tables::FIELDS;
 use crate::tables::PAST_FIELDS;
 use crate::tables::fields_more;
@@ -14,6 +16,7 @@ use crate::tables::is_single;
 use crate::tables::room_of;
 use crate::tables::wanted_length;
 use crate::tables::wanted_map;
+use rules::Checked;
 use rules::Reading;
 use rules::Refusal;
 use rules::Request;
@@ -89,17 +92,42 @@ pub fn no_map(bytes: &[u8]) -> bool
     !has_field(given, 0) | (PAST_FIELDS <= given)
 }
 
-// What a record of this kind reads as.
-fn read_as(bytes: &[u8], kind: u8) -> Reading
-    requires { ⌜ (unreadable (now bytes) ≡ false) × (kind ≡ fieldIn (now bytes) 0) × (isSingle kind ≡ true) ⌝ }
-    ensures { λ r. ⌜ r ≡ reading (now (bytes .entry)) ⌝ }
+// Whether the bytes are a record of that kind.
+pub fn is_of_kind(bytes: &[u8], kind: u8) -> bool
+    requires { ⌜ 1 ≤ kind ⌝ }
+    ensures { λ r. ⌜ r ≡ eqb (fieldIn (now (bytes .entry)) 0) kind ⌝ }
+{
+    if bytes.len() < 3 {
+        return false;
+    }
+    if has_field(get_u16(bytes, 0), 0) {
+        return get_u8(bytes, 2) == kind;
+    }
+    false
+}
+
+// The check of the map against that of a kind: how many wanted fields are missing, and how many stand unwanted.
+pub fn map_fault(bytes: &[u8], kind: u8) -> Checked
+    requires { ⌜ (unreadable (now bytes) ≡ false) × (kind ≤ 13) ⌝ }
+    ensures { λ r. ⌜ r ≡ checked (applies (mapCheck kind (now (bytes .entry)))) ⌝ }
 {
     let given = get_u16(bytes, 0);
     let wanted = wanted_map(kind);
     if given != wanted {
         let missing = fields_more(wanted, given);
         let unwanted = fields_more(given, wanted);
-        return Reading::Unread(Refusal::WrongMap { missing, unwanted });
+        return Checked::Fails(Refusal::WrongMap { missing, unwanted });
+    }
+    Checked::Clear
+}
+
+// What a record of this kind reads as.
+fn read_as(bytes: &[u8], kind: u8) -> Reading
+    requires { ⌜ (unreadable (now bytes) ≡ false) × (kind ≡ fieldIn (now bytes) 0) × (isSingle kind ≡ true) ⌝ }
+    ensures { λ r. ⌜ r ≡ reading (now (bytes .entry)) ⌝ }
+{
+    if let Checked::Fails(r) = map_fault(bytes, kind) {
+        return Reading::Unread(r);
     }
     if bytes.len() != wanted_length(kind) {
         return Reading::Unread(Refusal::WrongLength);

@@ -3,9 +3,12 @@ ghost use mathlib.Core.Path.{_≡_};
 ghost use Prim.Native.Nat.{_≤_, _<_, _^_};
 ghost use Rattle.rules.specs.Basics.{bit};
 ghost use Rattle.rules.specs.Requests.{isSingle, wantedMap, wantedLength, fieldCount, widthOf, room, more};
+use rules::kinds::COMMIT;
+use rules::kinds::REGISTER;
+use rules::kinds::STRIP;
 
 // The map and the length of a record, by kind. No kind is 0. The length of a strip is that before its rows.
-const MAPS: [u16; 12] = [
+const MAPS: [u16; 14] = [
     0,
     0x00FF,
     0x00FF,
@@ -18,9 +21,16 @@ const MAPS: [u16; 12] = [
     0x18B1,
     0x0001,
     0x0001,
+    0x00FF,
+    0x00FF,
 ];
 
-const LENGTHS: [u8; 12] = [0, 20, 20, 6, 12, 3, 3, 3, 3, 14, 3, 4];
+const LENGTHS: [u8; 14] = [0, 20, 20, 6, 12, 3, 3, 3, 3, 14, 3, 4, 20, 20];
+
+// The bytes before the rows of a strip, and those of a row: the record of a register.
+pub const HEAD_LENGTH: usize = LENGTHS[STRIP as usize] as usize;
+
+pub const ROW_LENGTH: usize = LENGTHS[REGISTER as usize] as usize;
 
 // Bits 0 to 12 have fields.
 pub const FIELDS: usize = 13;
@@ -35,12 +45,12 @@ const WIDTHS: [u8; FIELDS] = [1, 1, 1, 8, 1, 1, 1, 4, 2, 1, 8, 1, 4];
 pub fn is_single(number: u8) -> bool
     ensures { λ r. ⌜ r ≡ isSingle number ⌝ }
 {
-    (1 <= number) & (number <= 10)
+    (REGISTER <= number) & (number <= COMMIT) & (number != STRIP)
 }
 
 // The map of a kind's records.
 pub fn wanted_map(kind: u8) -> u16
-    requires { ⌜ kind ≤ 11 ⌝ }
+    requires { ⌜ kind ≤ 13 ⌝ }
     ensures { λ r. ⌜ r ≡ wantedMap kind ⌝ }
 {
     let k = kind as usize;
@@ -49,7 +59,7 @@ pub fn wanted_map(kind: u8) -> u16
 
 // The length of a kind's records.
 pub fn wanted_length(kind: u8) -> usize
-    requires { ⌜ kind ≤ 11 ⌝ }
+    requires { ⌜ kind ≤ 13 ⌝ }
     ensures { λ r. ⌜ r ≡ wantedLength kind ⌝ }
 {
     let k = kind as usize;

@@ -23,7 +23,7 @@ use Rattle.rules.proofs.Rows.RowTests.{passed-confirm, passed-withdraw}
 use Rattle.rules.proofs.Rows.AccountHours.{pending-inside}
 use Rattle.rules.proofs.Basics.Searches.{each-nth}
 use Rattle.image.specs.Layout.{presentOffset, rowOffset, statusOffset}
-use Rattle.image.specs.Valid.{isBook, bookIn}
+use Rattle.image.specs.Valid.{isSound, bookIn}
 use Rattle.image.proofs.Writing.Sizes.{RowFits, row-fits-of}
 use Rattle.image.proofs.Writing.BookWrites.{write-confirmed, write-withdrawn}
 use Rattle.image.proofs.Keeping.KeepsChanges.{apply-keeps}
@@ -33,7 +33,7 @@ use Rattle.book.proofs.StateLaws.{book-image, book-fits, book-is-sound}
 use Rattle.book.proofs.Answers.{decided-clear, Answered, accepted-answered}
 use Rattle.registration.specs.Positions.{netsMoved, markedConfirmed}
 
-module _ (s t : List ℕ) (h : isBook s ≡ true) where
+module _ (s t : List ℕ) (h : isSound s ≡ true) where
   -- 2: the row's status, the hours of its seller, those of its buyer
   pub confirmed-answered : (q : Request) (i : ℕ) (r : Row) → decided confirm (bookIn s) q ≡ none → confirms (bookIn s .part .rows) q ≡ some i
       → r ≡ getD (bookIn s .part .rows) i noRow → r .first ≤ r .last → t ≡ netsMoved (markedConfirmed s (i + 1)) r

@@ -16,7 +16,7 @@ use Rattle.rules.specs.Verdicts.{firstToApply}
 use Rattle.rules.specs.Books.{Book, operatorOf}
 use Rattle.rules.specs.Requests.{register, strip, firstOf}
 use Rattle.rules.specs.Registration.{proposed, hasTwin, twins, brokenHour, brokenBy, covered}
-use Rattle.rules.specs.Calls.{next, stateChecks, apply}
+use Rattle.rules.specs.Calls.{changed, stateChecks, apply}
 use Rattle.rules.proofs.Rows.AccountHours.{broken-added, exposure-added}
 use Rattle.registration.specs.Cover.{coveredWithRows}
 use Rattle.registration.specs.Proposing.{Addable}
@@ -54,7 +54,7 @@ module _ (b : Book) (qs : List Request) (p : Addable b qs) where
   room : leb (length (b .part .rows) + length qs) mostRows ≡ true
   room = le-leb _ mostRows (p .has-room)
 
-  broken-next : brokenHour (b .setup) (next register b qs .part .rows) (firstOf qs .account)
+  broken-next : brokenHour (b .setup) (changed register b qs .part .rows) (firstOf qs .account)
       ≡ brokenBy (b .setup) (b .part .rows) (map proposed qs) (firstOf qs .account)
   unfolding apply
   broken-next = broken-added (b .setup) (b .part .rows) (map proposed qs) (firstOf qs .account)
@@ -68,7 +68,7 @@ module _ (b : Book) (qs : List Request) (p : Addable b qs) where
   module _ (kept : brokenBy (b .setup) (b .part .rows) (map proposed qs) (firstOf qs .account) ≡ none) (t : Bool)
       (test : t ≡ coveredWithRows b (map proposed qs) (operatorOf (b .setup) (firstOf qs .account))) where
     -- the exposure is that of the rows with the proposed ones
-    covered-next : covered (b .setup) (next register b qs .part) (operatorOf (b .setup) (firstOf qs .account)) ≡ t
+    covered-next : covered (b .setup) (changed register b qs .part) (operatorOf (b .setup) (firstOf qs .account)) ≡ t
     unfolding apply
     covered-next =
         let o : ℕ = operatorOf (b .setup) (firstOf qs .account) in

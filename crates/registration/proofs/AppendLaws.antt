@@ -24,6 +24,7 @@ fits-more b r f few =
       schedules-fit = f .schedules-fit;
       part-fits = record { guarantees-fit = f .part-fits .guarantees-fit; rows-fit = omega (arith, few, length-append (b .part .rows) (r ∷ [])) };
       saved-fits = f .saved-fits;
+      asks-fit = f .asks-fit;
     }
 
 pub rows-appended : (b : Book) {rows : List Row} (n : ℕ) → Fits b → Each (λ r. pending r ≡ true) rows → n ≡ length (b .part .rows)

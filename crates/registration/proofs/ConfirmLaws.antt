@@ -19,12 +19,12 @@ use Rattle.rules.specs.Verdicts.{accepted}
 use Rattle.rules.specs.Books.{Setup, Book, noRow, operatorOf, periods, marginsAt}
 use Rattle.rules.specs.Requests.{confirm}
 use Rattle.rules.specs.Registration.{pending, withStatus, mark, alike, confirms, mirrors, accountHour, afterTrade, keepsMargins, brokenHour, brokenBy, exposure, covered}
-use Rattle.rules.specs.Calls.{numberFrom, confirmedNumber, next, apply}
+use Rattle.rules.specs.Calls.{numberFrom, confirmedNumber, changed, apply}
 use Rattle.rules.proofs.Basics.Searches.{index-first}
 use Rattle.rules.proofs.Rows.RowTests.{Alike, alike-true, passed-confirm}
 use Rattle.rules.proofs.Checks.Passed.{passed-16-confirm}
 use Rattle.rules.proofs.Rows.AccountHours.{pending-inside, hour-takes-confirmed}
-use Rattle.image.specs.Valid.{isBook, bookIn}
+use Rattle.image.specs.Valid.{isSound, bookIn}
 use Rattle.image.specs.Tables.{Tabled}
 use Rattle.image.proofs.Sound.Soundness.{SoundRow}
 use Rattle.image.proofs.Keeping.Easing.{sale-eases-operators}
@@ -94,7 +94,7 @@ unfolding confirms
 confirmed-high b q = number-high (alike (q .other) (q .account) (q .code)) (b .part .rows)
 
 -- the row of a number is sound
-row-sound : (s : List ℕ) (h : isBook s ≡ true) (n : ℕ) (r : Row) → IsRow (bookIn s) n → r ≡ numberedRow (bookIn s) n → SoundRow (bookIn s .setup) r
+row-sound : (s : List ℕ) (h : isSound s ≡ true) (n : ℕ) (r : Row) → IsRow (bookIn s) n → r ≡ numberedRow (bookIn s) n → SoundRow (bookIn s .setup) r
 row-sound s h n r own e = rw e (numbered-sound s h n own)
 
 -- ---- a pending row, once it is confirmed
@@ -104,7 +104,7 @@ pub purchase-frees-none : (u : Setup) (o owed limit : ℕ) (r : Row) → (r .sid
 unfolding saleWorth
 purchase-frees-none u o owed limit r buys = rw (ne-eqb (r .side) 1 buys, and-false (pending r), sub-zero owed)
 
-module _ (s : List ℕ) (r : Row) (h : isBook s ≡ true) (w : WaitsIn (bookIn s) r) where
+module _ (s : List ℕ) (r : Row) (h : isSound s ≡ true) (w : WaitsIn (bookIn s) r) where
   waiting-inside : IsRow (bookIn s) (w .number)
   waiting-inside = pending-inside (bookIn s .part .rows) (w .number) (rw (← w .row) (w .is-pending))
 
@@ -145,7 +145,7 @@ module _ (s : List ℕ) (r : Row) (h : isBook s ≡ true) (w : WaitsIn (bookIn s
 
 -- ---- the row that is named and mirrored
 
-module _ (s : List ℕ) (q : Request) (r : Row) (h : isBook s ≡ true) (w : Confirming (bookIn s) q r) where
+module _ (s : List ℕ) (q : Request) (r : Row) (h : isSound s ≡ true) (w : Confirming (bookIn s) q r) where
   -- pending, with the other account as its proposer and the calling one as its counterparty
   pub named-alike : Alike (q .other) (q .account) (q .code) r
   unfolding confirms
@@ -168,7 +168,7 @@ module _ (s : List ℕ) (q : Request) (r : Row) (h : isBook s ≡ true) (w : Con
   not-own : eqb (r .proposer) (q .account) ≡ false
   not-own = ne-eqb _ _ (λ e. named-sound .two-accounts (e ∙ sym (named-alike .counterparty)))
 
-  broken-next : brokenHour (bookIn s .setup) (next confirm (bookIn s) (q ∷ []) .part .rows) (q .account)
+  broken-next : brokenHour (bookIn s .setup) (changed confirm (bookIn s) (q ∷ []) .part .rows) (q .account)
       ≡ brokenBy (bookIn s .setup) (bookIn s .part .rows) (withStatus 2 r ∷ []) (q .account)
   unfolding apply
   broken-next =
@@ -192,7 +192,7 @@ module _ (s : List ℕ) (q : Request) (r : Row) (h : isBook s ≡ true) (w : Con
 
     module _ (kept : Nowhere ≡ broken (brokenBy (bookIn s .setup) (bookIn s .part .rows) (trade ∷ []) (q .account))) (t : Bool)
         (test : t ≡ coveredWithTrade (bookIn s) r (operatorOf (bookIn s .setup) (q .account))) where
-      covered-next : covered (bookIn s .setup) (next confirm (bookIn s) (q ∷ []) .part) (operatorOf (bookIn s .setup) (q .account)) ≡ t
+      covered-next : covered (bookIn s .setup) (changed confirm (bookIn s) (q ∷ []) .part) (operatorOf (bookIn s .setup) (q .account)) ≡ t
       unfolding apply
       covered-next =
           let o : ℕ = operatorOf (bookIn s .setup) (q .account) in
@@ -211,7 +211,7 @@ module _ (s : List ℕ) (q : Request) (r : Row) (h : isBook s ≡ true) (w : Con
 
 -- ---- what an accepted one writes
 
-module _ (s : List ℕ) (q : Request) (number : ℕ) (h : isBook s ≡ true) (free : decided confirm (bookIn s) q ≡ none)
+module _ (s : List ℕ) (q : Request) (number : ℕ) (h : isSound s ≡ true) (free : decided confirm (bookIn s) q ≡ none)
     (same : number ≡ confirmedNumber (bookIn s) q) where
   pub accepted-number : IsRow (bookIn s) number
   accepted-number =

@@ -21,7 +21,7 @@ use Rattle.rules.specs.declared.Counts.{Counts}
 use Rattle.rules.proofs.Basics.Searches.{each-at}
 use Rattle.setup.specs.Faults.{noOperator}
 use Rattle.image.specs.Layout.{presentOffset}
-use Rattle.image.specs.Valid.{isBook, bookIn}
+use Rattle.image.specs.Valid.{isSound, bookIn}
 use Rattle.image.proofs.Setups.SetupRanges.{SoundOperator, maintenance-of}
 use Rattle.image.proofs.Reading.ImageReads.{guarantee-read}
 use Rattle.book.specs.Members.{IsAccount, IsOperator}
@@ -40,7 +40,7 @@ operator-maintenance : (os : List Operator) (o : ℕ) → 1 ≤ o → o ≤ leng
 operator-maintenance os zero l h = absurd (omega arith)
 operator-maintenance os (suc i) l h = sym (map-get (λ (x : Operator). x .maintenance) os i noOperator 0 (omega arith))
 
-module _ (s : List ℕ) (h : isBook s ≡ true) (o : ℕ) (own : IsOperator (bookIn s) o) where
+module _ (s : List ℕ) (h : isSound s ≡ true) (o : ℕ) (own : IsOperator (bookIn s) o) where
   pub operators-read : o ≤ countsIn s .operators
   operators-read = omega (arith, own .1, ap (λ (m : Counts). m .operators) (counts-in s h))
 
@@ -96,14 +96,14 @@ unfolding covered available
 covered-at b after o owed e = rw e
 
 -- in a book the exposure of each operator is at most what is available
-pub exposure-available : (s : List ℕ) (o : ℕ) → isBook s ≡ true → IsOperator (bookIn s) o
+pub exposure-available : (s : List ℕ) (o : ℕ) → isSound s ≡ true → IsOperator (bookIn s) o
     → exposure (bookIn s .setup) (bookIn s .part .rows) o
     ≤ guaranteeAt (bookIn s .part .guarantees) o .0 * (thousand - maintenanceAt (bookIn s .setup) o)
 unfolding covered available
 exposure-available s o h own = leb-true _ _ (book-is-sound s h .part-sound .is-covered o (own .0) (own .1))
 
 -- so an exposure that is no more than that is covered
-pub still-covered : (s : List ℕ) (a owed : ℕ) → isBook s ≡ true → IsAccount (bookIn s) a
+pub still-covered : (s : List ℕ) (a owed : ℕ) → isSound s ≡ true → IsAccount (bookIn s) a
     → owed ≤ exposure (bookIn s .setup) (bookIn s .part .rows) (operatorOf (bookIn s .setup) a)
     → true ≡ coveredInForce (bookIn s) owed (operatorOf (bookIn s .setup) a)
 still-covered s a owed h own no-more =

@@ -12,7 +12,7 @@ use Rattle.rules.specs.Verdicts.{firstToApply}
 use Rattle.rules.specs.Books.{Book, noRow, operatorOf}
 use Rattle.rules.specs.Requests.{confirm, withdraw}
 use Rattle.rules.specs.Registration.{confirms, withdraws, mirrors, brokenHour, covered}
-use Rattle.rules.specs.Calls.{confirmedNumber, next, stateChecks}
+use Rattle.rules.specs.Calls.{confirmedNumber, changed, stateChecks}
 use Rattle.book.specs.Kinds.{decided}
 
 module _ (b : Book) (q : Request) where
@@ -37,18 +37,18 @@ module _ (b : Book) (q : Request) where
       terms-differ w = rw (eq-eqb _ 1 first, w, named)
 
       module _ (alike-terms : mirrors q (nth (b .part .rows) (confirmedNumber b q) noRow) ≡ true) where
-        pub confirm-breaks : (h : ℕ) → brokenHour (b .setup) (next confirm b (q ∷ []) .part .rows) (q .account) ≡ some h
+        pub confirm-breaks : (h : ℕ) → brokenHour (b .setup) (changed confirm b (q ∷ []) .part .rows) (q .account) ≡ some h
             → decided confirm b q ≡ some (MarginBroken h)
         unfolding decided stateChecks firstToApply
         confirm-breaks h w = rw (eq-eqb _ 1 first, alike-terms, w, named)
 
-        module _ (whole : brokenHour (b .setup) (next confirm b (q ∷ []) .part .rows) (q .account) ≡ none) where
-          pub confirm-uncovered : covered (b .setup) (next confirm b (q ∷ []) .part) (operatorOf (b .setup) (q .account)) ≡ false
+        module _ (whole : brokenHour (b .setup) (changed confirm b (q ∷ []) .part .rows) (q .account) ≡ none) where
+          pub confirm-uncovered : covered (b .setup) (changed confirm b (q ∷ []) .part) (operatorOf (b .setup) (q .account)) ≡ false
               → decided confirm b q ≡ some Uncovered
           unfolding decided stateChecks firstToApply
           confirm-uncovered w = rw (eq-eqb _ 1 first, alike-terms, whole, w, named)
 
-          pub confirm-passes : covered (b .setup) (next confirm b (q ∷ []) .part) (operatorOf (b .setup) (q .account)) ≡ true
+          pub confirm-passes : covered (b .setup) (changed confirm b (q ∷ []) .part) (operatorOf (b .setup) (q .account)) ≡ true
               → decided confirm b q ≡ none
           unfolding decided stateChecks firstToApply
           confirm-passes w = rw (eq-eqb _ 1 first, alike-terms, whole, w, named)

@@ -21,10 +21,10 @@ use Rattle.rules.specs.Verdicts.{firstToApply, accepted}
 use Rattle.rules.specs.Books.{Setup, Book, maintenanceAt, guaranteeAt}
 use Rattle.rules.specs.Requests.{guarantee, inRange}
 use Rattle.rules.specs.Registration.{exposure, covered}
-use Rattle.rules.specs.Calls.{next, given, stateChecks, apply}
+use Rattle.rules.specs.Calls.{changed, given, stateChecks, apply}
 use Rattle.rules.specs.Opening.{guaranteeWidth}
 use Rattle.image.specs.Layout.{presentOffset}
-use Rattle.image.specs.Valid.{isBook, bookIn}
+use Rattle.image.specs.Valid.{isSound, bookIn}
 use Rattle.image.proofs.Writing.BookWrites.{write-guarantee}
 use Rattle.image.proofs.Keeping.KeepsChanges.{apply-keeps}
 use Rattle.image.proofs.Keeping.KeepsKinds.{guarantee-allowed}
@@ -51,11 +51,11 @@ put-same gs zero g l h = absurd (omega arith)
 put-same gs (suc i) g l h = getD-set-same gs i g (cents 0) (omega arith)
 
 module _ (b : Book) (q : Request) (first : b .phase ≡ 1) (low : 1 ≤ q .operator) (high : q .operator ≤ length (b .part .guarantees)) where
-  new-guarantee-covered : covered (b .setup) (next guarantee b (q ∷ []) .part) (q .operator)
+  new-guarantee-covered : covered (b .setup) (changed guarantee b (q ∷ []) .part) (q .operator)
       ≡ coveredUnder b (q .guarantee .0) (q .operator)
   unfolding apply
   new-guarantee-covered =
-      covered-at-guarantee (b .setup) (next guarantee b (q ∷ []) .part) (q .operator) (q .guarantee .0)
+      covered-at-guarantee (b .setup) (changed guarantee b (q ∷ []) .part) (q .operator) (q .guarantee .0)
       (ap (λ (g : Cents). g .0) (put-same (b .part .guarantees) (q .operator) (q .guarantee) low high))
 
   -- refusal 19: the exposure is not covered
@@ -72,7 +72,7 @@ module _ (b : Book) (q : Request) (first : b .phase ≡ 1) (low : 1 ≤ q .opera
   enough-guarantee-in-force t e f = rw (eq-eqb _ 1 first, new-guarantee-covered ∙ sym e ∙ f)
 
 -- a guarantee that is no lower than the one in force covers the exposure of a book
-pub no-lower-covers : (s : List ℕ) → isBook s ≡ true → (o g : ℕ) (held : Cents) → IsOperator (bookIn s) o
+pub no-lower-covers : (s : List ℕ) → isSound s ≡ true → (o g : ℕ) (held : Cents) → IsOperator (bookIn s) o
     → held ≡ guaranteeAt (bookIn s .part .guarantees) o → held .0 ≤ g
     → true ≡ coveredUnder (bookIn s) g o
 no-lower-covers s h o g held own e more =
@@ -83,7 +83,7 @@ no-lower-covers s h o g held own e more =
 
 -- ---- what is written
 
-pub guarantee-answered : (s t : List ℕ) (h : isBook s ≡ true) (q : Request) (at : ℕ) → Ready guarantee (bookIn s) q
+pub guarantee-answered : (s t : List ℕ) (h : isSound s ≡ true) (q : Request) (at : ℕ) → Ready guarantee (bookIn s) q
     → decided guarantee (bookIn s) q ≡ none → at ≡ presentOffset + guaranteeWidth * (q .operator - 1)
     → t ≡ splice s at (le 8 (q .guarantee .0)) → Answered guarantee s q (accepted 0) t
 unfolding given

@@ -1,7 +1,7 @@
 -- Laws of registration.
 -- Decisions: what the state refuses confirm and withdraw for, test by test.
 pub mod Decisions
--- Acceptances: what an accepted confirm or withdraw writes is the image of the next book.
+-- Acceptances: what an accepted confirm or withdraw writes is the image of the changed book.
 pub mod Acceptances
 -- Withdrawals: the row that a withdrawal names.
 pub mod Withdrawals

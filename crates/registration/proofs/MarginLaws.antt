@@ -19,7 +19,7 @@ use Rattle.rules.specs.Books.{Setup, Book, periods, marginsAt}
 use Rattle.rules.specs.Registration.{pending, confirmed, includesHour, bought, sold, netOf, pendingSales, pendingPurchases, accountHour, afterTrade, afterTrades, keepsMargins, brokenBy}
 use Rattle.rules.proofs.Basics.Tests.{test-same}
 use Rattle.rules.proofs.Rows.AccountHours.{hour-takes-all, nets-stay}
-use Rattle.image.specs.Valid.{isBook, bookIn}
+use Rattle.image.specs.Valid.{isSound, bookIn}
 use Rattle.image.proofs.Sound.Soundness.{SoundRow}
 use Rattle.book.specs.Members.{IsAccount, IsHour}
 use Rattle.book.specs.Netted.{netted}
@@ -34,7 +34,7 @@ use Rattle.registration.proofs.SearchLaws.{find-span}
 
 -- ---- what is read of a book
 
-module _ (s : List ℕ) (h : isBook s ≡ true) where
+module _ (s : List ℕ) (h : isSound s ≡ true) where
   -- the net position of an hour and the pending sums fit 32 bits, also with a trade more
   pub hour-room : (waits : List ℕ) (q a k : ℕ) (x : AccountHour) → IsAccount (bookIn s) a → IsHour (bookIn s) k
       → WaitsOf (bookIn s .part .rows) a waits → q ≤ mostEnergy → x ≡ nettedHour (bookIn s .part .rows) a k
@@ -109,7 +109,7 @@ unfolding brokenBy breaksWith
 broken-by-hours u rows added a n e = let same : n + 1 - 1 ≡ n = omega arith in rw (same, e)
 
 -- the test as code makes it
-pub breaks-with-tested : (s : List ℕ) → isBook s ≡ true → (added : List Row) (a h : ℕ) (table : List ℕ) (margins : Margins) (held : AccountHour) (t : Bool)
+pub breaks-with-tested : (s : List ℕ) → isSound s ≡ true → (added : List Row) (a h : ℕ) (table : List ℕ) (margins : Margins) (held : AccountHour) (t : Bool)
     → Each (λ r. pending r ≡ true) added → WaitsOf (bookIn s .part .rows ++ added) a table → IsHour (bookIn s) h
     → margins ≡ marginsAt (bookIn s .setup) a h → held ≡ tabledHour (bookIn s .part .rows) table a h → t ≡ keepsMargins margins held
     → breaksWith (bookIn s .setup) (bookIn s .part .rows) added a h ≡ not t
@@ -137,7 +137,7 @@ takes-elsewhere rows trade a h e =
       add-zero (pendingPurchases rows a h),
     )
 
-module _ (s : List ℕ) (h : isBook s ≡ true) (trade : Row) (a : ℕ) (t : AccountTrade (bookIn s) a trade) where
+module _ (s : List ℕ) (h : isSound s ≡ true) (trade : Row) (a : ℕ) (t : AccountTrade (bookIn s) a trade) where
   -- so it breaks no margin there: in a book none is broken
   kept-elsewhere : (k : ℕ) → 1 ≤ k → k ≤ periods (bookIn s .setup) → includesHour k trade ≡ false → breaks (bookIn s .setup) (bookIn s .part .rows) trade a k ≡ false
   unfolding breaks
@@ -160,20 +160,21 @@ unfolding breaks
 breaks-tested u rows trade a h margins held after t eo eh ea et =
     ap not (sym (keeps-netted (marginsAt u a h) rows trade a h)) ∙ rw (← eo, ← eh, ← ea, ← et)
 
--- ---- what the search says, of a trade that is this one
+-- ---- what the search says
 
+pub tells-hour : (o : Option ℕ) (h : ℕ) → Hour h ≡ broken o → o ≡ some h
+tells-hour none h z = cc
+tells-hour (some k) h z = cc
+
+pub tells-nowhere : (o : Option ℕ) → Nowhere ≡ broken o → o ≡ none
+tells-nowhere none z = refl
+tells-nowhere (some k) z = cc
+
+-- the same of a trade that is this one
 pub found-hour : (u : Setup) (rows : List Row) (trade other : Row) (a h : ℕ) → trade ≡ other → Hour h ≡ broken (brokenBy u rows (trade ∷ []) a)
     → brokenBy u rows (other ∷ []) a ≡ some h
-found-hour u rows trade other a h e f = go (brokenBy u rows (other ∷ []) a) (rw e at f)
-  where
-    go : (o : Option ℕ) → Hour h ≡ broken o → o ≡ some h
-    go none z = cc
-    go (some k) z = cc
+found-hour u rows trade other a h e f = tells-hour (brokenBy u rows (other ∷ []) a) h (rw e at f)
 
 pub found-nowhere : (u : Setup) (rows : List Row) (trade other : Row) (a : ℕ) → trade ≡ other → Nowhere ≡ broken (brokenBy u rows (trade ∷ []) a)
     → brokenBy u rows (other ∷ []) a ≡ none
-found-nowhere u rows trade other a e f = go (brokenBy u rows (other ∷ []) a) (rw e at f)
-  where
-    go : (o : Option ℕ) → Nowhere ≡ broken o → o ≡ none
-    go none z = refl
-    go (some k) z = cc
+found-nowhere u rows trade other a e f = tells-nowhere (brokenBy u rows (other ∷ []) a) (rw e at f)

@@ -14,13 +14,13 @@ use Rattle.rules.specs.Basics.{anyPasses, nil, cons}
 use Rattle.rules.specs.Limits.{mostHours, mostRows, bookSize}
 use Rattle.rules.specs.Verdicts.{accepted}
 use Rattle.rules.specs.Books.{Book, operatorOf}
-use Rattle.rules.specs.Requests.{register}
+use Rattle.rules.specs.Requests.{Kind, register, kindNumber, wantedMap}
 use Rattle.rules.specs.Registration.{alike, hasTwin, twins, proposed, brokenBy}
 use Rattle.rules.specs.Calls.{given}
-use Rattle.rules.proofs.Checks.Passed.{passed-15}
+use Rattle.rules.proofs.Checks.Passed.{TradeFields, passed-15}
 use Rattle.image.specs.Layout.{presentOffset, rowOffset}
-use Rattle.image.specs.Valid.{isBook, bookIn}
-use Rattle.image.proofs.Sound.Soundness.{SoundRow}
+use Rattle.image.specs.Valid.{isSound, bookIn}
+use Rattle.image.proofs.Sound.Soundness.{SoundRow, sound-row, row-sound}
 use Rattle.image.proofs.Writing.BookWrites.{write-row}
 use Rattle.image.proofs.Keeping.KeepsChanges.{apply-keeps}
 use Rattle.image.proofs.Keeping.KeepsKinds.{proposed-sound, register-allowed}
@@ -28,14 +28,22 @@ use Rattle.book.specs.Kinds.{decided, Ready}
 use Rattle.book.proofs.StateLaws.{book-image, book-fits, book-is-sound}
 use Rattle.book.proofs.Answers.{decided-clear, Answered, accepted-answered}
 use Rattle.book.proofs.Readiness.{bare, ready-input}
-use Rattle.registration.specs.Proposing.{Addable, Proposing, rowAppended}
+use Rattle.registration.specs.Proposing.{Addable, ProposesRow, Proposing, rowAppended}
 use Rattle.registration.specs.Cover.{coveredWithRow}
 use Rattle.registration.proofs.AddingLaws as Adding
 
--- ---- a request that is ready
+-- ---- a request that proposes a row
 
-pub ready-row : (b : Book) (q : Request) → Ready register b q → SoundRow (b .setup) (proposed q)
-ready-row b q r = proposed-sound (b .setup) q (r .of-kind) (r .code-fits) (r .in-range) (r .two-accounts)
+pub proposing-sound : (b : Book) (q : Request) → Proposing b q → SoundRow (b .setup) (proposed q)
+proposing-sound b q p = sound-row (b .setup) (proposed q) (p .proposes)
+
+-- one that is ready does, where its kind has the fields of a register
+pub ready-fields : (k : Kind) (b : Book) (q : Request) → wantedMap (kindNumber k) ≡ wantedMap (kindNumber register) → Ready k b q → TradeFields q
+ready-fields k b q e r = ap wantedMap (r .of-kind) ∙ e
+
+pub ready-proposes : (k : Kind) (b : Book) (q : Request) → wantedMap (kindNumber k) ≡ wantedMap (kindNumber register) → Ready k b q → ProposesRow b q
+ready-proposes k b q e r =
+    row-sound (b .setup) (proposed q) (proposed-sound (b .setup) q (ready-fields k b q e r) (r .code-fits) (r .in-range) (r .two-accounts))
 
 -- ---- what the state decides
 
@@ -94,7 +102,7 @@ few-rows b q d = omega (arith, passed-15 b (q ∷ []) register refl (decided-cle
 
 -- ---- what is written
 
-pub registered-answered : (s t : List ℕ) (h : isBook s ≡ true) (q : Request) (n : ℕ) → Ready register (bookIn s) q
+pub registered-answered : (s t : List ℕ) (h : isSound s ≡ true) (q : Request) (n : ℕ) → Ready register (bookIn s) q
     → decided register (bookIn s) q ≡ none → n ≡ length (bookIn s .part .rows) → n < mostRows
     → t ≡ rowAppended s n (proposed q)
     → Answered register s q (accepted (n + 1)) t
@@ -105,4 +113,4 @@ registered-answered s t h q n r d e few w =
     ∙ ap (λ (x : List ℕ). rowAppended x n (proposed q)) (book-image s h)
     ∙ write-row mostHours bookSize (bookIn s) (book-fits s h) (proposed q) n (presentOffset + rowOffset n) refl e few refl)
     (apply-keeps _ (bookIn s) (book-is-sound s h)
-    (register-allowed (bookIn s) (q ∷ []) (book-is-sound s h) bare (cons (r .of-kind) nil) (cons (r .code-fits) nil) (ready-input register (bookIn s) q r bare refl) (decided-clear register (bookIn s) q d)))
+    (register-allowed (bookIn s) (q ∷ []) (book-is-sound s h) bare (cons (ready-fields register (bookIn s) q refl r) nil) (cons (r .code-fits) nil) (ready-input register (bookIn s) q r bare refl) (decided-clear register (bookIn s) q d)))

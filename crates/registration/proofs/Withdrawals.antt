@@ -13,7 +13,7 @@ use Rattle.rules.specs.Registration.{withdraws}
 use Rattle.rules.proofs.Basics.Tests.{and-both}
 use Rattle.rules.proofs.Rows.AccountHours.{pending-inside}
 use Rattle.image.specs.Layout.{presentOffset, rowOffset, statusOffset}
-use Rattle.image.specs.Valid.{isBook, bookIn}
+use Rattle.image.specs.Valid.{isSound, bookIn}
 use Rattle.book.specs.Members.{IsRow}
 use Rattle.book.proofs.StateLaws.{numbered-value-stands}
 
@@ -29,7 +29,7 @@ no-such-number rows q h = go (withdraws rows q) refl
         absurd (omega arith)
 
 -- the row of that number, by the bytes at its place
-pub own-pending : (s : List ℕ) (q : Request) (at status proposer : ℕ) → isBook s ≡ true → IsRow (bookIn s) (q .number) → at ≡ presentOffset + rowOffset (q .number - 1)
+pub own-pending : (s : List ℕ) (q : Request) (at status proposer : ℕ) → isSound s ≡ true → IsRow (bookIn s) (q .number) → at ≡ presentOffset + rowOffset (q .number - 1)
     → status ≡ numberAt s (at + statusOffset) 1 → proposer ≡ numberAt s at 1
     → eqb status 1 && eqb proposer (q .account) ≡ withdraws (bookIn s .part .rows) q
 unfolding withdraws

@@ -9,7 +9,7 @@ ghost use Rattle.rules.specs.Verdicts.{checked};
 ghost use Rattle.rules.specs.Requests.{confirm};
 ghost use Rattle.rules.specs.Registration.{withStatus, mirrors};
 ghost use Rattle.rules.specs.Calls.{confirmedNumber};
-ghost use Rattle.image.specs.Valid.{isBook, bookIn, bookBytes};
+ghost use Rattle.image.specs.Valid.{isSound, bookIn, bookBytes};
 ghost use Rattle.image.specs.Tables.{Tabled};
 ghost use Rattle.book.specs.Members.{IsAccount, IsRow, numberedRow};
 ghost use Rattle.book.specs.Kinds.{decided, outcomeOn, bookAfter, Ready};
@@ -41,7 +41,7 @@ use wire::numbers::put_u8;
 
 // The number of the row that the request confirms, or 0.
 fn confirmed_number(book: &[u8], request: Request) -> u16
-    requires { ⌜ isBook (now book) ≡ true ⌝ }
+    requires { ⌜ isSound (now book) ≡ true ⌝ }
     ensures meaning { λ r. ⌜ r ≡ confirmedNumber (bookIn (now (book .entry))) request ⌝ }
     ensures bounded { λ r. ⌜ r ≤ length (bookIn (now (book .entry)) .part .rows) ⌝ }
 {
@@ -50,7 +50,7 @@ fn confirmed_number(book: &[u8], request: Request) -> u16
 
 // The row of a number.
 fn numbered_row(book: &[u8], number: u16) -> Row
-    requires { ⌜ (isBook (now book) ≡ true) × IsRow (bookIn (now book)) number ⌝ }
+    requires { ⌜ (isSound (now book) ≡ true) × IsRow (bookIn (now book)) number ⌝ }
     ensures { λ r. ⌜ r ≡ numberedRow (bookIn (now (book .entry))) number ⌝ }
 {
     row_at(book, row_offset(number))
@@ -85,7 +85,7 @@ fn confirmed_row(r: Row) -> Row
 
 // Whether the exposure of the account's operator is covered once the pending row is confirmed; `trade` is the confirmed row.
 fn covered_with_trade(book: &[u8], row: Row, trade: Row, number: u8) -> bool
-    requires { ⌜ (isBook (now book) ≡ true) × IsAccount (bookIn (now book)) number ⌝ }
+    requires { ⌜ (isSound (now book) ≡ true) × IsAccount (bookIn (now book)) number ⌝ }
     requires { ⌜ WaitsIn (bookIn (now book)) row × (trade ≡ withStatus confirmedStatus row) ⌝ }
     ensures { λ r. ⌜ (let b = bookIn (now (book .entry)) in r ≡ coveredWithTrade b row (operatorOf (b .setup) number)) ⌝ }
 {
@@ -101,7 +101,7 @@ fn covered_with_trade(book: &[u8], row: Row, trade: Row, number: u8) -> bool
 
 // What confirm is refused for once it mirrors the row that it names: a margin that the trade breaks, or an exposure that is not covered.
 fn margin_or_exposure_fault(book: &[u8], request: Request, row: Row) -> Checked
-    requires { ⌜ (isBook (now book) ≡ true) × Confirming (bookIn (now book)) request row ⌝ }
+    requires { ⌜ (isSound (now book) ≡ true) × Confirming (bookIn (now book)) request row ⌝ }
     ensures { λ r. ⌜ r ≡ checked (decided confirm (bookIn (now (book .entry))) request) ⌝ }
 {
     let trade = confirmed_row(row);
@@ -116,7 +116,7 @@ fn margin_or_exposure_fault(book: &[u8], request: Request, row: Row) -> Checked
 
 // What confirm is refused for; `number` is that of the row which it names.
 fn confirm_fault(book: &[u8], request: Request, number: u16) -> Checked
-    requires { ⌜ isBook (now book) ≡ true ⌝ }
+    requires { ⌜ isSound (now book) ≡ true ⌝ }
     requires { ⌜ number ≡ confirmedNumber (bookIn (now book)) request ⌝ }
     ensures { λ r. ⌜ r ≡ checked (decided confirm (bookIn (now (book .entry))) request) ⌝ }
 {
@@ -144,11 +144,11 @@ fn put_trade(book: &mut [u8], number: u16, row: Row)
 
 // Kind 2: the row that the request names and mirrors is confirmed, under its number.
 pub fn confirm(book: &mut [u8], request: Request) -> Outcome
-    requires { ⌜ isBook (now book) ≡ true ⌝ }
+    requires { ⌜ isSound (now book) ≡ true ⌝ }
     requires { ⌜ Ready confirm (bookIn (now book)) request ⌝ }
     ensures answer { λ o. ⌜ o ≡ outcomeOn confirm (bookIn (now (book .entry))) request ⌝ }
     ensures bytes { λ _. ⌜ now (book .exit) ≡ bookBytes (bookAfter confirm (bookIn (now (book .entry))) request) ⌝ }
-    ensures still { λ _. ⌜ isBook (now (book .exit)) ≡ true ⌝ }
+    ensures still { λ _. ⌜ isSound (now (book .exit)) ≡ true ⌝ }
 {
     let number = confirmed_number(book, request);
     if let Checked::Fails(r) = confirm_fault(book, request, number) {

@@ -5,7 +5,7 @@ ghost use Prim.Native.Nat.{_≤_};
 ghost use Rattle.rules.specs.Limits.{mostGuarantee};
 ghost use Rattle.rules.specs.Verdicts.{checked};
 ghost use Rattle.rules.specs.Requests.{guarantee};
-ghost use Rattle.image.specs.Valid.{isBook, bookIn, bookBytes};
+ghost use Rattle.image.specs.Valid.{isSound, bookIn, bookBytes};
 ghost use Rattle.book.specs.Members.{IsOperator};
 ghost use Rattle.book.specs.Kinds.{decided, outcomeOn, bookAfter, Ready};
 ghost use Rattle.registration.specs.Cover.{coveredUnder};
@@ -28,7 +28,7 @@ use wire::numbers::put_u64;
 // Whether the operator's exposure is covered by the guarantee. One that is no lower than the guarantee in force covers it: in a book every
 // exposure is at most what is available.
 fn covered_under(book: &[u8], guarantee: Cents, number: u8) -> bool
-    requires { ⌜ (isBook (now book) ≡ true) × (guarantee .0 ≤ mostGuarantee) × IsOperator (bookIn (now book)) number ⌝ }
+    requires { ⌜ (isSound (now book) ≡ true) × (guarantee .0 ≤ mostGuarantee) × IsOperator (bookIn (now book)) number ⌝ }
     ensures { λ r. ⌜ r ≡ coveredUnder (bookIn (now (book .entry))) (guarantee .0) number ⌝ }
 {
     let in_force = guarantee_in_force(book, number);
@@ -41,7 +41,7 @@ fn covered_under(book: &[u8], guarantee: Cents, number: u8) -> bool
 
 // What guarantee is refused for.
 fn guarantee_fault(book: &[u8], request: Request) -> Checked
-    requires { ⌜ isBook (now book) ≡ true ⌝ }
+    requires { ⌜ isSound (now book) ≡ true ⌝ }
     requires { ⌜ Ready guarantee (bookIn (now book)) request ⌝ }
     ensures { λ r. ⌜ r ≡ checked (decided guarantee (bookIn (now (book .entry))) request) ⌝ }
 {
@@ -56,11 +56,11 @@ fn guarantee_fault(book: &[u8], request: Request) -> Checked
 
 // Kind 4: the operator's guarantee becomes the one named.
 pub fn guarantee(book: &mut [u8], request: Request) -> Outcome
-    requires { ⌜ isBook (now book) ≡ true ⌝ }
+    requires { ⌜ isSound (now book) ≡ true ⌝ }
     requires { ⌜ Ready guarantee (bookIn (now book)) request ⌝ }
     ensures answer { λ o. ⌜ o ≡ outcomeOn guarantee (bookIn (now (book .entry))) request ⌝ }
     ensures bytes { λ _. ⌜ now (book .exit) ≡ bookBytes (bookAfter guarantee (bookIn (now (book .entry))) request) ⌝ }
-    ensures still { λ _. ⌜ isBook (now (book .exit)) ≡ true ⌝ }
+    ensures still { λ _. ⌜ isSound (now (book .exit)) ≡ true ⌝ }
 {
     if let Checked::Fails(r) = guarantee_fault(book, request) {
         return Outcome {

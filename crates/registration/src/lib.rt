@@ -1,4 +1,4 @@
-// Registration on a book that is known to be one: kinds 1 to 4.
+// Registration on a sound book: kinds 1 to 4.
 pub mod confirm;
 pub mod cover;
 pub mod guarantee;

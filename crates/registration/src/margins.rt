@@ -3,7 +3,7 @@ ghost use mathlib.Core.Path.{_≡_};
 ghost use mathlib.Core.Bool.{true};
 ghost use mathlib.Core.List.{[], _∷_};
 ghost use Rattle.rules.specs.Registration.{brokenBy};
-ghost use Rattle.image.specs.Valid.{isBook, bookIn};
+ghost use Rattle.image.specs.Valid.{isSound, bookIn};
 ghost use Rattle.book.specs.Waits.{WaitsOf};
 ghost use Rattle.registration.specs.Margins.{AccountTrade, broken};
 use book::waits::account_hour;
@@ -22,7 +22,7 @@ pub enum Broken {
 // The lowest hour in which the account breaks a margin after the trade; `waits` holds the account's pending sums. Only the trade's hours are
 // tested: the other hours stay as they are, and in a book no margin is broken.
 pub fn first_broken(book: &[u8], waits: &[u32], trade: Row, number: u8) -> Broken
-    requires { ⌜ (isBook (now book) ≡ true) × WaitsOf (bookIn (now book) .part .rows) number (now waits) ⌝ }
+    requires { ⌜ (isSound (now book) ≡ true) × WaitsOf (bookIn (now book) .part .rows) number (now waits) ⌝ }
     requires { ⌜ AccountTrade (bookIn (now book)) number trade ⌝ }
     ensures { λ r. ⌜ (let b = bookIn (now (book .entry)) in r ≡ broken (brokenBy (b .setup) (b .part .rows) (trade ∷ []) number)) ⌝ }
 {
@@ -45,7 +45,7 @@ pub fn first_broken(book: &[u8], waits: &[u32], trade: Row, number: u8) -> Broke
 
 // The same, with the account's pending sums worked out here.
 pub fn broken_hour(book: &[u8], trade: Row, number: u8) -> Broken
-    requires { ⌜ (isBook (now book) ≡ true) × AccountTrade (bookIn (now book)) number trade ⌝ }
+    requires { ⌜ (isSound (now book) ≡ true) × AccountTrade (bookIn (now book)) number trade ⌝ }
     ensures { λ r. ⌜ (let b = bookIn (now (book .entry)) in r ≡ broken (brokenBy (b .setup) (b .part .rows) (trade ∷ []) number)) ⌝ }
 {
     let mut waits = no_waits();

@@ -8,12 +8,12 @@ ghost use Rattle.rules.specs.Verdicts.{checked};
 ghost use Rattle.rules.specs.Requests.{register};
 ghost use Rattle.rules.specs.Books.{operatorOf};
 ghost use Rattle.rules.specs.Registration.{pending, proposed};
-ghost use Rattle.image.specs.Valid.{isBook, bookIn, bookBytes};
+ghost use Rattle.image.specs.Valid.{isSound, bookIn, bookBytes};
 ghost use Rattle.book.specs.Members.{IsAccount};
 ghost use Rattle.book.specs.Waits.{WaitsOf};
 ghost use Rattle.book.specs.Worth.{TradeInRange};
 ghost use Rattle.book.specs.Kinds.{decided, outcomeOn, bookAfter, Ready};
-ghost use Rattle.registration.specs.Proposing.{Proposing, rowAppended};
+ghost use Rattle.registration.specs.Proposing.{ProposesRow, Proposing, rowAppended};
 ghost use Rattle.registration.specs.Cover.{coveredWithRow};
 use crate::cover::covered_in_force;
 use crate::margins::Broken;
@@ -62,7 +62,7 @@ pub fn proposed_row(request: Request) -> Row
 
 // Whether the exposure of the account's operator is covered once the row is added.
 fn covered_with_row(book: &[u8], row: Row, number: u8) -> bool
-    requires { ⌜ (isBook (now book) ≡ true) × IsAccount (bookIn (now book)) number ⌝ }
+    requires { ⌜ (isSound (now book) ≡ true) × IsAccount (bookIn (now book)) number ⌝ }
     requires { ⌜ TradeInRange (bookIn (now book) .setup) row × (pending row ≡ true) ⌝ }
     ensures { λ r. ⌜ (let b = bookIn (now (book .entry)) in r ≡ coveredWithRow b row (operatorOf (b .setup) number)) ⌝ }
 {
@@ -78,7 +78,7 @@ fn covered_with_row(book: &[u8], row: Row, number: u8) -> bool
 // What register is refused for once its row has no twin and there is a number for it: a margin that it breaks, or an exposure that is not
 // covered. `waits` holds the account's pending sums.
 fn margin_or_exposure_fault(book: &[u8], waits: &[u32], request: Request) -> Checked
-    requires { ⌜ (isBook (now book) ≡ true) × WaitsOf (bookIn (now book) .part .rows) (request .account) (now waits) ⌝ }
+    requires { ⌜ (isSound (now book) ≡ true) × WaitsOf (bookIn (now book) .part .rows) (request .account) (now waits) ⌝ }
     requires { ⌜ Proposing (bookIn (now book)) request ⌝ }
     ensures { λ r. ⌜ r ≡ checked (decided register (bookIn (now (book .entry))) request) ⌝ }
 {
@@ -93,9 +93,9 @@ fn margin_or_exposure_fault(book: &[u8], waits: &[u32], request: Request) -> Che
 }
 
 // What register is refused for.
-fn register_fault(book: &[u8], request: Request) -> Checked
-    requires { ⌜ isBook (now book) ≡ true ⌝ }
-    requires { ⌜ Ready register (bookIn (now book)) request ⌝ }
+pub fn register_fault(book: &[u8], request: Request) -> Checked
+    requires { ⌜ isSound (now book) ≡ true ⌝ }
+    requires { ⌜ ProposesRow (bookIn (now book)) request ⌝ }
     ensures { λ r. ⌜ r ≡ checked (decided register (bookIn (now (book .entry))) request) ⌝ }
 {
     if phase(book) != REGISTRATION {
@@ -134,11 +134,11 @@ pub fn append_row(book: &mut [u8], n: u16, r: Row)
 
 // Kind 1: the row that the request proposes is pending under the next number.
 pub fn register(book: &mut [u8], request: Request) -> Outcome
-    requires { ⌜ isBook (now book) ≡ true ⌝ }
+    requires { ⌜ isSound (now book) ≡ true ⌝ }
     requires { ⌜ Ready register (bookIn (now book)) request ⌝ }
     ensures answer { λ o. ⌜ o ≡ outcomeOn register (bookIn (now (book .entry))) request ⌝ }
     ensures bytes { λ _. ⌜ now (book .exit) ≡ bookBytes (bookAfter register (bookIn (now (book .entry))) request) ⌝ }
-    ensures still { λ _. ⌜ isBook (now (book .exit)) ≡ true ⌝ }
+    ensures still { λ _. ⌜ isSound (now (book .exit)) ≡ true ⌝ }
 {
     if let Checked::Fails(r) = register_fault(book, request) {
         return Outcome {

@@ -5,7 +5,7 @@ ghost use Prim.Native.Nat.{_+_, _*_, _≤_};
 ghost use lib.ListN.{length, take, drop};
 ghost use Rattle.rules.specs.Registration.{alike};
 ghost use Rattle.image.specs.Image.{rowIn};
-ghost use Rattle.image.specs.Valid.{isBook, bookIn};
+ghost use Rattle.image.specs.Valid.{isSound, bookIn};
 ghost use Rattle.image.specs.Cells.{rowsFrom};
 ghost use Rattle.image.specs.Layout.{rowWidth};
 ghost use Rattle.registration.specs.Confirming.{numberAlike};
@@ -60,7 +60,7 @@ fn number_among(
 
 // The number of the book's first such row, or 0.
 pub fn pending_number(book: &[u8], proposer: u8, counterparty: u8, code: u64) -> u16
-    requires { ⌜ isBook (now book) ≡ true ⌝ }
+    requires { ⌜ isSound (now book) ≡ true ⌝ }
     ensures meaning { λ r. ⌜ r ≡ numberAlike proposer counterparty code (bookIn (now (book .entry)) .part .rows) ⌝ }
     ensures bounded { λ r. ⌜ r ≤ length (bookIn (now (book .entry)) .part .rows) ⌝ }
 {

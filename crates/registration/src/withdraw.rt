@@ -5,7 +5,7 @@ ghost use Prim.Native.Nat.{_≤_};
 ghost use Rattle.rules.specs.Verdicts.{checked};
 ghost use Rattle.rules.specs.Requests.{withdraw};
 ghost use Rattle.rules.specs.Registration.{withdraws};
-ghost use Rattle.image.specs.Valid.{isBook, bookIn, bookBytes};
+ghost use Rattle.image.specs.Valid.{isSound, bookIn, bookBytes};
 ghost use Rattle.book.specs.Kinds.{decided, outcomeOn, bookAfter, Ready};
 use book::state::phase;
 use book::state::row_count;
@@ -24,7 +24,7 @@ use wire::numbers::put_u8;
 
 // Whether the row that the request names is pending and its account's own.
 fn is_own_pending(book: &[u8], request: Request) -> bool
-    requires { ⌜ isBook (now book) ≡ true ⌝ }
+    requires { ⌜ isSound (now book) ≡ true ⌝ }
     requires { ⌜ 1 ≤ request .number ⌝ }
     ensures { λ r. ⌜ r ≡ withdraws (bookIn (now (book .entry)) .part .rows) request ⌝ }
 {
@@ -37,7 +37,7 @@ fn is_own_pending(book: &[u8], request: Request) -> bool
 
 // What withdraw is refused for.
 fn withdrawal_fault(book: &[u8], request: Request) -> Checked
-    requires { ⌜ isBook (now book) ≡ true ⌝ }
+    requires { ⌜ isSound (now book) ≡ true ⌝ }
     requires { ⌜ 1 ≤ request .number ⌝ }
     ensures { λ r. ⌜ r ≡ checked (decided withdraw (bookIn (now (book .entry))) request) ⌝ }
 {
@@ -52,11 +52,11 @@ fn withdrawal_fault(book: &[u8], request: Request) -> Checked
 
 // Kind 3: the row's status becomes withdrawn.
 pub fn withdraw(book: &mut [u8], request: Request) -> Outcome
-    requires { ⌜ isBook (now book) ≡ true ⌝ }
+    requires { ⌜ isSound (now book) ≡ true ⌝ }
     requires { ⌜ Ready withdraw (bookIn (now book)) request ⌝ }
     ensures answer { λ o. ⌜ o ≡ outcomeOn withdraw (bookIn (now (book .entry))) request ⌝ }
     ensures bytes { λ _. ⌜ now (book .exit) ≡ bookBytes (bookAfter withdraw (bookIn (now (book .entry))) request) ⌝ }
-    ensures still { λ _. ⌜ isBook (now (book .exit)) ≡ true ⌝ }
+    ensures still { λ _. ⌜ isSound (now (book .exit)) ≡ true ⌝ }
 {
     if let Checked::Fails(r) = withdrawal_fault(book, request) {
         return Outcome {

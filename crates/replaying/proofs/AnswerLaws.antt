@@ -23,7 +23,7 @@ use Rattle.rules.specs.Lists.{isAcceptance, accepts, acceptsAs}
 use Rattle.rules.specs.Replay.{callOf, answered, answerLines, settledLines, lineText, text}
 use Rattle.rules.proofs.Basics.Searches.{each-map, counting-length}
 use Rattle.rules.proofs.Checks.Clearing.{Clear}
-use Rattle.rules.proofs.Checks.Passed.{Passed, passed-2, passed-3, kind-number, strip-readable, readable}
+use Rattle.rules.proofs.Checks.Passed.{Passed, bytes-kind, readable}
 use Rattle.rules.proofs.Lists.CallLists.{accepts-passed}
 use Rattle.records.proofs.ReadingLaws.{kind-third}
 use Rattle.items.specs.Stream.{recordLength}
@@ -38,21 +38,12 @@ use Rattle.replaying.specs.Lent.{answerText}
 
 -- ---- which items settle
 
--- bytes that are not refused can be read, and say the number of their kind
-read-kind : (s : List ℕ) → Clear (bytesChecks s) → (unreadable s ≡ false) × (kindNumber (kindOf (fieldIn s 0)) ≡ fieldIn s 0)
-read-kind s h = go (isStrip s) refl h
-  where
-    go : (t : Bool) → isStrip s ≡ t → Clear (if t then stripChecks s else readChecks s)
-        → (unreadable s ≡ false) × (kindNumber (kindOf (fieldIn s 0)) ≡ fieldIn s 0)
-    go true e h = (strip-readable s h, rw (eqb-true (fieldIn s 0) (kindNumber strip) e))
-    go false e h = (passed-2 s h, kind-number (fieldIn s 0) (passed-3 s h))
-
 module _ (b : Book) (item : List ℕ) where
   -- the kind that a call passed with is the item's third byte
   third-byte : Passed b (callOf item) → kindNumber (callKind (callOf item)) ≡ getD item 2 0
   third-byte p =
       let s : List ℕ = callOf item .bytes in
-      let (read, kind) = read-kind s (p .read) in
+      let (read, kind) = bytes-kind s (p .read) in
       let r = readable s read in
       let n = length-take-le (recordLength item) item (record-within item) in
       let l : 2 < recordLength item = omega (arith, ap length (record-bytes item)) in
@@ -83,17 +74,7 @@ short-settles-nothing t item h = rw (List·getD-eq-default item 0 {n = 2} h) (go
 module _ (b : Book) (c : Call) where
   others : (k : Kind) → k oneOf (settle ∷ []) ≡ false → settles k b c ≡ none
   unfolding settles
-  others register h = refl
-  others confirm h = refl
-  others withdraw h = refl
-  others guarantee h = refl
-  others openBatch h = refl
-  others undo h = refl
-  others keep h = refl
-  others closeGate h = refl
-  others schedule h = refl
-  others strip h = refl
-  others settle h = let z : _≡_ {A = ℕ} 0 1 = cc in absurd (omega arith)
+  others k h = rw h
 
   unsettled-go : (o : Option Refusal) → (isAcceptance (answer b c o .outcome .verdict) && callKind c oneOf (settle ∷ [])) ≡ false
       → workedOut b c o ≡ none

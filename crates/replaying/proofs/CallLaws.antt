@@ -8,7 +8,7 @@ use lib.ListN.{length, take, drop, replicate, length-drop}
 use lib.Seq.{take-all}
 use Rattle.rules.specs.declared.Outcome.{Outcome}
 use Rattle.rules.specs.Limits.{mostSchedules, mostOperators}
-use Rattle.rules.specs.Calls.{Call, carried, step}
+use Rattle.rules.specs.Calls.{Call, Answer, Gives, carried, step}
 use Rattle.rules.specs.Replay.{callOf}
 use Rattle.items.specs.Stream.{recordLength}
 use Rattle.items.proofs.StreamLaws.{call-parts}
@@ -16,7 +16,10 @@ use Rattle.image.specs.Valid.{isBook, bookBytes, bookIn}
 use Rattle.day.specs.Answers.{callAnswer, callWith}
 use Rattle.valuation.specs.Tables.{balanceWidth}
 use Rattle.day.proofs.AnswerLaws.{call-on-book}
-use Rattle.day.proofs.CallLaws.{GivesBook}
+
+-- an answer is given, and the bytes are a book
+abbrev GivesBook : Answer (List ℕ) → Outcome → List ℕ → List ℕ → List ℕ → Type 0
+GivesBook x o t results balances = Gives x o t results balances × (isBook t ≡ true)
 
 module _ (s item : List ℕ) (h : isBook s ≡ true) where
   -- the prices, as the code cuts them out

@@ -7,3 +7,5 @@ pub mod Strips
 pub mod Batches
 -- Carrying: a list on books of two forms on which calls answer alike.
 pub mod Carrying
+-- Asks: an ask answers as its register, what a call leaves of the asks, and a commit gives what its ask gave.
+pub mod Asks

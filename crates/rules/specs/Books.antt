@@ -1,9 +1,10 @@
--- The plain book (document 01, "Opening"): set-up, phase, rows, schedules and, while a batch is open, the part saved at its opening.
+-- The plain book (document 01, "Opening"; document 02, note 4): set-up, phase, rows, schedules, while a batch is open the part saved at
+-- its opening, and the asks that stand.
 -- It holds no sums: net positions and exposures are functions of the rows.
 use Prim.Native.Nat.{ℕ}
 use mathlib.Core.List.{List, []}
-use mathlib.Core.Option.{Option}
-use lib.ListN.{length}
+use mathlib.Core.Option.{Option, none}
+use lib.ListN.{length, replicate}
 use Rattle.units.specs.declared.Kwh.{Kwh}
 use Rattle.units.specs.declared.Cents.{Cents}
 use Rattle.units.specs.declared.CentsPerMwh.{CentsPerMwh}
@@ -14,6 +15,7 @@ use Rattle.rules.specs.declared.Point.{Point}
 use Rattle.rules.specs.declared.Row.{Row}
 use Rattle.rules.specs.declared.Schedule.{Schedule}
 use Rattle.rules.specs.Basics.{nth}
+use Rattle.rules.specs.Limits.{mostAccounts}
 
 -- ---- the paper's numbers
 
@@ -84,12 +86,14 @@ pub record Part : Type 0 where
   pub guarantees : List Cents
   pub rows : List Row
 
+-- asks: a place for each account number that a day may have, with the row that the account asked for, if its ask stands
 pub record Book : Type 0 where
   pub setup : Setup
   pub phase : ℕ
   pub part : Part
   pub schedules : List Schedule
   pub saved : Option Part
+  pub asks : List (Option Row)
 
 -- ---- a part and a book with one field changed
 
@@ -100,16 +104,20 @@ abbrev pub partRows : Part → List Row → Part
 partRows p rows = record { guarantees = p .guarantees; rows = rows }
 
 abbrev pub withPhase : Book → ℕ → Book
-withPhase b phase = record { setup = b .setup; phase = phase; part = b .part; schedules = b .schedules; saved = b .saved }
+withPhase b phase = record { setup = b .setup; phase = phase; part = b .part; schedules = b .schedules; saved = b .saved; asks = b .asks }
 
 abbrev pub withPart : Book → Part → Book
-withPart b part = record { setup = b .setup; phase = b .phase; part = part; schedules = b .schedules; saved = b .saved }
+withPart b part = record { setup = b .setup; phase = b .phase; part = part; schedules = b .schedules; saved = b .saved; asks = b .asks }
 
 abbrev pub withSchedules : Book → List Schedule → Book
-withSchedules b xs = record { setup = b .setup; phase = b .phase; part = b .part; schedules = xs; saved = b .saved }
+withSchedules b xs = record { setup = b .setup; phase = b .phase; part = b .part; schedules = xs; saved = b .saved; asks = b .asks }
 
 abbrev pub withSaved : Book → Option Part → Book
-withSaved b saved = record { setup = b .setup; phase = b .phase; part = b .part; schedules = b .schedules; saved = saved }
+withSaved b saved = record { setup = b .setup; phase = b .phase; part = b .part; schedules = b .schedules; saved = saved; asks = b .asks }
+
+abbrev pub withAsks : Book → List (Option Row) → Book
+withAsks b asks =
+    record { setup = b .setup; phase = b .phase; part = b .part; schedules = b .schedules; saved = b .saved; asks = asks }
 
 abbrev pub withGuarantees : Book → List Cents → Book
 withGuarantees b gs = withPart b (partGuarantees (b .part) gs)
@@ -162,6 +170,14 @@ maintenanceAt u o = nth (u .maintenance) o 0
 
 abbrev pub guaranteeAt : List Cents → ℕ → Cents
 guaranteeAt gs o = nth gs o (cents 0)
+
+-- the ask that stands for an account, if any
+abbrev pub askAt : Book → ℕ → Option Row
+askAt b a = nth (b .asks) a none
+
+-- no ask stands
+abbrev pub noAsks : List (Option Row)
+noAsks = replicate mostAccounts none
 
 -- how many there are
 abbrev pub operatorCount : Setup → ℕ

@@ -1,5 +1,5 @@
--- The calls (document 01, "Registration", "Schedules and settlement", "Verdicts"; document 02, note 3): what each is refused for, in
--- rank, and what an accepted one gives and makes of the book and of the buffers that it was lent.
+-- The calls (document 01, "Registration", "Schedules and settlement", "Verdicts"; document 02, notes 3 and 4): what each is refused
+-- for, in rank, and what an accepted one gives and makes of the book and of the buffers that it was lent.
 use Prim.Native.Nat.{ℕ, suc, _-_, _*_}
 use mathlib.Core.Path.{_≡_}
 use mathlib.Core.List.{List, [], _∷_, _++_, map}
@@ -14,13 +14,13 @@ use Rattle.rules.specs.declared.Balance.{Balance}
 use Rattle.rules.specs.declared.Request.{Request}
 use Rattle.rules.specs.declared.Outcome.{Outcome}
 use Rattle.rules.specs.declared.Refusal.{Refusal}
-use Rattle.rules.specs.declared.Refusal.the-variants.{WrongLength, OutOfRange, SameAccount, BufferShort, WrongPhase, BatchOpen, NoBatch, AlreadyPending, RowsFull, NoSuchRow, NotMirrored, MarginBroken, Uncovered, SchedulesFull, StripTwins}
+use Rattle.rules.specs.declared.Refusal.the-variants.{WrongLength, OutOfRange, SameAccount, BufferShort, WrongPhase, BatchOpen, NoBatch, AlreadyPending, RowsFull, NoSuchRow, NotMirrored, MarginBroken, Uncovered, SchedulesFull, StripTwins, NoStandingAsk}
 use Rattle.rules.specs.Basics.{if_then_else_, anyPasses, isSome, nth, put}
 use Rattle.rules.specs.Limits.{mostPrice, mostSchedules}
 use Rattle.rules.specs.Verdicts.{Check, _⇒_, _⇒↑_, firstToApply, accepted, refused}
-use Rattle.rules.specs.Books.{Setup, Part, Book, withPhase, withPart, withSchedules, withSaved, withGuarantees, withRows, noRow, operatorOf, operatorCount, countsOf, confirmedStatus, withdrawnStatus, registrationPhase, schedulesPhase, settledPhase}
-use Rattle.rules.specs.Requests.{Kind, register, confirm, withdraw, guarantee, openBatch, undo, keep, closeGate, schedule, settle, strip, kindNumber, kindOf, fieldIn, isStrip, readChecks, stripChecks, requestsOf, firstOf, faultyBitAmong, sameAccounts, filled}
-use Rattle.rules.specs.Registration.{proposed, hasTwin, twins, rowsPass, confirms, withdraws, mirrors, mark, closed, brokenHour, covered, netOf}
+use Rattle.rules.specs.Books.{Setup, Part, Book, withPhase, withPart, withSchedules, withSaved, withAsks, withGuarantees, withRows, noRow, askAt, noAsks, operatorOf, operatorCount, countsOf, confirmedStatus, withdrawnStatus, registrationPhase, schedulesPhase, settledPhase}
+use Rattle.rules.specs.Requests.{Kind, register, confirm, withdraw, guarantee, openBatch, undo, keep, closeGate, schedule, settle, strip, ask, commit, kindNumber, kindOf, fieldIn, isStrip, readChecks, stripChecks, requestsOf, firstOf, faultyBitAmong, sameAccounts, filled, unlessRefused}
+use Rattle.rules.specs.Registration.{proposed, standsWith, hasTwin, twins, rowsPass, confirms, withdraws, mirrors, mark, closed, brokenHour, covered, netOf}
 use Rattle.rules.specs.Settlement.{priceCount, pricesIn, results, balances, balanceBytes}
 
 -- ---- a call: a record, and what only settle looks at: the price table and two output buffers
@@ -37,6 +37,12 @@ callKind c = kindOf (fieldIn (c .bytes) 0)
 -- a strip's rows, or the request of its record
 abbrev pub callRequests : Call → List Request
 callRequests c = requestsOf (c .bytes)
+
+-- the kind is one of these
+infix 40 _oneOf_
+abbrev pub _oneOf_ : Kind → List Kind → Bool
+k oneOf [] = false
+k oneOf (j ∷ js) = eqb (kindNumber k) (kindNumber j) || k oneOf js
 
 -- ---- what an accepted call does
 
@@ -55,6 +61,8 @@ pub data Change : Type 0 where
   addSchedule : Schedule → Change
   -- the day is settled
   endDay : Change
+  -- an ask stands for the row's proposer
+  standAsk : Row → Change
 
 -- the number of the row that confirm names, or 0
 abbrev pub numberFrom : Option ℕ → ℕ
@@ -80,6 +88,8 @@ change closeGate b qs = shutGate
 change schedule b qs = addSchedule (scheduled (firstOf qs))
 change settle b qs = endDay
 change strip b qs = addRows (map proposed qs)
+change ask b qs = standAsk (proposed (firstOf qs))
+change commit b qs = addRows (map proposed qs)
 
 -- the part as it was saved
 abbrev pub restored : Option Part → Part → Part
@@ -97,12 +107,22 @@ apply dropSaved b = withSaved b none
 apply shutGate b = withPhase (withRows b (closed (b .part .rows))) schedulesPhase
 apply (addSchedule x) b = withSchedules b (b .schedules ++ x ∷ [])
 apply endDay b = withPhase b settledPhase
+apply (standAsk r) b = withAsks b (put (b .asks) (r .proposer) (some r))
+
+-- the book with the change that a kind makes, before any asks are cleared
+abbrev pub changed : Kind → Book → List Request → Book
+changed k b qs = apply (change k b qs) b
+
+-- every accepted call but an ask clears all standing asks
+abbrev pub clearedBy : Kind → Book → Book
+clearedBy k b = if k oneOf (ask ∷ []) then b else withAsks b noAsks
 
 -- the book after an accepted call
 abbrev pub next : Kind → Book → List Request → Book
-next k b qs = apply (change k b qs) b
+next k b qs = clearedBy k (changed k b qs)
 
--- the number that it gives: the first added row's, the confirmed row's, the rows registered since the open, the schedule's place
+-- the number that it gives: the first added row's, the confirmed row's, the rows registered since the open, the schedule's place; an
+-- ask's is the number that its register would get
 unfoldable pub given : Kind → Book → List Request → ℕ
 given register b qs = suc (length (b .part .rows))
 given confirm b qs = confirmedNumber b (firstOf qs)
@@ -115,17 +135,18 @@ given closeGate b qs = 0
 given schedule b qs = suc (length (b .schedules))
 given settle b qs = 0
 given strip b qs = suc (length (b .part .rows))
+given ask b qs = suc (length (b .part .rows))
+given commit b qs = suc (length (b .part .rows))
 
 -- ---- what a call is refused for
 
-infix 40 _oneOf_
-abbrev pub _oneOf_ : Kind → List Kind → Bool
-k oneOf [] = false
-k oneOf (j ∷ js) = eqb (kindNumber k) (kindNumber j) || k oneOf js
-
 -- the kinds that add rows
 abbrev pub adding : List Kind
-adding = register ∷ strip ∷ []
+adding = register ∷ strip ∷ commit ∷ []
+
+-- the kind that a call is checked as: an ask is checked as the register of its fields
+abbrev pub checkedAs : Kind → Kind
+checkedAs k = if k oneOf (ask ∷ []) then register else k
 
 -- what was found, where the test holds
 abbrev pub when : Bool → Option ℕ → Option ℕ
@@ -156,28 +177,30 @@ phaseOf k = if k oneOf (schedule ∷ settle ∷ []) then schedulesPhase else reg
 abbrev pub exposedOperator : Kind → Setup → Request → ℕ
 exposedOperator k u q = if k oneOf (guarantee ∷ []) then q .operator else operatorOf u (q .account)
 
--- 11 to 20, with 22 after 14; margins and exposure are judged on the book as it would be, with every row in
+-- 11 to 20, with 23 after 13 and 22 after 14; margins and exposure are judged on the book as it would be, with every row in
 unfoldable pub stateChecks : Book → Kind → List Request → List Check
 stateChecks b k qs =
     let q = firstOf qs in
     (not (eqb (b .phase) (phaseOf k)) ⇒ WrongPhase)
     ∷ (k oneOf (openBatch ∷ closeGate ∷ []) && isSome (b .saved) ⇒ BatchOpen)
     ∷ (k oneOf (undo ∷ keep ∷ []) && not (isSome (b .saved)) ⇒ NoBatch)
+    ∷ (k oneOf (commit ∷ []) && not (standsWith (proposed q) (askAt b (q .account))) ⇒ NoStandingAsk)
     ∷ (k oneOf adding && anyPasses (hasTwin (b .part .rows)) qs ⇒ AlreadyPending)
     ∷ (k oneOf adding && twins qs ⇒ StripTwins)
     ∷ (k oneOf adding && not (rowsPass (b .part .rows) (length qs)) ⇒ RowsFull)
     ∷ (k oneOf (confirm ∷ []) && not (isSome (confirms (b .part .rows) q)) ⇒ NoSuchRow)
     ∷ (k oneOf (withdraw ∷ []) && not (withdraws (b .part .rows) q) ⇒ NoSuchRow)
     ∷ (k oneOf (confirm ∷ []) && not (mirrors q (nth (b .part .rows) (confirmedNumber b q) noRow)) ⇒ NotMirrored)
-    ∷ (when (k oneOf (confirm ∷ adding)) (brokenHour (b .setup) (next k b qs .part .rows) (q .account)) ⇒↑ MarginBroken)
-    ∷ (k oneOf (confirm ∷ guarantee ∷ adding) && not (covered (b .setup) (next k b qs .part) (exposedOperator k (b .setup) q)) ⇒ Uncovered)
+    ∷ (when (k oneOf (confirm ∷ adding)) (brokenHour (b .setup) (changed k b qs .part .rows) (q .account)) ⇒↑ MarginBroken)
+    ∷ (k oneOf (confirm ∷ guarantee ∷ adding) && not (covered (b .setup) (changed k b qs .part) (exposedOperator k (b .setup) q)) ⇒ Uncovered)
     ∷ (k oneOf (schedule ∷ []) && leb mostSchedules (length (b .schedules)) ⇒ SchedulesFull)
     ∷ []
 
 -- every check, in rank
 unfoldable pub checks : Book → Call → List Check
 checks b c =
-    bytesChecks (c .bytes) ++ inputChecks b c (callKind c) (callRequests c) ++ stateChecks b (callKind c) (callRequests c)
+    let k = checkedAs (callKind c) in
+    bytesChecks (c .bytes) ++ inputChecks b c k (callRequests c) ++ stateChecks b k (callRequests c)
 
 -- what a call is refused for, if anything
 unfoldable pub refusal : Book → Call → Option Refusal
@@ -246,6 +269,16 @@ answer b c none =
 -- one call on a book
 unfoldable pub step : Book → Call → Answer Book
 step b c = answer b c (refusal b c)
+
+-- the same before asks are cleared: the book has the change of its kind alone
+unfoldable pub uncleared : Book → Call → Answer Book
+uncleared b c =
+    record {
+      outcome = step b c .outcome;
+      book = unlessRefused (refusal b c) b (changed (callKind c) b (callRequests c));
+      results = step b c .results;
+      balances = step b c .balances;
+    }
 
 -- what the call works out, by what it is refused for
 unfoldable pub workedOut : Book → Call → Option Refusal → Option Settled

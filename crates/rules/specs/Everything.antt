@@ -5,7 +5,7 @@ use Rattle.rules.specs.Basics.{total, anyPasses, every, find, those, ind
 use Rattle.rules.specs.Verdicts.{firstToApply}
 use Rattle.rules.specs.Opening.{accountEntry, priceIn, operatorIn, marginIn, accountIn, pointIn, estimatesIn, operatorsIn, accountsIn, pointsIn, setupOf, guaranteesOf, badCounts, misshapen, operatorsOf, setupBytes, valuesOf, estimateValues, operatorValues, marginValues, accountValues, pointValues, values, faultyOffset, setupRefusal, openRefusal, openOutcome, opened}
 use Rattle.rules.specs.Requests.{bits, mapOf, room, offset, fieldIn, requestOf, more, unreadable, readChecks, reading, stripRows, rowChecks, stripChecks, requestsOf, fieldBytes, write, writeOutcome, written, inRange, faultyField, faultyBit, faultyBitAmong, sameAccounts}
-use Rattle.rules.specs.Registration.{mark, closed, alike, twins, confirms, withdraws, mirrors, moved, waiting, afterTrade, keepsMargins, brokenHour, ofOperator, exposureOf, available, covered}
+use Rattle.rules.specs.Registration.{mark, closed, sameTerms, alike, twins, confirms, withdraws, mirrors, moved, waiting, afterTrade, keepsMargins, brokenHour, ofOperator, exposureOf, available, covered}
 use Rattle.rules.specs.Settlement.{pricesIn, placed, insert, prioritised, used, judge, judged, settled, resultAt, results, ofRegistered, gained, lost, balances, injectionsWorth, withdrawalsWorth, registeredTotal, balanceBytes}
 use Rattle.rules.specs.Valuation.{physicalBalance, purchase, sale, hourly, ofAccountHour, physical, cct, valuedHour, accountAmount, operatorAmount, accountsOf}
 use Rattle.rules.specs.Calls.{apply, given, inputChecks, stateChecks, checks, refusal, drawnUp, settles, answer, step, workedOut, settlement}
@@ -22,7 +22,7 @@ unfolding number numberAt le signed flat pieces pack chunks
     setupBytes valuesOf estimateValues operatorValues marginValues accountValues pointValues values faultyOffset setupRefusal openRefusal openOutcome opened
     bits mapOf room offset fieldIn requestOf more unreadable readChecks reading stripRows rowChecks stripChecks requestsOf fieldBytes write writeOutcome written inRange
     faultyField faultyBit faultyBitAmong sameAccounts
-    mark closed alike twins confirms withdraws mirrors moved waiting afterTrade keepsMargins brokenHour ofOperator exposureOf available covered
+    mark closed sameTerms alike twins confirms withdraws mirrors moved waiting afterTrade keepsMargins brokenHour ofOperator exposureOf available covered
     pricesIn placed insert prioritised used judge judged settled resultAt results ofRegistered gained lost balances
     injectionsWorth withdrawalsWorth registeredTotal balanceBytes
     physicalBalance purchase sale hourly ofAccountHour physical cct valuedHour accountAmount operatorAmount accountsOf

@@ -1,4 +1,5 @@
--- The ledger (document 01, "What demand 3 compares"; document 02, note 3): fed only the set-up's bytes, each record and whether it was accepted.
+-- The ledger (document 01, "What demand 3 compares"; document 02, notes 3 and 4): fed only the set-up's bytes, each record and whether it
+-- was accepted.
 use Prim.Native.Nat.{ℕ, suc}
 use mathlib.Core.List.{List, [], _∷_, _++_}
 use mathlib.Core.Bool.{Bool, true, false, _&&_}
@@ -15,7 +16,7 @@ use Rattle.rules.specs.declared.Request.{Request}
 use Rattle.rules.specs.Basics.{if_then_else_, total, put, within}
 use Rattle.rules.specs.Books.{Setup, estimateAt, guaranteeAt, sellingSide, buyingSide}
 use Rattle.rules.specs.Opening.{setupOf, guaranteesOf}
-use Rattle.rules.specs.Requests.{Kind, register, confirm, withdraw, guarantee, openBatch, undo, keep, closeGate, schedule, settle, strip, kindOf, requestsOf}
+use Rattle.rules.specs.Requests.{Kind, register, confirm, withdraw, guarantee, openBatch, undo, keep, closeGate, schedule, settle, strip, ask, commit, kindOf, requestsOf}
 use Rattle.rules.specs.Registration.{proposed, alike, counted, includesHour, exposureOf, availableOf}
 use Rattle.rules.specs.Settlement.{Judged, settled}
 use Rattle.rules.specs.Lists.{heard}
@@ -99,8 +100,8 @@ entered p r = pageNext (pagePending p (p .pending ++ record { number = p .nextNu
 
 -- an accepted request on a page, with the copy beside it: register adds a pending row with the next number; confirm ends the pending
 -- row with its code and its accounts exchanged, and adds its trade; withdraw ends the row of its number, close all pending;
--- guarantee replaces the old one; undo puts the copy back; schedule adds itself. No request is
--- of the kind of a strip
+-- guarantee replaces the old one; undo puts the copy back; schedule adds itself. A commit is a register, an ask nothing; no request is of
+-- the kind of a strip
 unfoldable pub pageAfter : Kind → Request → Page → Page → Page
 pageAfter register q copy p = entered p (proposed q)
 pageAfter confirm q copy p =
@@ -114,6 +115,8 @@ pageAfter closeGate q copy p = pagePending p []
 pageAfter schedule q copy p = pageSchedules p (p .schedules ++ scheduled q ∷ [])
 pageAfter settle q copy p = p
 pageAfter strip q copy p = p
+pageAfter ask q copy p = p
+pageAfter commit q copy p = entered p (proposed q)
 
 -- an accepted request on the ledger; open copies the whole page, next number too
 unfoldable pub feed : Kind → Request → Ledger → Ledger

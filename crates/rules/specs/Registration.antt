@@ -2,13 +2,13 @@
 -- Sums are natural numbers: a net position is what was bought and what was sold, each by itself.
 use Prim.Native.Nat.{ℕ, _+_, _-_, _*_}
 use mathlib.Core.List.{List, [], _∷_, map}
-use mathlib.Core.Option.{Option}
+use mathlib.Core.Option.{Option, none, some}
 use mathlib.Core.Bool.{Bool, false, not, _&&_, _||_}
 use lib.ListN.{length}
 use lib.Dec.{eqb, leb}
 use lib.IntN.{ℤ, pos, subℕ, _+ℤ_, _-ℤ_}
 use Rattle.units.specs.declared.CentsPerMwh.{CentsPerMwh}
-use Rattle.units.specs.Units.{kwh}
+use Rattle.units.specs.Units.{kwh, cents, centsPerMwh}
 use Rattle.rules.specs.declared.Margins.{Margins}
 use Rattle.rules.specs.declared.Row.{Row}
 use Rattle.rules.specs.declared.Net.{Net}
@@ -16,6 +16,7 @@ use Rattle.rules.specs.declared.AccountHour.{AccountHour}
 use Rattle.rules.specs.declared.Request.{Request}
 use Rattle.rules.specs.Basics.{if_then_else_, total, anyPasses, find, indexOf, nth, put, upTo, within}
 use Rattle.rules.specs.Limits.{thousand, mostRows}
+use Rattle.rules.specs.Requests.{register, kindNumber}
 use Rattle.rules.specs.Books.{Setup, Part, periods, marginsAt, estimateAt, maintenanceAt, guaranteeAt, operatorOf, accountCount, noRow, pendingStatus, confirmedStatus, withdrawnStatus, sellingSide, buyingSide}
 
 -- ---- rows
@@ -73,6 +74,41 @@ proposed q =
       quantity = q .quantity;
       status = pendingStatus;
     }
+
+-- the register that proposes a row
+abbrev pub registerOf : Row → Request
+registerOf r =
+    record {
+      kind = kindNumber register;
+      account = r .proposer;
+      other = r .counterparty;
+      code = r .code;
+      side = r .side;
+      first = r .first;
+      last = r .last;
+      quantity = r .quantity;
+      number = 0;
+      operator = 0;
+      guarantee = cents 0;
+      point = 0;
+      price = centsPerMwh 0;
+    }
+
+-- the rows are the same but for their status
+unfoldable pub sameTerms : Row → Row → Bool
+sameTerms x y =
+    eqb (x .proposer) (y .proposer)
+    && eqb (x .counterparty) (y .counterparty)
+    && eqb (x .code) (y .code)
+    && eqb (x .side) (y .side)
+    && eqb (x .first) (y .first)
+    && eqb (x .last) (y .last)
+    && eqb (x .quantity .0) (y .quantity .0)
+
+-- an ask stands, with the terms of the row
+abbrev pub standsWith : Row → Option Row → Bool
+standsWith r none = false
+standsWith r (some x) = sameTerms x r
 
 -- a pending row with this proposer, counterparty and code
 unfoldable pub alike : ℕ → ℕ → ℕ → Row → Bool

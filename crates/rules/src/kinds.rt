@@ -22,3 +22,8 @@ pub const SETTLE: u8 = 10;
 
 // Its record holds others: up to 24 registers.
 pub const STRIP: u8 = 11;
+
+// What a register would be answered, and the register of what was asked.
+pub const ASK: u8 = 12;
+
+pub const COMMIT: u8 = 13;

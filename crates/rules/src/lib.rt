@@ -123,7 +123,7 @@ pub struct Request {
     pub price: CentsPerMwh,
 }
 
-// Why a call is refused, with the details that go with it. In the order of their numbers, 1 to 22.
+// Why a call is refused, with the details that go with it. In the order of their numbers, 1 to 23.
 pub enum Refusal {
     NotABook,
     Unreadable,
@@ -147,6 +147,7 @@ pub enum Refusal {
     SchedulesFull,
     StripCount,
     StripTwins,
+    NoStandingAsk,
 }
 
 // What a row of checks comes to: nothing applies, or a refusal does.

@@ -44,6 +44,7 @@ pub fn refusal_numbers(r: Refusal) -> Numbers
         Refusal::SchedulesFull => numbered(20, 0, 0),
         Refusal::StripCount => numbered(21, 0, 0),
         Refusal::StripTwins => numbered(22, 0, 0),
+        Refusal::NoStandingAsk => numbered(23, 0, 0),
     }
 }
 

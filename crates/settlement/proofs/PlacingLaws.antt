@@ -22,7 +22,7 @@ use Rattle.rules.proofs.Settling.PriorityLaws.{insert-cases}
 use Rattle.priority.specs.Order.{noPlaced, noSchedules}
 use Rattle.image.specs.Layout.{scheduleWidth, schedulesOffset}
 use Rattle.image.specs.Image.{scheduleBytes, scheduleIn}
-use Rattle.image.specs.Valid.{isBook, bookIn}
+use Rattle.image.specs.Valid.{isSound, bookIn}
 use Rattle.image.proofs.Reading.ImageReads.{schedule-read}
 use Rattle.image.proofs.Round.{schedule-back}
 use Rattle.book.proofs.StateLaws.{book-image, book-fits, book-is-sound}
@@ -30,7 +30,7 @@ use Rattle.book.proofs.StateLaws.{book-image, book-fits, book-is-sound}
 -- ---- read one after the other
 
 -- a schedule of a book stands in its 11 bytes
-pub schedule-stands : (s : List ℕ) (h : isBook s ≡ true) (i at : ℕ) (d : Schedule) → i < length (bookIn s .schedules) → at ≡ schedulesOffset + scheduleWidth * i
+pub schedule-stands : (s : List ℕ) (h : isSound s ≡ true) (i at : ℕ) (d : Schedule) → i < length (bookIn s .schedules) → at ≡ schedulesOffset + scheduleWidth * i
     → scheduleIn (take scheduleWidth (drop at s)) ≡ getD (bookIn s .schedules) i d
 schedule-stands s h i at d l e =
     let b : Book = bookIn s in

@@ -13,7 +13,7 @@ use Rattle.rules.specs.Verdicts.{accepted}
 use Rattle.rules.specs.Requests.{schedule}
 use Rattle.rules.specs.Calls.{scheduled, given}
 use Rattle.image.specs.Layout.{scheduleWidth, schedulesOffset}
-use Rattle.image.specs.Valid.{isBook, bookIn}
+use Rattle.image.specs.Valid.{isSound, bookIn}
 use Rattle.image.proofs.Writing.BookWrites.{write-schedule}
 use Rattle.image.proofs.Keeping.KeepsChanges.{apply-keeps}
 use Rattle.image.proofs.Keeping.KeepsKinds.{schedule-allowed}
@@ -25,7 +25,7 @@ use Rattle.settlement.specs.Scheduling.{scheduleAppended}
 use Rattle.settlement.proofs.Decisions.{few-schedules}
 
 -- what an accepted schedule writes
-pub scheduled-answered : (s t : List ℕ) (h : isBook s ≡ true) (q : Request) (n : ℕ) → Ready schedule (bookIn s) q
+pub scheduled-answered : (s t : List ℕ) (h : isSound s ≡ true) (q : Request) (n : ℕ) → Ready schedule (bookIn s) q
     → decided schedule (bookIn s) q ≡ none → n ≡ length (bookIn s .schedules)
     → t ≡ scheduleAppended s n (scheduled q)
     → Answered schedule s q (accepted (n + 1)) t

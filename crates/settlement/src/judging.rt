@@ -3,7 +3,7 @@ ghost use mathlib.Core.Path.{_≡_};
 ghost use mathlib.Core.Bool.{true};
 ghost use lib.ListN.{length, take};
 ghost use Rattle.rules.specs.Settlement.{placed};
-ghost use Rattle.image.specs.Valid.{isBook, bookIn, scheduleOk};
+ghost use Rattle.image.specs.Valid.{isSound, bookIn, scheduleOk};
 ghost use Rattle.valuation.specs.Tables.{Priced, setupIn};
 ghost use Rattle.valuation.specs.Congruity.{nothingUsed};
 ghost use Rattle.settlement.specs.Judging.{RoomFor, InOrder, NoneJudged, Judges, Adds, AllJudged};
@@ -25,7 +25,7 @@ use valuation::registered::gather_energy;
 
 // The `n` schedules of a book, each with its place.
 fn placed_in(book: &[u8], n: usize) -> [Placed; MOST_SCHEDULES]
-    requires { ⌜ (isBook (now book) ≡ true) × (n ≡ length (bookIn (now book) .schedules)) ⌝ }
+    requires { ⌜ (isSound (now book) ≡ true) × (n ≡ length (bookIn (now book) .schedules)) ⌝ }
     ensures { λ r. ⌜ take n r ≡ placed 1 (bookIn (now (book .entry)) .schedules) ⌝ }
 {
     let mut all = no_schedules();
@@ -111,7 +111,7 @@ pub fn judge_all(
 
 // The `n` schedules of a book in order of priority.
 pub fn prioritised_in(book: &[u8], n: usize) -> [Placed; MOST_SCHEDULES]
-    requires { ⌜ (isBook (now book) ≡ true) × (n ≡ length (bookIn (now book) .schedules)) ⌝ }
+    requires { ⌜ (isSound (now book) ≡ true) × (n ≡ length (bookIn (now book) .schedules)) ⌝ }
     ensures { λ r. ⌜ InOrder (now (book .entry)) r n ⌝ }
 {
     let all = placed_in(book, n);

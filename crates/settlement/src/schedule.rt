@@ -8,7 +8,7 @@ ghost use Rattle.rules.specs.Limits.{mostSchedules, bookSize};
 ghost use Rattle.rules.specs.Verdicts.{checked};
 ghost use Rattle.rules.specs.Requests.{schedule};
 ghost use Rattle.rules.specs.Calls.{scheduled};
-ghost use Rattle.image.specs.Valid.{isBook, bookIn, bookBytes};
+ghost use Rattle.image.specs.Valid.{isSound, bookIn, bookBytes};
 ghost use Rattle.book.specs.Kinds.{decided, outcomeOn, bookAfter, Ready};
 ghost use Rattle.settlement.specs.Scheduling.{scheduleAppended};
 use book::state::phase;
@@ -45,7 +45,7 @@ fn handed_in(request: Request) -> Schedule
 
 // What schedule is refused for.
 fn schedule_fault(book: &[u8]) -> Checked
-    requires { ⌜ isBook (now book) ≡ true ⌝ }
+    requires { ⌜ isSound (now book) ≡ true ⌝ }
     ensures { λ r. ⌜ ((q : Request) → r ≡ checked (decided schedule (bookIn (now (book .entry))) q)) ⌝ }
 {
     if phase(book) != SCHEDULES {
@@ -73,11 +73,11 @@ fn append_schedule(book: &mut [u8], n: u16, x: Schedule)
 
 // Kind 9: the schedule that the request hands in gets the next place.
 pub fn schedule(book: &mut [u8], request: Request) -> Outcome
-    requires { ⌜ isBook (now book) ≡ true ⌝ }
+    requires { ⌜ isSound (now book) ≡ true ⌝ }
     requires { ⌜ Ready schedule (bookIn (now book)) request ⌝ }
     ensures answer { λ o. ⌜ o ≡ outcomeOn schedule (bookIn (now (book .entry))) request ⌝ }
     ensures bytes { λ _. ⌜ now (book .exit) ≡ bookBytes (bookAfter schedule (bookIn (now (book .entry))) request) ⌝ }
-    ensures still { λ _. ⌜ isBook (now (book .exit)) ≡ true ⌝ }
+    ensures still { λ _. ⌜ isSound (now (book .exit)) ≡ true ⌝ }
 {
     if let Checked::Fails(r) = schedule_fault(book) {
         return Outcome {

@@ -1,5 +1,5 @@
 -- Laws of the rows of a strip.
--- RowLaws: what a row says, read from its places, and the check of its map.
+-- RowLaws: what a row says, read from its places.
 pub mod RowLaws
 -- RowsFrom: the rows from a place on, one by one.
 pub mod RowsFrom

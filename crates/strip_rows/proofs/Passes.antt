@@ -1,7 +1,7 @@
 -- A check that is put to one row after the other: the first that it applies to, and what is left where it does not apply.
 use Prim.Native.Nat.{ℕ, _+_, _≤_}
 use mathlib.Core.Path.{_≡_, _∙_}
-use mathlib.Core.List.{List, _∷_, map}
+use mathlib.Core.List.{List, map}
 use mathlib.Core.Option.{none, some}
 use lib.ListN.{take, drop}
 use Rattle.rules.specs.declared.Refusal.{Refusal}
@@ -10,19 +10,11 @@ use Rattle.rules.specs.Verdicts.{Check, applies, firstToApply}
 use Rattle.rules.specs.Requests.{rowLength, rowChecks}
 use Rattle.rules.proofs.Basics.Searches.{each-map}
 use Rattle.rules.proofs.Checks.Clearing.{clear, clear-each, spared, applies-first, applies-later}
+use Rattle.records.proofs.ReadingLaws.{check-here, check-next}
 use Rattle.strip_rows.specs.declared.record.RowPass.the-variants.{Readable, OfKind, Mapped}
 use Rattle.strip_rows.specs.Rows.{rowsFrom}
 use Rattle.strip_rows.specs.Passes.{rowCheck, PassWants}
 use Rattle.strip_rows.proofs.RowsFrom.{rows-done, rows-step}
-
--- the first check decides, or is passed
-pub check-here : (c : Check) (cs : List Check) (r : Refusal) → applies c ≡ some r → firstToApply (c ∷ cs) ≡ some r
-unfolding firstToApply
-check-here c cs r e = rw (e, firstToApply)
-
-pub check-next : (c : Check) (cs : List Check) → applies c ≡ none → firstToApply (c ∷ cs) ≡ firstToApply cs
-unfolding firstToApply
-check-next c cs e = rw (e, firstToApply)
 
 module _ (f : List ℕ → Check) (s : List ℕ) (at n : ℕ) where
   -- no row is left

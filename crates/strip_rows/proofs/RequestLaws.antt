@@ -3,7 +3,7 @@ use Prim.Native.Nat.{ℕ}
 use mathlib.Core.Path.{_≡_, refl, sym, ap, _∙_}
 use mathlib.Core.List.{List, _∷_, _++_, map}
 use mathlib.Core.Option.{Option, none, some}
-use mathlib.Core.Bool.{Bool, true, false, and-true, and-false}
+use mathlib.Core.Bool.{true, false, and-true, and-false}
 use lib.Dec.{eqb}
 use borrow.Author.Tests.{eq-eqb, ne-eqb}
 use Rattle.rules.specs.declared.Checked.{Checked}
@@ -64,17 +64,6 @@ module _ (n : Counts) {proposer : ℕ} (qs : List Request) (same : proposer ≡ 
     accounts-decide e d = d ∙ ap checked (sym (ap firstToApply both-passes ∙ applies-later _ _ (checked-same _ none (sym known ∙ e))))
 
 -- ---- the tests for codes
-
-module _ (p : Request → Bool) (q : Request) (qs : List Request) where
-  -- the first passes
-  pub any-here : p q ≡ true → anyPasses p (q ∷ qs) ≡ true
-  unfolding anyPasses
-  any-here e = rw (e, anyPasses)
-
-  -- it does not, and the others decide
-  pub any-next : p q ≡ false → anyPasses p (q ∷ qs) ≡ anyPasses p qs
-  unfolding anyPasses
-  any-next e = rw (e, anyPasses)
 
 module _ (q : Request) (qs : List Request) where
   -- another is alike the first

@@ -7,8 +7,9 @@ use native.Mathlib.Omega.{arith}
 use lib.ListN.{length, take, drop, length-take, length-drop}
 use lib.Seq.{drop-drop}
 use Rattle.wire.specs.Parts.{chunks}
-use Rattle.rules.specs.Basics.{Each, cons}
+use Rattle.rules.specs.Basics.{Each}
 use Rattle.rules.specs.Requests.{rowLength}
+use Rattle.rules.proofs.Basics.Searches.{first-and-rest}
 use Rattle.strip_rows.specs.Rows.{rowsFrom}
 
 pub rows-done : (s : List ℕ) (at n : ℕ) → n ≤ 0 → rowsFrom s at n ≡ []
@@ -20,13 +21,10 @@ pub rows-step : (s : List ℕ) (at n m : ℕ) → n ≡ m + 1 → rowsFrom s at 
 unfolding rowsFrom chunks
 rows-step s at n m e = rw (e, add-one m, chunks, drop-drop rowLength at s)
 
-each-parts : {P : List ℕ → Type 0} {x : List ℕ} {xs : List (List ℕ)} → Each P (x ∷ xs) → P x × Each P xs
-each-parts (cons p e) = (p, e)
-
 -- what each row has, the first has, and each of the others
 pub rows-split : {P : List ℕ → Type 0} (s : List ℕ) (at n m : ℕ) → n ≡ m + 1 → Each P (rowsFrom s at n)
     → P (take rowLength (drop at s)) × Each P (rowsFrom s (at + rowLength) m)
-rows-split s at n m e h = each-parts (rw (rows-step s at n m e) at h)
+rows-split s at n m e h = first-and-rest (rw (rows-step s at n m e) at h)
 
 -- a row that lies in the bytes has its length
 pub row-length : (s : List ℕ) (at : ℕ) → at + rowLength ≤ length s → length (take rowLength (drop at s)) ≡ rowLength

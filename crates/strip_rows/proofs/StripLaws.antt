@@ -14,8 +14,8 @@ use Rattle.rules.specs.Basics.{within}
 use Rattle.rules.specs.Limits.{mostStrip}
 use Rattle.rules.specs.Verdicts.{_⇒_, applies, firstToApply}
 use Rattle.rules.specs.Requests.{kindNumber, strip, headLength, rowLength, stripCount, stripRows, unreadable, mapCheck, rowChecks, stripChecks}
+use Rattle.records.proofs.ReadingLaws.{check-here, check-next}
 use Rattle.strip_rows.specs.Rows.{rowsFrom}
-use Rattle.strip_rows.proofs.Passes.{check-here, check-next}
 
 -- bytes that end before the count are no strip
 pub head-short : (s : List ℕ) → length s < headLength → length s ≡ headLength + rowLength * stripCount s → ⊥

@@ -14,17 +14,15 @@ use crate::rows::HEAD_LENGTH;
 use crate::rows::ROW_LENGTH;
 use crate::rows::is_other_kind;
 use crate::rows::is_unreadable;
-use crate::rows::map_fault;
+use records::reader::is_of_kind;
+use records::reader::map_fault;
 use records::reader::no_map;
-use records::tables::fields_more;
-use records::tables::has_field;
-use records::tables::wanted_map;
 use rules::Checked;
 use rules::Refusal;
+use rules::kinds::REGISTER;
 use rules::kinds::STRIP;
 use rules::limits::MOST_STRIP;
 use wire::numbers::get_u8;
-use wire::numbers::get_u16;
 
 // A check that is put to one row after the other: its map is readable, it is of the kind of a register, it has a register's map.
 pub enum RowPass {
@@ -37,13 +35,7 @@ pub enum RowPass {
 pub fn is_strip(bytes: &[u8]) -> bool
     ensures { λ r. ⌜ r ≡ isStrip (now (bytes .entry)) ⌝ }
 {
-    if bytes.len() < 3 {
-        return false;
-    }
-    if has_field(get_u16(bytes, 0), 0) {
-        return get_u8(bytes, 2) == STRIP;
-    }
-    false
+    is_of_kind(bytes, STRIP)
 }
 
 // A refusal, where the test holds.
@@ -64,7 +56,7 @@ fn row_fault(row: &[u8], pass: RowPass) -> Checked
     match pass {
         RowPass::Readable => fails_if(is_unreadable(row), Refusal::Unreadable),
         RowPass::OfKind => fails_if(is_other_kind(row), Refusal::UnknownKind),
-        RowPass::Mapped => map_fault(row),
+        RowPass::Mapped => map_fault(row, REGISTER),
     }
 }
 
@@ -119,12 +111,8 @@ pub fn strip_fault(bytes: &[u8]) -> Checked
     if no_map(bytes) {
         return Checked::Fails(Refusal::Unreadable);
     }
-    let given = get_u16(bytes, 0);
-    let wanted = wanted_map(STRIP);
-    if given != wanted {
-        let missing = fields_more(wanted, given);
-        let unwanted = fields_more(given, wanted);
-        return Checked::Fails(Refusal::WrongMap { missing, unwanted });
+    if let Checked::Fails(r) = map_fault(bytes, STRIP) {
+        return Checked::Fails(r);
     }
     if bytes.len() < HEAD_LENGTH {
         return Checked::Fails(Refusal::WrongLength);

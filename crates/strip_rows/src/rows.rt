@@ -1,17 +1,14 @@
 // One row of a strip: the record of a register.
 ghost use mathlib.Core.Path.{_≡_};
-ghost use mathlib.Core.Bool.{false, not};
+ghost use mathlib.Core.Bool.{not};
 ghost use lib.ListN.{length};
 ghost use lib.Dec.{eqb};
-ghost use Rattle.rules.specs.Verdicts.{applies, checked};
-ghost use Rattle.rules.specs.Requests.{kindNumber, register, rowLength, fieldIn, requestOf, unreadable, mapCheck};
+ghost use Rattle.rules.specs.Requests.{kindNumber, register, rowLength, fieldIn, requestOf, unreadable};
 ghost use Rattle.strip_rows.specs.Rows.{IsRegister};
 use records::reader::no_map;
-use records::tables::fields_more;
+pub use records::tables::HEAD_LENGTH;
+pub use records::tables::ROW_LENGTH;
 use records::tables::has_field;
-use records::tables::wanted_map;
-use rules::Checked;
-use rules::Refusal;
 use rules::Request;
 use rules::kinds::REGISTER;
 use units::Cents;
@@ -21,11 +18,6 @@ use wire::numbers::get_u8;
 use wire::numbers::get_u16;
 use wire::numbers::get_u32;
 use wire::numbers::get_u64;
-
-// The bytes before the rows of a strip, and those of a row.
-pub const HEAD_LENGTH: usize = 4;
-
-pub const ROW_LENGTH: usize = 20;
 
 // Where the fields of a row lie.
 const ACCOUNT_OFFSET: usize = 3;
@@ -59,21 +51,6 @@ pub fn is_other_kind(row: &[u8]) -> bool
         return get_u8(row, 2) != REGISTER;
     }
     true
-}
-
-// The check of the row's map.
-pub fn map_fault(row: &[u8]) -> Checked
-    requires { ⌜ (length (now row) ≡ rowLength) × (unreadable (now row) ≡ false) ⌝ }
-    ensures { λ r. ⌜ r ≡ checked (applies (mapCheck (kindNumber register) (now (row .entry)))) ⌝ }
-{
-    let given = get_u16(row, 0);
-    let wanted = wanted_map(REGISTER);
-    if given != wanted {
-        let missing = fields_more(wanted, given);
-        let unwanted = fields_more(given, wanted);
-        return Checked::Fails(Refusal::WrongMap { missing, unwanted });
-    }
-    Checked::Clear
 }
 
 // The request that a row says which is the record of a register.

@@ -1,4 +1,4 @@
--- An accepted strip: its rows are appended, which makes the next book, and a sound one.
+-- An accepted strip: its rows are appended, which makes the changed book, and a sound one.
 use Prim.Native.Nat.{ℕ, _+_, _≤_}
 use mathlib.Core.Path.{_≡_, refl, ap, _∙_}
 use mathlib.Core.List.{List}
@@ -13,12 +13,12 @@ use Rattle.rules.specs.Verdicts.{firstToApply, accepted}
 use Rattle.rules.specs.Books.{Book}
 use Rattle.rules.specs.Requests.{strip, headLength}
 use Rattle.rules.specs.Registration.{proposed}
-use Rattle.rules.specs.Calls.{apply, change, next, given, stateChecks}
+use Rattle.rules.specs.Calls.{apply, change, changed, given, stateChecks}
 use Rattle.rules.proofs.Checks.Clearing.{Clear, clear}
 use Rattle.rules.proofs.Checks.Passed.{passed-11, passed-14, passed-22, passed-15, passed-18, passed-19}
-use Rattle.image.specs.Valid.{isBook, bookIn, bookBytes}
+use Rattle.image.specs.Valid.{isSound, bookIn, bookBytes}
 use Rattle.image.proofs.Sound.SoundBooks.{SoundBook, book-sound}
-use Rattle.image.proofs.Round.{image-is-book}
+use Rattle.image.proofs.Round.{image-is-sound}
 use Rattle.image.proofs.Keeping.KeepsParts.{requests-addable}
 use Rattle.image.proofs.Keeping.KeepsChanges.{apply-keeps}
 use Rattle.book.proofs.StateLaws.{book-image, book-fits, book-is-sound}
@@ -31,7 +31,7 @@ use Rattle.strips.proofs.ReadyLaws.{requests-length, proposed-pending, 
 abbrev pub StripAccepted : List ℕ → List ℕ → ℕ → Outcome → List ℕ → Type 0
 StripAccepted s bytes n o t =
     (o ≡ accepted (given strip (bookIn s) (stripRequests bytes n)))
-    × ((t ≡ bookBytes (next strip (bookIn s) (stripRequests bytes n))) × (isBook t ≡ true))
+    × ((t ≡ bookBytes (changed strip (bookIn s) (stripRequests bytes n))) × (isSound t ≡ true))
 
 module _ (s bytes : List ℕ) (n : ℕ) (free : firstToApply (stateChecks (bookIn s) strip (stripRequests bytes n)) ≡ none) where
   state : Clear (stateChecks (bookIn s) strip (stripRequests bytes n))
@@ -41,8 +41,8 @@ module _ (s bytes : List ℕ) (n : ℕ) (free : firstToApply (stateChecks (bookI
   pub room-for-all : length (bookIn s .part .rows) + n ≤ mostRows
   room-for-all = omega (arith, passed-15 (bookIn s) (stripRequests bytes n) strip refl state, requests-length bytes headLength n)
 
-  module _ (h : isBook s ≡ true) (known : Bytes bytes) (r : ReadyStrip (bookIn s) bytes n) where
-    next-sound : SoundBook (next strip (bookIn s) (stripRequests bytes n))
+  module _ (h : isSound s ≡ true) (known : Bytes bytes) (r : ReadyStrip (bookIn s) bytes n) where
+    next-sound : SoundBook (changed strip (bookIn s) (stripRequests bytes n))
     unfolding apply
     next-sound =
         let b : Book = bookIn s in
@@ -60,8 +60,8 @@ module _ (s bytes : List ℕ) (n : ℕ) (free : firstToApply (stateChecks (bookI
     strip-accepted count t e w =
         let b : Book = bookIn s in
         let lengths = length-map (stripRequests bytes n) proposed in
-        let written : t ≡ bookBytes (next strip b (stripRequests bytes n)) =
+        let written : t ≡ bookBytes (changed strip b (stripRequests bytes n)) =
         w
         ∙ ap (λ (x : List ℕ). rowsAppended x count (proposedRows bytes n)) (book-image s h)
         ∙ rows-appended b count (book-fits s h) (proposed-pending (stripRequests bytes n)) e (omega (arith, lengths, room-for-all, requests-length bytes headLength n)) in
-        (ap accepted (omega (arith, e)), (written, rw written (image-is-book mostHours bookSize _ (omega arith) (book-sound _ next-sound))))
+        (ap accepted (omega (arith, e)), (written, rw written (image-is-sound mostHours bookSize _ (omega arith) (book-sound _ next-sound))))

@@ -17,12 +17,12 @@ use Rattle.rules.specs.Basics.{Each}
 use Rattle.rules.specs.Verdicts.{Check, _⇒_, applies, firstToApply, checked, refused, accepted}
 use Rattle.rules.specs.Books.{Book, countsOf}
 use Rattle.rules.specs.Requests.{strip, kindNumber, kindOf, fieldIn, headLength, rowLength, isStrip, stripCount, stripRows, stripChecks, requestsOf, firstOf}
-use Rattle.rules.specs.Calls.{Call, callKind, callRequests, bytesChecks, inputChecks, stateChecks, refusal, next, given, step}
+use Rattle.rules.specs.Calls.{Call, callKind, callRequests, bytesChecks, inputChecks, stateChecks, refusal, changed, given, step, uncleared, checkedAs}
 use Rattle.rules.proofs.Basics.Searches.{each-map}
 use Rattle.rules.proofs.Checks.Clearing.{checked-same, clear, clear-split, clear-each, spared, spared↑, applies-first, applies-later}
 use Rattle.rules.proofs.Checks.Passed.{among-in-range, strip-requests, strip-sized, passed-21, strip-rows-read}
-use Rattle.rules.proofs.Checks.Stages.{bytes-refused, input-refused, state-decides, step-decided}
-use Rattle.image.specs.Valid.{isBook, bookIn, bookBytes}
+use Rattle.rules.proofs.Checks.Stages.{bytes-refused, input-refused, state-decides, step-decided, change-decided}
+use Rattle.image.specs.Valid.{isSound, bookIn, bookBytes}
 use Rattle.strip_rows.specs.Rows.{rowsFrom, StripOf}
 use Rattle.strip_rows.specs.Passes.{requestCheck, requestsChecks}
 use Rattle.strip_rows.specs.declared.requests.RequestPass.the-variants.{InRange, TwoAccounts}
@@ -103,48 +103,52 @@ module _ (b : Book) (c : Call) (s : List ℕ) (n : ℕ) (e : c .bytes ≡ s) (is
   own-bytes : (o : Option Refusal) → firstToApply (stripChecks s) ≡ o → firstToApply (bytesChecks (c .bytes)) ≡ o
   own-bytes o h = rw (e, is) h
 
-  pub strip-bytes-refused : (r : Refusal) → firstToApply (stripChecks s) ≡ some r → (refused r ≡ step b c .outcome) × (step b c .book ≡ b)
+  refused-step : (r : Refusal) → refusal b c ≡ some r → (refused r ≡ step b c .outcome) × (uncleared b c .book ≡ b)
+  refused-step r e = (sym (step-decided b c (some r) e .0), change-decided b c (some r) e)
+
+  pub strip-bytes-refused : (r : Refusal) → firstToApply (stripChecks s) ≡ some r → (refused r ≡ step b c .outcome) × (uncleared b c .book ≡ b)
   strip-bytes-refused r h =
-      let d = step-decided b c (some r) (bytes-refused b c r (own-bytes (some r) h)) in (sym (d .0), d .1)
+      refused-step r (bytes-refused b c r (own-bytes (some r) h))
 
   module _ (h : firstToApply (stripChecks s) ≡ none) where
     input : (o : Option Refusal) → firstToApply (requestsChecks (countsOf (b .setup)) (stripRequests s n)) ≡ o
-        → firstToApply (inputChecks b c (callKind c) (callRequests c)) ≡ o
+        → firstToApply (inputChecks b c (checkedAs (callKind c)) (callRequests c)) ≡ o
     input o f = rw (kind, requests) (input-is-requests b c (stripRequests s n) ∙ f)
 
     pub strip-input-refused : (r : Refusal) → firstToApply (requestsChecks (countsOf (b .setup)) (stripRequests s n)) ≡ some r
-        → (refused r ≡ step b c .outcome) × (step b c .book ≡ b)
+        → (refused r ≡ step b c .outcome) × (uncleared b c .book ≡ b)
     strip-input-refused r f =
-        let d = step-decided b c (some r) (input-refused b c (own-bytes none h) r (input (some r) f)) in (sym (d .0), d .1)
+        refused-step r (input-refused b c (own-bytes none h) r (input (some r) f))
 
     module _ (f : firstToApply (requestsChecks (countsOf (b .setup)) (stripRequests s n)) ≡ none) where
       decided : (o : Option Refusal) → firstToApply (stateChecks b strip (stripRequests s n)) ≡ o → refusal b c ≡ o
       decided o g = state-decides b c (own-bytes none h) (input none f) ∙ rw (kind, requests) g
 
       pub strip-state-refused : (r : Refusal) → firstToApply (stateChecks b strip (stripRequests s n)) ≡ some r
-          → (refused r ≡ step b c .outcome) × (step b c .book ≡ b)
-      strip-state-refused r g = let d = step-decided b c (some r) (decided (some r) g) in (sym (d .0), d .1)
+          → (refused r ≡ step b c .outcome) × (uncleared b c .book ≡ b)
+      strip-state-refused r g = refused-step r (decided (some r) g)
 
       pub strip-step : firstToApply (stateChecks b strip (stripRequests s n)) ≡ none
-          → (step b c .outcome ≡ accepted (given strip b (stripRequests s n))) × (step b c .book ≡ next strip b (stripRequests s n))
-      strip-step g = let d = step-decided b c none (decided none g) in (d .0 ∙ rw (kind, requests), d .1 ∙ rw (kind, requests))
+          → (step b c .outcome ≡ accepted (given strip b (stripRequests s n))) × (uncleared b c .book ≡ changed strip b (stripRequests s n))
+      strip-step g =
+          (step-decided b c none (decided none g) .0 ∙ rw (kind, requests), change-decided b c none (decided none g) ∙ rw (kind, requests))
 
 -- ---- every call with these bytes
 
--- it is answered o, and leaves the bytes t, a book
+-- it is answered o, and leaves the bytes t, of a sound book
 abbrev pub AnsweredStrip : List ℕ → List ℕ → Outcome → List ℕ → Type 0
 AnsweredStrip s bytes o t =
     ((c : Call) → c .bytes ≡ bytes → o ≡ step (bookIn s) c .outcome)
-    × (((c : Call) → c .bytes ≡ bytes → t ≡ bookBytes (step (bookIn s) c .book)) × (isBook t ≡ true))
+    × (((c : Call) → c .bytes ≡ bytes → t ≡ bookBytes (uncleared (bookIn s) c .book)) × (isSound t ≡ true))
 
 -- refused, it leaves the book
-pub refused-strip : (s bytes : List ℕ) (r : Refusal) → isBook s ≡ true
-    → ((c : Call) → c .bytes ≡ bytes → (refused r ≡ step (bookIn s) c .outcome) × (step (bookIn s) c .book ≡ bookIn s)) → AnsweredStrip s bytes (refused r) s
+pub refused-strip : (s bytes : List ℕ) (r : Refusal) → isSound s ≡ true
+    → ((c : Call) → c .bytes ≡ bytes → (refused r ≡ step (bookIn s) c .outcome) × (uncleared (bookIn s) c .book ≡ bookIn s)) → AnsweredStrip s bytes (refused r) s
 refused-strip s bytes r h f = ((λ c e. f c e .0), ((λ c e. book-image s h ∙ ap bookBytes (sym (f c e .1))), h))
 
--- accepted, it leaves the next one
+-- accepted, it leaves the changed one
 pub accepted-strip : (s bytes : List ℕ) (n : ℕ) (o : Outcome) (t : List ℕ) → StripAccepted s bytes n o t
     → ((c : Call) → c .bytes ≡ bytes
-    → (step (bookIn s) c .outcome ≡ accepted (given strip (bookIn s) (stripRequests bytes n))) × (step (bookIn s) c .book ≡ next strip (bookIn s) (stripRequests bytes n)))
+    → (step (bookIn s) c .outcome ≡ accepted (given strip (bookIn s) (stripRequests bytes n))) × (uncleared (bookIn s) c .book ≡ changed strip (bookIn s) (stripRequests bytes n)))
     → AnsweredStrip s bytes o t
 accepted-strip s bytes n o t w f = ((λ c e. w .0 ∙ sym (f c e .0)), ((λ c e. w .1 .0 ∙ ap bookBytes (sym (f c e .1))), w .1 .1))

@@ -7,14 +7,14 @@ use Rattle.wire.specs.Numbers.{Bytes}
 use Rattle.rules.specs.Basics.{total}
 use Rattle.rules.specs.Registration.{proposed, exposureWith}
 use Rattle.rules.proofs.Basics.Searches.{each-map, each-image}
-use Rattle.image.specs.Valid.{isBook, bookIn}
+use Rattle.image.specs.Valid.{isSound, bookIn}
 use Rattle.book.specs.Worth.{saleWorth}
 use Rattle.book.proofs.StateLaws.{book-is-sound}
 use Rattle.book.proofs.WorthLaws.{exposure-more}
 use Rattle.strips.specs.Ready.{ReadyStrip, stripRequests, proposedRows}
 use Rattle.strips.proofs.ReadyLaws.{proposed-pending, ready-sound}
 
-pub exposure-with-strip : (s bytes : List ℕ) (n o : ℕ) → isBook s ≡ true → Bytes bytes → ReadyStrip (bookIn s) bytes n → (standing added sum : ℕ)
+pub exposure-with-strip : (s bytes : List ℕ) (n o : ℕ) → isSound s ≡ true → Bytes bytes → ReadyStrip (bookIn s) bytes n → (standing added sum : ℕ)
     → standing ≡ exposureWith (bookIn s .setup) (bookIn s .part .rows) [] o
     → added ≡ total (saleWorth (bookIn s .setup) o) (proposedRows bytes n)
     → sum ≡ standing + added

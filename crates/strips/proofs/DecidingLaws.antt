@@ -1,6 +1,6 @@
 -- What the state decides on a strip, test by test: as on a register of all its requests.
 use Prim.Native.Nat.{ℕ, _+_, _<_}
-use mathlib.Core.Path.{_≡_, refl, sym, ap, _∙_}
+use mathlib.Core.Path.{_≡_, sym, ap, _∙_}
 use mathlib.Core.List.{List, map}
 use mathlib.Core.Option.{Option, none, some}
 use mathlib.Core.Bool.{Bool, true, false}
@@ -21,16 +21,8 @@ use Rattle.registration.specs.Cover.{coveredWithRows}
 use Rattle.registration.specs.Proposing.{Addable}
 use Rattle.registration.specs.Margins.{broken}
 use Rattle.registration.specs.declared.margins.Broken.the-variants.{Hour, Nowhere}
+use Rattle.registration.proofs.MarginLaws.{tells-hour, tells-nowhere}
 use Rattle.registration.proofs.AddingLaws as Adding
-
--- what the search for a broken margin found
-pub found-hour : (o : Option ℕ) (h : ℕ) → Hour h ≡ broken o → o ≡ some h
-found-hour none h z = cc
-found-hour (some k) h z = cc
-
-pub found-nowhere : (o : Option ℕ) → Nowhere ≡ broken o → o ≡ none
-found-nowhere none z = refl
-found-nowhere (some k) z = cc
 
 module _ (b : Book) (qs : List Request) where
   decides : (o : Option Refusal) → firstToApply (stateChecks b register qs) ≡ o → checked o ≡ checked (firstToApply (stateChecks b strip qs))
@@ -58,13 +50,13 @@ module _ (b : Book) (qs : List Request) where
     -- 18
     pub margin-decides : (h : ℕ) → Hour h ≡ broken (brokenBy (b .setup) (b .part .rows) (map proposed qs) (firstOf qs .account))
         → Fails (MarginBroken h) ≡ checked (firstToApply (stateChecks b strip qs))
-    margin-decides h e = decides (some (MarginBroken h)) (Adding.margin-breaks b qs p h (found-hour _ h e))
+    margin-decides h e = decides (some (MarginBroken h)) (Adding.margin-breaks b qs p h (tells-hour _ h e))
 
     module _ (kept : Nowhere ≡ broken (brokenBy (b .setup) (b .part .rows) (map proposed qs) (firstOf qs .account))) (t : Bool)
         (test : t ≡ coveredWithRows b (map proposed qs) (operatorOf (b .setup) (firstOf qs .account))) where
       -- 19
       pub uncovered-decides : t ≡ false → Fails Uncovered ≡ checked (firstToApply (stateChecks b strip qs))
-      uncovered-decides f = decides (some Uncovered) (Adding.rows-uncovered b qs p (found-nowhere _ kept) t test f)
+      uncovered-decides f = decides (some Uncovered) (Adding.rows-uncovered b qs p (tells-nowhere _ kept) t test f)
 
       pub covered-decides : t ≡ true → Clear ≡ checked (firstToApply (stateChecks b strip qs))
-      covered-decides f = decides none (Adding.rows-covered b qs p (found-nowhere _ kept) t test f)
+      covered-decides f = decides none (Adding.rows-covered b qs p (tells-nowhere _ kept) t test f)

@@ -5,7 +5,7 @@ pub mod ReadyLaws
 pub mod StandingLaws
 -- LoopLaws: rows appended one by one, and sales summed one by one.
 pub mod LoopLaws
--- AcceptLaws: an accepted strip makes the next book, and a sound one.
+-- AcceptLaws: an accepted strip makes the changed book, and a sound one.
 pub mod AcceptLaws
 -- CoverLaws: the exposure with the rows of a strip in.
 pub mod CoverLaws

@@ -1,13 +1,14 @@
 -- Loops over the rows of a strip: rows that are appended one by one, and sales that are summed one by one.
 use Prim.Native.Nat.{ℕ, _+_, _≤_}
 use mathlib.Core.Path.{_≡_}
-use mathlib.Core.List.{List, _∷_, map}
+use mathlib.Core.List.{List, map}
 use native.Mathlib.Omega.{arith}
 use Rattle.rules.specs.declared.Row.{Row}
 use Rattle.rules.specs.declared.Request.{Request}
-use Rattle.rules.specs.Basics.{total, Each, cons}
+use Rattle.rules.specs.Basics.{total, Each}
 use Rattle.rules.specs.Requests.{rowLength, requestOf}
 use Rattle.rules.specs.Registration.{proposed}
+use Rattle.rules.proofs.Basics.Searches.{first-and-rest}
 use Rattle.registration.specs.Proposing.{rowAppended, rowsAppended}
 use Rattle.strip_rows.specs.Rows.{requestsFrom}
 use Rattle.strip_rows.proofs.RowSteps.{rowAt, requests-step, requests-done}
@@ -16,13 +17,10 @@ use Rattle.strip_rows.proofs.RowSteps.{rowAt, requests-step, requests-done}
 abbrev pub proposedFrom : List ℕ → ℕ → ℕ → List Row
 proposedFrom s at n = map proposed (requestsFrom s at n)
 
-each-first : {P : Request → Type 0} {x : Request} {xs : List Request} → Each P (x ∷ xs) → P x × Each P xs
-each-first (cons p rest) = (p, rest)
-
 module _ (s : List ℕ) (at n m : ℕ) (e : n ≡ m + 1) {q : Request} (read : q ≡ requestOf (rowAt s at)) where
   -- what holds of the requests that are left holds of the first and of the others
   pub first-has : {P : Request → Type 0} → Each P (requestsFrom s at n) → P q × Each P (requestsFrom s (at + rowLength) m)
-  first-has h = each-first (rw (requests-step s at n m e read) at h)
+  first-has h = first-and-rest (rw (requests-step s at n m e read) at h)
 
   module _ {r : Row} (row : r ≡ proposed q) where
     -- the first of the rows that are left is appended

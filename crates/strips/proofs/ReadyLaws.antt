@@ -1,6 +1,6 @@
 -- The rows of a strip that is ready are rows of the book, pending, and of one proposer; so are those that are left from any place on.
 use Prim.Native.Nat.{ℕ, _+_, _^_, _≤_, _<_}
-use mathlib.Core.Path.{_≡_, refl}
+use mathlib.Core.Path.{_≡_, refl, ap}
 use mathlib.Core.List.{List, [], _∷_, map}
 use mathlib.Core.Bool.{true}
 use native.Mathlib.Omega.{arith}
@@ -13,9 +13,10 @@ use Rattle.rules.specs.declared.Row.{Row}
 use Rattle.rules.specs.declared.Request.{Request}
 use Rattle.rules.specs.Basics.{Each, nil, cons}
 use Rattle.rules.specs.Books.{Setup, Book}
-use Rattle.rules.specs.Requests.{kindNumber, register, headLength, rowLength, requestOf, firstOf}
+use Rattle.rules.specs.Requests.{wantedMap, headLength, rowLength, requestOf, firstOf}
 use Rattle.rules.specs.Registration.{pending, proposed}
 use Rattle.rules.proofs.Basics.Searches.{each-map, each-both, each-image, each-any, each-nth}
+use Rattle.rules.proofs.Checks.Passed.{TradeFields}
 use Rattle.rules.proofs.Records.Fields.{field-in-fits}
 use Rattle.rules.proofs.Records.StripRows.{chunks-bytes}
 use Rattle.image.proofs.Sound.Soundness.{SoundRow}
@@ -33,10 +34,10 @@ requests-length s at n = omega (arith, length-map (rowsFrom s at n) requestOf, l
 pub proposed-pending : (qs : List Request) → Each (λ r. pending r ≡ true) (map proposed qs)
 proposed-pending qs = each-image proposed (each-any qs (λ q. refl))
 
--- registers say requests of their kind
-registers-kinds : {rows : List (List ℕ)} → Each IsRegister rows → Each (λ q. q .kind ≡ kindNumber register) (map requestOf rows)
+-- registers say requests with their fields
+registers-fields : {rows : List (List ℕ)} → Each IsRegister rows → Each TradeFields (map requestOf rows)
 unfolding requestOf
-registers-kinds e = each-image requestOf (each-map (λ r w. w .of-kind) e)
+registers-fields e = each-image requestOf (each-map (λ r w. ap wantedMap (w .of-kind)) e)
 
 codes : (s : List ℕ) (at n : ℕ) → Bytes s → CodesFit (requestsFrom s at n)
 unfolding rowsFrom requestOf
@@ -48,14 +49,14 @@ pub record OwnRow (u : Setup) (a : ℕ) (q : Request) : Type 0 where
   pub own : q .account ≡ a
 
 module _ (b : Book) (s : List ℕ) (n : ℕ) (bytes : Bytes s) (r : ReadyStrip b s n) where
-  pub ready-kinds : Each (λ q. q .kind ≡ kindNumber register) (stripRequests s n)
-  ready-kinds = registers-kinds (r .is-strip .rows .registers)
+  ready-fields : Each TradeFields (stripRequests s n)
+  ready-fields = registers-fields (r .is-strip .rows .registers)
 
   pub ready-codes : CodesFit (stripRequests s n)
   ready-codes = codes s headLength n bytes
 
   pub ready-sound : Each (λ q. SoundRow (b .setup) (proposed q)) (stripRequests s n)
-  ready-sound = each-proposed-sound (b .setup) ready-kinds ready-codes (r .in-range) (r .two-accounts)
+  ready-sound = each-proposed-sound (b .setup) ready-fields ready-codes (r .in-range) (r .two-accounts)
 
   -- each of its rows is one of the book's, and its proposer's own
   pub ready-rows : Each (OwnRow (b .setup) (proposer s n)) (stripRequests s n)

@@ -5,7 +5,7 @@ ghost use Prim.Native.Nat.{_*_, _≤_};
 ghost use Rattle.rules.specs.Basics.{total};
 ghost use Rattle.rules.specs.Limits.{mostStrip};
 ghost use Rattle.rules.specs.Books.{operatorOf};
-ghost use Rattle.image.specs.Valid.{isBook, bookIn};
+ghost use Rattle.image.specs.Valid.{isSound, bookIn};
 ghost use Rattle.book.specs.Worth.{SaleInputs, saleWorth, mostSaleWorth};
 ghost use Rattle.registration.specs.Cover.{coveredWithRows};
 ghost use Rattle.strips.specs.Ready.{ReadyStrip, proposer, proposedRows};
@@ -51,7 +51,7 @@ fn strip_sales(
 
 // Whether the exposure of the account's operator is covered once all rows are added; the account is the strip's proposer.
 pub fn covered_with_strip(book: &[u8], bytes: &[u8], n: usize, number: u8) -> bool
-    requires { ⌜ (isBook (now book) ≡ true) × ReadyStrip (bookIn (now book)) (now bytes) n × (number ≡ proposer (now bytes) n) ⌝ }
+    requires { ⌜ (isSound (now book) ≡ true) × ReadyStrip (bookIn (now book)) (now bytes) n × (number ≡ proposer (now bytes) n) ⌝ }
     ensures { λ r. ⌜ (let b = bookIn (now (book .entry)) in
         r ≡ coveredWithRows b (proposedRows (now (bytes .entry)) n) (operatorOf (b .setup) number)) ⌝ }
 {

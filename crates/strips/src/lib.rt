@@ -1,4 +1,4 @@
-// A strip of trades on a book that is known to be one: all of its rows, or none (kind 11).
+// A strip of trades on a sound book: all of its rows, or none (kind 11).
 mod cover;
 mod margins;
 mod rows;

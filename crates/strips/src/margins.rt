@@ -6,7 +6,7 @@ ghost use lib.ListN.{length};
 ghost use Rattle.rules.specs.declared.Row.{Row};
 ghost use Rattle.rules.specs.Basics.{Each};
 ghost use Rattle.rules.specs.Registration.{pending, brokenBy};
-ghost use Rattle.image.specs.Valid.{isBook, bookIn};
+ghost use Rattle.image.specs.Valid.{isSound, bookIn};
 ghost use Rattle.book.specs.Members.{IsAccount};
 ghost use Rattle.book.specs.Waits.{WaitsOf, waitsSize};
 ghost use Rattle.registration.specs.Margins.{broken};
@@ -18,7 +18,7 @@ use setup::entries::margins;
 
 // The lowest hour in which the account breaks a margin; `waits` holds its pending sums, with those of rows that are to be added.
 pub fn broken_with(book: &[u8], waits: &[u32], number: u8) -> Broken
-    requires { ⌜ (isBook (now book) ≡ true) × IsAccount (bookIn (now book)) number × (length (now waits) ≡ waitsSize) ⌝ }
+    requires { ⌜ (isSound (now book) ≡ true) × IsAccount (bookIn (now book)) number × (length (now waits) ≡ waitsSize) ⌝ }
     ensures { λ r. ⌜ ((added : List Row) → (let b = bookIn (now (book .entry)) in
         Each (λ x. pending x ≡ true) added → WaitsOf (b .part .rows ++ added) number (now (waits .entry))
         → r ≡ broken (brokenBy (b .setup) (b .part .rows) added number))) ⌝ }

@@ -3,7 +3,7 @@ ghost use mathlib.Core.Path.{_≡_};
 ghost use mathlib.Core.Bool.{true};
 ghost use Rattle.rules.specs.Basics.{anyPasses};
 ghost use Rattle.rules.specs.Requests.{headLength};
-ghost use Rattle.image.specs.Valid.{isBook, bookIn};
+ghost use Rattle.image.specs.Valid.{isSound, bookIn};
 ghost use Rattle.book.specs.Members.{IsRow, numberedRow};
 ghost use Rattle.strip_rows.specs.Rows.{RegisterRows};
 ghost use Rattle.strips.specs.Ready.{stripRequests, alikeAmong};
@@ -19,7 +19,7 @@ use wire::numbers::get_u8;
 // Whether the row of that number is pending, has this proposer, and the counterparty and code of one of the strip's rows. Most rows have
 // another proposer, so that is tested first.
 fn row_is_alike(book: &[u8], number: u16, bytes: &[u8], n: usize, account: u8) -> bool
-    requires { ⌜ (isBook (now book) ≡ true) × IsRow (bookIn (now book)) number × RegisterRows (now bytes) headLength n ⌝ }
+    requires { ⌜ (isSound (now book) ≡ true) × IsRow (bookIn (now book)) number × RegisterRows (now bytes) headLength n ⌝ }
     ensures { λ r. ⌜ r ≡ alikeAmong account (stripRequests (now (bytes .entry)) n) (numberedRow (bookIn (now (book .entry))) number) ⌝ }
 {
     let at = row_offset(number);
@@ -35,7 +35,7 @@ fn row_is_alike(book: &[u8], number: u16, bytes: &[u8], n: usize, account: u8) -
 
 // Whether some row of the book is.
 pub fn any_is_alike(book: &[u8], bytes: &[u8], n: usize, account: u8) -> bool
-    requires { ⌜ (isBook (now book) ≡ true) × RegisterRows (now bytes) headLength n ⌝ }
+    requires { ⌜ (isSound (now book) ≡ true) × RegisterRows (now bytes) headLength n ⌝ }
     ensures { λ r. ⌜ r ≡ anyPasses (alikeAmong account (stripRequests (now (bytes .entry)) n)) (bookIn (now (book .entry)) .part .rows) ⌝ }
 {
     let rows = row_count(book);

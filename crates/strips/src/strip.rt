@@ -4,8 +4,8 @@ ghost use mathlib.Core.Bool.{true};
 ghost use mathlib.Core.Option.{none};
 ghost use Rattle.rules.specs.Verdicts.{firstToApply, checked, accepted};
 ghost use Rattle.rules.specs.Requests.{strip, isStrip};
-ghost use Rattle.rules.specs.Calls.{Call, next, given, stateChecks, step};
-ghost use Rattle.image.specs.Valid.{isBook, bookIn, bookBytes};
+ghost use Rattle.rules.specs.Calls.{Call, changed, given, stateChecks, step, uncleared};
+ghost use Rattle.image.specs.Valid.{isSound, bookIn, bookBytes};
 ghost use Rattle.registration.specs.Proposing.{Addable};
 ghost use Rattle.strips.specs.Ready.{ReadyStrip, stripRequests, proposer};
 use crate::cover::covered_with_strip;
@@ -33,7 +33,7 @@ use strip_rows::rows::row_request;
 // What a strip is refused for once none of its rows has a twin and there is a number for each: a margin that they break together, or an
 // exposure that is not covered.
 fn margin_or_exposure_fault(book: &[u8], bytes: &[u8], n: usize, account: u8) -> Checked
-    requires { ⌜ (isBook (now book) ≡ true) × ReadyStrip (bookIn (now book)) (now bytes) n × (account ≡ proposer (now bytes) n) ⌝ }
+    requires { ⌜ (isSound (now book) ≡ true) × ReadyStrip (bookIn (now book)) (now bytes) n × (account ≡ proposer (now bytes) n) ⌝ }
     requires { ⌜ Addable (bookIn (now book)) (stripRequests (now bytes) n) ⌝ }
     ensures { λ r. ⌜ r ≡ checked (firstToApply (stateChecks (bookIn (now (book .entry))) strip (stripRequests (now (bytes .entry)) n))) ⌝ }
 {
@@ -50,7 +50,7 @@ fn margin_or_exposure_fault(book: &[u8], bytes: &[u8], n: usize, account: u8) ->
 
 // What the state refuses a strip for.
 fn state_fault(book: &[u8], bytes: &[u8], n: usize) -> Checked
-    requires { ⌜ (isBook (now book) ≡ true) × ReadyStrip (bookIn (now book)) (now bytes) n ⌝ }
+    requires { ⌜ (isSound (now book) ≡ true) × ReadyStrip (bookIn (now book)) (now bytes) n ⌝ }
     ensures { λ r. ⌜ r ≡ checked (firstToApply (stateChecks (bookIn (now (book .entry))) strip (stripRequests (now (bytes .entry)) n))) ⌝ }
 {
     if phase(book) != REGISTRATION {
@@ -72,11 +72,11 @@ fn state_fault(book: &[u8], bytes: &[u8], n: usize) -> Checked
 
 // Writes the rows of a strip that is refused for nothing, and gives the number of the first.
 fn accept(book: &mut [u8], bytes: &[u8], n: usize) -> Outcome
-    requires { ⌜ (isBook (now book) ≡ true) × ReadyStrip (bookIn (now book)) (now bytes) n ⌝ }
+    requires { ⌜ (isSound (now book) ≡ true) × ReadyStrip (bookIn (now book)) (now bytes) n ⌝ }
     requires { ⌜ firstToApply (stateChecks (bookIn (now book)) strip (stripRequests (now bytes) n)) ≡ none ⌝ }
     ensures answer { λ o. ⌜ o ≡ accepted (given strip (bookIn (now (book .entry))) (stripRequests (now (bytes .entry)) n)) ⌝ }
-    ensures bytes { λ _. ⌜ now (book .exit) ≡ bookBytes (next strip (bookIn (now (book .entry))) (stripRequests (now (bytes .entry)) n)) ⌝ }
-    ensures still { λ _. ⌜ isBook (now (book .exit)) ≡ true ⌝ }
+    ensures bytes { λ _. ⌜ now (book .exit) ≡ bookBytes (changed strip (bookIn (now (book .entry))) (stripRequests (now (bytes .entry)) n)) ⌝ }
+    ensures still { λ _. ⌜ isSound (now (book .exit)) ≡ true ⌝ }
 {
     let count = book::state::row_count(book);
     append_rows(book, count, bytes, n);
@@ -88,10 +88,10 @@ fn accept(book: &mut [u8], bytes: &[u8], n: usize) -> Outcome
 
 // Kind 11: the rows of the strip are pending under the next numbers, or a refusal changes nothing.
 pub fn strip(book: &mut [u8], bytes: &[u8]) -> Outcome
-    requires { ⌜ (isBook (now book) ≡ true) × (isStrip (now bytes) ≡ true) ⌝ }
+    requires { ⌜ (isSound (now book) ≡ true) × (isStrip (now bytes) ≡ true) ⌝ }
     ensures answer { λ o. ⌜ ((c : Call) → c .bytes ≡ now (bytes .entry) → o ≡ step (bookIn (now (book .entry))) c .outcome) ⌝ }
-    ensures bytes { λ _. ⌜ ((c : Call) → c .bytes ≡ now (bytes .entry) → now (book .exit) ≡ bookBytes (step (bookIn (now (book .entry))) c .book)) ⌝ }
-    ensures still { λ _. ⌜ isBook (now (book .exit)) ≡ true ⌝ }
+    ensures bytes { λ _. ⌜ ((c : Call) → c .bytes ≡ now (bytes .entry) → now (book .exit) ≡ bookBytes (uncleared (bookIn (now (book .entry))) c .book)) ⌝ }
+    ensures still { λ _. ⌜ isSound (now (book .exit)) ≡ true ⌝ }
 {
     if let Checked::Fails(r) = strip_fault(bytes) {
         return Outcome {

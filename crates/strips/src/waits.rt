@@ -2,7 +2,7 @@
 ghost use mathlib.Core.Path.{_≡_};
 ghost use mathlib.Core.Bool.{true};
 ghost use mathlib.Core.List.{_++_};
-ghost use Rattle.image.specs.Valid.{isBook, bookIn};
+ghost use Rattle.image.specs.Valid.{isSound, bookIn};
 ghost use Rattle.book.specs.Waits.{WaitsOf, noWaits};
 ghost use Rattle.strips.specs.Ready.{ReadyStrip, proposer, proposedRows};
 use book::waits::add_waiting;
@@ -14,7 +14,7 @@ use strip_rows::rows::row_request;
 
 // Adds the pending rows of the proposer, and then the rows of the strip, to a table of no rows.
 pub fn fill_all_waits(table: &mut [u32], book: &[u8], bytes: &[u8], n: usize)
-    requires { ⌜ (now table ≡ noWaits) × (isBook (now book) ≡ true) × ReadyStrip (bookIn (now book)) (now bytes) n ⌝ }
+    requires { ⌜ (now table ≡ noWaits) × (isSound (now book) ≡ true) × ReadyStrip (bookIn (now book)) (now bytes) n ⌝ }
     ensures { λ _. ⌜ (let s = now (bytes .entry) in WaitsOf
         (bookIn (now (book .entry)) .part .rows ++ proposedRows s n) (proposer s n) (now (table .exit))) ⌝ }
 {

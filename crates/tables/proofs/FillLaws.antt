@@ -5,20 +5,12 @@ use mathlib.Core.List.{List, [], _∷_}
 use native.Mathlib.Omega.{arith}
 use lib.ListN.{length, getD, length-replicate, replicate}
 use Rattle.rules.specs.declared.Row.{Row}
-use Rattle.rules.specs.Basics.{total, Each, cons}
+use Rattle.rules.specs.Basics.{total}
 use Rattle.rules.specs.Limits.{mostEnergy}
 use Rattle.rules.specs.Registration.{moved, waiting}
 use Rattle.image.specs.Tables.{cellOf, InTable, Tabled, Room, tableSize}
 use Rattle.image.proofs.Tables.SumLaws.{zero-at}
 use Rattle.tables.specs.Sums.{SumsOf, NoSums, RowAdded, laneSum}
-
--- ---- the first and the others
-
-pub each-first {ℓ κ} : {A : Type ℓ} {P : A → Type κ} {x : A} {xs : List A} → Each P (x ∷ xs) → P x
-each-first (cons p e) = p
-
-pub each-rest {ℓ κ} : {A : Type ℓ} {P : A → Type κ} {x : A} {xs : List A} → Each P (x ∷ xs) → Each P xs
-each-rest (cons p e) = e
 
 -- ---- the sums of one row and of the others
 

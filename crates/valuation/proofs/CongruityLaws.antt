@@ -21,7 +21,7 @@ use Rattle.rules.specs.Opening.{countsIn, pointsIn, setupOf, priceWidth}
 use Rattle.rules.specs.Settlement.{Judged, used, accountOf, sameHourSide, pointLimit, accountLimit, metPrice, taken, judge, priceCount}
 use Rattle.rules.proofs.Basics.Searches.{each-nth, each-map}
 use Rattle.setup.specs.Faults.{Whole}
-use Rattle.image.specs.Valid.{isBook, scheduleOk}
+use Rattle.image.specs.Valid.{isSound, scheduleOk}
 use Rattle.image.proofs.Sound.Soundness.{SoundSchedule, sound-schedule}
 use Rattle.image.proofs.Setups.SetupRanges.{SoundPoint}
 use Rattle.book.proofs.StateLaws.{book-is-sound}
@@ -38,7 +38,7 @@ number-within : (b : Bool) (m h n : ℕ) → 1 ≤ h → m + h ≤ n → (1 ≤ 
 number-within true m h n l e = (omega arith, omega arith)
 number-within false m h n l e = (omega arith, omega arith)
 
-module _ (s : List ℕ) (h : isBook s ≡ true) (x : Schedule) (ok : scheduleOk (setupIn s) x ≡ true) where
+module _ (s : List ℕ) (h : isSound s ≡ true) (x : Schedule) (ok : scheduleOk (setupIn s) x ≡ true) where
   in-range : SoundSchedule (setupIn s) x
   in-range = sound-schedule (setupIn s) x ok
 
@@ -148,7 +148,7 @@ pub result-judged : (s prices table : List ℕ) (x : Schedule) → Priced s pric
     → a ≡ overPoint table p x → b ≡ overAccount s table p x → c ≡ takenAt x (numberedPrice prices (priceNumber (n .hours) p x))
     → ResultIn s prices table x (resultBy a b c)
 result-judged s prices table x given ok n p {c = c} en ep ta tb tc before by each =
-    let h = given .is-book in
+    let h = given .is-sound in
     let hours : n .hours ≡ periods (setupIn s) = hours-read s h n en in
     let listed = price-stands s h x ok prices given n p en ep in
     let met = price-by-number prices _ (setupIn s) (given .whole) (listed .0) (listed .1) refl in

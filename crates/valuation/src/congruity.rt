@@ -7,7 +7,7 @@ ghost use lib.ListN.{length, getD, set};
 ghost use Rattle.rules.specs.Basics.{if_then_else_};
 ghost use Rattle.rules.specs.Limits.{mostPoints, mostAccounts};
 ghost use Rattle.rules.specs.Opening.{priceWidth};
-ghost use Rattle.image.specs.Valid.{isBook};
+ghost use Rattle.image.specs.Valid.{isSound};
 ghost use Rattle.image.specs.Tables.{Room};
 ghost use Rattle.valuation.specs.Tables.{Priced, OnPoint, setupIn, numberedPrice, cellFor, usedCells};
 ghost use Rattle.valuation.specs.Congruity.{InCells, nothingUsed, greatest, leftBy, overPoint, overAccount, priceNumber, takenAt, resultBy, ResultIn, UsedWith};
@@ -88,7 +88,7 @@ fn over_point(used: &[u32], x: Schedule, point: Point) -> bool
 
 // Whether a schedule passes what is left of its account's net position.
 fn over_account(book: &[u8], used: &[u32], x: Schedule, point: Point) -> bool
-    requires { ⌜ (isBook (now book) ≡ true) × OnPoint (setupIn (now book)) point x × (length (now used) ≡ usedCells) ⌝ }
+    requires { ⌜ (isSound (now book) ≡ true) × OnPoint (setupIn (now book)) point x × (length (now used) ≡ usedCells) ⌝ }
     ensures { λ r. ⌜ r ≡ overAccount (now (book .entry)) (now (used .entry)) point x ⌝ }
 {
     let k = POINT_CELLS + cell_for(point.account, x);

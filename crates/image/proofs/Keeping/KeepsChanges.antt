@@ -1,24 +1,28 @@
 -- Every change that brings what it needs keeps a book sound.
-use Prim.Native.Nat.{ℕ, _≤_, _<_}
-use mathlib.Core.Path.{_≡_, refl}
+use Prim.Native.Nat.{ℕ, zero, suc, _≤_, _<_}
+use mathlib.Core.Path.{_≡_, refl, _∙_}
 use mathlib.Core.List.{List, [], _∷_}
 use mathlib.Core.Logic.{⊎-elim}
 use mathlib.Core.Option.{Option, none, some}
-use mathlib.Core.Bool.{true, false}
+use mathlib.Core.Bool.{Bool, true, false}
 use native.Mathlib.Omega.{arith}
-use lib.ListN.{length, length-append}
+use lib.ListN.{length, getD, set, length-append, length-set}
+use lib.Seq.{getD-set-same, getD-set-other}
+use lib.Dec.{eqb}
+use borrow.Author.Tests.{eqb-true, eqb-false}
 use Rattle.rules.specs.declared.Row.{Row}
 use Rattle.rules.specs.declared.Schedule.{Schedule}
-use Rattle.rules.specs.Basics.{anyPasses, Each}
-use Rattle.rules.specs.Limits.{mostSchedules}
-use Rattle.rules.specs.Books.{Setup, Part, Book, withPhase, withPart, withSchedules, withSaved}
+use Rattle.rules.specs.Basics.{anyPasses, nth, put, Each}
+use Rattle.rules.specs.Limits.{mostAccounts, mostSchedules}
+use Rattle.rules.specs.Books.{Setup, Part, Book, noAsks, withPhase, withPart, withSchedules, withSaved, withAsks}
 use Rattle.rules.specs.Registration.{pending}
-use Rattle.rules.specs.Calls.{Change, addRows, setStatus, setGuarantee, savePart, restorePart, dropSaved, shutGate, addSchedule, endDay, restored, apply}
+use Rattle.rules.specs.Calls.{Change, addRows, setStatus, setGuarantee, savePart, restorePart, dropSaved, shutGate, addSchedule, endDay, standAsk, restored, apply}
 use Rattle.rules.proofs.Basics.Differences.{lt-or-ge}
 use Rattle.rules.proofs.Basics.Searches.{each-snoc}
+use Rattle.rules.proofs.Lists.Asks.{none-there}
 use Rattle.image.specs.Valid.{follows}
 use Rattle.image.proofs.Sound.Soundness.{SoundSchedule}
-use Rattle.image.proofs.Sound.SoundBooks.{SoundPart, SavedSound, SoundBook}
+use Rattle.image.proofs.Sound.SoundBooks.{SoundPart, SavedSound, AskRow, SoundAsk, SoundBook}
 use Rattle.image.proofs.Keeping.KeepsRows.{closed-none-pending, follows-refl, follows-added, follows-mark}
 use Rattle.image.proofs.Keeping.KeepsParts.{Addable, Endable, Coverable, part-added, part-ended, part-closed, part-guaranteed}
 
@@ -39,6 +43,7 @@ Allowed b dropSaved = b .phase ≡ 1
 Allowed b shutGate = b .saved ≡ none
 Allowed b (addSchedule x) = Placeable b x
 Allowed b endDay = b .phase ≡ 1 → ⊥
+Allowed b (standAsk r) = AskRow (b .setup) (r .proposer) r
 
 -- in phase 1 a sound part, with a saved part that it follows, makes a sound book
 in-registration : (b : Book) (p : Part) (saved : Option Part) → SoundBook b → b .phase ≡ 1 → SoundPart (b .setup) p
@@ -55,6 +60,8 @@ in-registration b p saved s first part batch =
       none-pending = λ later. absurd (later first);
       no-schedules = s .no-schedules;
       no-batch = λ later. absurd (later first);
+      asks-all = s .asks-all;
+      asks-sound = s .asks-sound;
     }
 
 -- after phase 1, with no batch open, a sound part in which no row is pending and sound schedules make a sound book
@@ -73,7 +80,55 @@ after-registration b phase p xs s later known batch part ended few schedules =
       none-pending = λ _. ended;
       no-schedules = λ first. absurd (omega arith);
       no-batch = λ _. batch;
+      asks-all = s .asks-all;
+      asks-sound = s .asks-sound;
     }
+
+-- other asks that are sound make a sound book
+pub asked-sound : (b : Book) (asks : List (Option Row)) → SoundBook b → length asks ≡ mostAccounts
+    → ((a : ℕ) → 1 ≤ a → a ≤ mostAccounts → SoundAsk (b .setup) a (nth asks a none)) → SoundBook (withAsks b asks)
+asked-sound b asks s all each =
+    record {
+      setup-sound = s .setup-sound;
+      phase-low = s .phase-low;
+      phase-high = s .phase-high;
+      part-sound = s .part-sound;
+      saved-sound = s .saved-sound;
+      schedules-high = s .schedules-high;
+      schedules-sound = s .schedules-sound;
+      none-pending = s .none-pending;
+      no-schedules = s .no-schedules;
+      no-batch = s .no-batch;
+      asks-all = all;
+      asks-sound = each;
+    }
+
+-- a book without asks is sound
+pub cleared-sound : (b : Book) → SoundBook b → SoundBook (withAsks b noAsks)
+cleared-sound b s = asked-sound b noAsks s refl (λ a low high. rw (none-there a) tt)
+
+-- one ask put among sound ones, in the place of its account
+put-sound : (u : Setup) (asks : List (Option Row)) (r : Row) (i j : ℕ) → j < length asks → AskRow u (suc j) r → SoundAsk u (suc i) (getD asks i none)
+    → SoundAsk u (suc i) (getD (set asks j (some r)) i none)
+put-sound u asks r i j inside own old = go (eqb i j) refl
+  where
+    go : (t : Bool) → eqb i j ≡ t → SoundAsk u (suc i) (getD (set asks j (some r)) i none)
+    go true h = rw (eqb-true i j h, getD-set-same asks j (some r) none inside) own
+    go false h = rw (getD-set-other asks j i (some r) none (eqb-false i j h)) old
+
+stood-sound : (b : Book) (r : Row) → SoundBook b → AskRow (b .setup) (r .proposer) r → SoundBook (withAsks b (put (b .asks) (r .proposer) (some r)))
+stood-sound b r s own = go (r .proposer) refl
+  where
+    go : (p : ℕ) → r .proposer ≡ p → SoundBook (withAsks b (put (b .asks) p (some r)))
+    go zero e = absurd (omega (arith, own .row-sound .proposer-low, e))
+    go (suc j) e =
+        let all = s .asks-all in
+        let inside : j < length (b .asks) = omega (arith, own .row-sound .proposer-high, e, s .setup-sound .accounts-high) in
+        asked-sound b (set (b .asks) j (some r)) s (length-set (b .asks) j (some r) ∙ all) (λ a low high. place a low high inside)
+      where
+        place : (a : ℕ) → 1 ≤ a → a ≤ mostAccounts → j < length (b .asks) → SoundAsk (b .setup) a (nth (set (b .asks) j (some r)) a none)
+        place zero low high inside = absurd (omega arith)
+        place (suc i) low high inside = put-sound (b .setup) (b .asks) r i j inside (record { own = e; waits = own .waits; row-sound = own .row-sound }) (s .asks-sound (suc i) low high)
 
 past-first : (b : Book) → SoundBook b → (b .phase ≡ 1 → ⊥) → 2 ≤ b .phase
 past-first b s later = ⊎-elim (λ (l : b .phase < 2). absurd (later (omega (arith, s .phase-low)))) (λ l. l) (lt-or-ge (b .phase) 2)
@@ -112,6 +167,7 @@ apply-keeps shutGate b s w =
 apply-keeps (addSchedule x) b s w =
     let ended = w .later in
     after-registration b (b .phase) (b .part) _ s (past-first b s ended) (s .phase-high) (s .no-batch ended) (s .part-sound) (s .none-pending ended) (omega (arith, w .few, length-append (b .schedules) (x ∷ []))) (each-snoc (s .schedules-sound) (w .is-sound))
+apply-keeps (standAsk r) b s w = stood-sound b r s w
 apply-keeps endDay b s w =
     after-registration b 3 (b .part) (b .schedules) s (omega arith) (omega arith) (s .no-batch w) (s .part-sound) (s .none-pending w) (s .schedules-high) (s .schedules-sound)
 
@@ -127,3 +183,4 @@ apply-setup dropSaved b = refl
 apply-setup shutGate b = refl
 apply-setup (addSchedule x) b = refl
 apply-setup endDay b = refl
+apply-setup (standAsk r) b = refl

@@ -1,7 +1,7 @@
 -- Each kind brings what its change needs: the checks that an accepted call passed say so of a sound book.
 use Prim.Native.Nat.{ℕ, _^_, _<_}
-use mathlib.Core.Path.{_≡_, refl}
-use mathlib.Core.List.{List}
+use mathlib.Core.Path.{_≡_, refl, _∙_}
+use mathlib.Core.List.{List, _++_, map}
 use mathlib.Core.Option.{none}
 use mathlib.Core.Bool.{true, false}
 use native.Mathlib.Omega.{arith}
@@ -10,13 +10,13 @@ use borrow.Author.Tests.{leb-true}
 use Rattle.rules.specs.declared.Request.{Request}
 use Rattle.rules.specs.Basics.{bit, Each, nil, cons}
 use Rattle.rules.specs.Limits.{mostEnergy, mostPrice, mostGuarantee}
-use Rattle.rules.specs.Books.{Setup, Book, countsOf, periods, accountCount, pointCount}
-use Rattle.rules.specs.Requests.{Kind, register, confirm, withdraw, guarantee, openBatch, undo, keep, closeGate, schedule, settle, strip, kindNumber, wantedMap, firstOf, fieldCount, inRange, faultyBit, sameAccounts}
-use Rattle.rules.specs.Registration.{proposed}
-use Rattle.rules.specs.Calls.{Call, confirmedNumber, scheduled, change, apply, inputChecks, stateChecks}
+use Rattle.rules.specs.Books.{Setup, Book, partRows, operatorOf, registrationPhase, countsOf, periods, accountCount, pointCount}
+use Rattle.rules.specs.Requests.{Kind, register, confirm, withdraw, guarantee, openBatch, undo, keep, closeGate, schedule, settle, strip, ask, commit, kindNumber, wantedMap, firstOf, fieldCount, inRange, faultyBit, sameAccounts}
+use Rattle.rules.specs.Registration.{proposed, brokenHour, covered}
+use Rattle.rules.specs.Calls.{Call, confirmedNumber, scheduled, change, addRows, apply, _oneOf_, adding, checkedAs, phaseOf, inputChecks, stateChecks}
 use Rattle.rules.proofs.Basics.Tests.{within-true}
 use Rattle.rules.proofs.Checks.Clearing.{Clear}
-use Rattle.rules.proofs.Checks.Passed.{Asked, first-has, first-kind, field-in-range, two-accounts, passed-6, passed-6-proposer, passed-7, passed-11, passed-12, passed-14, passed-22, passed-15, passed-18, passed-19, passed-20}
+use Rattle.rules.proofs.Checks.Passed.{Asked, TradeFields, trade-fields, first-has, first-kind, field-in-range, two-accounts, passed-6, passed-6-proposer, passed-7, passed-11, passed-12, passed-14, passed-22, passed-15, passed-18, passed-19, passed-20}
 use Rattle.rules.proofs.Rows.RowTests.{passed-confirm, passed-withdraw}
 use Rattle.image.proofs.Sound.Soundness.{SoundRow, SoundSchedule}
 use Rattle.image.proofs.Sound.SoundBooks.{SoundBook}
@@ -30,12 +30,17 @@ module _ (u : Setup) (k : Kind) (q : Request) (named : q .kind ≡ kindNumber k)
   passed-field : (i : ℕ) → i < fieldCount → bit (wantedMap (kindNumber k)) i ≡ true → getD (inRange (countsOf u) q) i true ≡ true
   passed-field i l e = field-in-range (countsOf u) q i fine l (rw named e)
 
+-- and so is each of a trade
+trade-field : (u : Setup) (q : Request) → TradeFields q → faultyBit (countsOf u) q ≡ none
+    → (i : ℕ) → i < fieldCount → bit (wantedMap (kindNumber register)) i ≡ true → getD (inRange (countsOf u) q) i true ≡ true
+trade-field u q fields fine i l e = field-in-range (countsOf u) q i fine l (rw fields e)
+
 -- what register proposes is a row of the book
-pub proposed-sound : (u : Setup) (q : Request) → q .kind ≡ kindNumber register → q .code < 256 ^ 8 → faultyBit (countsOf u) q ≡ none
+pub proposed-sound : (u : Setup) (q : Request) → TradeFields q → q .code < 256 ^ 8 → faultyBit (countsOf u) q ≡ none
     → sameAccounts q ≡ false → SoundRow u (proposed q)
 unfolding bit inRange
-proposed-sound u q named code fine differ =
-    let field = passed-field u register q named fine in
+proposed-sound u q fields code fine differ =
+    let field = trade-field u q fields fine in
     let account = within-true 1 (q .account) (accountCount u) .0 (field 1 (omega arith) refl) in
     let other = within-true 1 (q .other) (accountCount u) .0 (field 2 (omega arith) refl) in
     let side = within-true 1 (q .side) 2 .0 (field 4 (omega arith) refl) in
@@ -47,7 +52,7 @@ proposed-sound u q named code fine differ =
       proposer-high = account .1;
       counterparty-low = other .0;
       counterparty-high = other .1;
-      two-accounts = two-accounts q differ (rw named);
+      two-accounts = two-accounts q differ (rw fields);
       code-fits = code;
       side-low = side .0;
       side-high = side .1;
@@ -88,36 +93,51 @@ abbrev pub CodesFit : List Request → Type 0
 CodesFit qs = Each (λ q. q .code < 256 ^ 8) qs
 
 -- each row that is proposed is one of the book
-pub each-proposed-sound : (u : Setup) {qs : List Request} → Each (λ q. q .kind ≡ kindNumber register) qs → CodesFit qs
+pub each-proposed-sound : (u : Setup) {qs : List Request} → Each TradeFields qs → CodesFit qs
     → Each (λ q. faultyBit (countsOf u) q ≡ none) qs → Each (λ q. sameAccounts q ≡ false) qs → Each (λ q. SoundRow u (proposed q)) qs
 each-proposed-sound u nil nil nil nil = nil
-each-proposed-sound u (cons {x = q} named kinds) (cons code codes) (cons fine fines) (cons differ differs) =
-    cons (proposed-sound u q named code fine differ) (each-proposed-sound u kinds codes fines differs)
+each-proposed-sound u (cons {x = q} fields others) (cons code codes) (cons fine fines) (cons differ differs) =
+    cons (proposed-sound u q fields code fine differ) (each-proposed-sound u others codes fines differs)
 
 module _ (b : Book) (qs : List Request) (s : SoundBook b) where
-  rows-sound : (k : Kind) (c : Call) → Each (λ q. q .kind ≡ kindNumber register) qs → CodesFit qs → Clear (inputChecks b c k qs)
+  rows-sound : (k : Kind) (c : Call) → Each TradeFields qs → CodesFit qs → Clear (inputChecks b c k qs)
       → Each (λ q. SoundRow (b .setup) (proposed q)) qs
-  rows-sound k c kinds codes input = each-proposed-sound (b .setup) kinds codes (passed-6 b c qs k input) (passed-7 b c qs k input)
+  rows-sound k c fields codes input = each-proposed-sound (b .setup) fields codes (passed-6 b c qs k input) (passed-7 b c qs k input)
 
-  pub register-allowed : (c : Call) → Each (λ q. q .kind ≡ kindNumber register) qs → CodesFit qs → Clear (inputChecks b c register qs)
+  -- rows that are added: a register's, a strip's, a commit's
+  rows-allowed : (k : Kind) (c : Call) → k oneOf adding ≡ true → b .phase ≡ phaseOf k → phaseOf k ≡ registrationPhase → Each TradeFields qs → CodesFit qs
+      → Clear (inputChecks b c k qs) → Clear (stateChecks b k qs)
+      → brokenHour (b .setup) (b .part .rows ++ map proposed qs) (firstOf qs .account) ≡ none
+      → covered (b .setup) (partRows (b .part) (b .part .rows ++ map proposed qs)) (operatorOf (b .setup) (firstOf qs .account)) ≡ true
+      → Allowed b (addRows (map proposed qs))
+  rows-allowed k c adds at first fields codes input state margins cover = (
+    at ∙ first,
+    requests-addable (b .setup) (b .part) (s .part-sound) qs (firstOf qs .account) (passed-6-proposer b c qs k input) (rows-sound k c fields codes input)
+        (passed-14 b qs k adds state) (passed-22 b qs k adds state) (passed-15 b qs k adds state) margins cover,
+  )
+
+  pub register-allowed : (c : Call) → Each TradeFields qs → CodesFit qs → Clear (inputChecks b c register qs)
       → Clear (stateChecks b register qs) → Allowed b (change register b qs)
   unfolding apply
-  register-allowed c kinds codes input state = (
-    passed-11 b qs register state,
-    requests-addable (b .setup) (b .part) (s .part-sound) qs (firstOf qs .account) (passed-6-proposer b c qs register input) (rows-sound register c kinds codes input)
-        (passed-14 b qs register refl state) (passed-22 b qs register refl state) (passed-15 b qs register refl state)
-        (passed-18 b qs register refl state) (passed-19 b qs register refl state),
-  )
+  register-allowed c fields codes input state =
+      rows-allowed register c refl (passed-11 b qs register state) refl fields codes input state (passed-18 b qs register refl state) (passed-19 b qs register refl state)
 
-  pub strip-allowed : (c : Call) → Each (λ q. q .kind ≡ kindNumber register) qs → CodesFit qs → Clear (inputChecks b c strip qs)
+  pub strip-allowed : (c : Call) → Each TradeFields qs → CodesFit qs → Clear (inputChecks b c strip qs)
       → Clear (stateChecks b strip qs) → Allowed b (change strip b qs)
   unfolding apply
-  strip-allowed c kinds codes input state = (
-    passed-11 b qs strip state,
-    requests-addable (b .setup) (b .part) (s .part-sound) qs (firstOf qs .account) (passed-6-proposer b c qs strip input) (rows-sound strip c kinds codes input)
-        (passed-14 b qs strip refl state) (passed-22 b qs strip refl state) (passed-15 b qs strip refl state)
-        (passed-18 b qs strip refl state) (passed-19 b qs strip refl state),
-  )
+  strip-allowed c fields codes input state =
+      rows-allowed strip c refl (passed-11 b qs strip state) refl fields codes input state (passed-18 b qs strip refl state) (passed-19 b qs strip refl state)
+
+  pub commit-allowed : (c : Call) → Each TradeFields qs → CodesFit qs → Clear (inputChecks b c commit qs)
+      → Clear (stateChecks b commit qs) → Allowed b (change commit b qs)
+  unfolding apply
+  commit-allowed c fields codes input state =
+      rows-allowed commit c refl (passed-11 b qs commit state) refl fields codes input state (passed-18 b qs commit refl state) (passed-19 b qs commit refl state)
+
+  -- what is asked for is a row of the book
+  pub ask-allowed : (c : Call) → Asked ask qs → CodesFit qs → Clear (inputChecks b c register qs) → Allowed b (change ask b qs)
+  ask-allowed c asked codes input =
+      record { own = refl; waits = refl; row-sound = first-has asked (rows-sound register c (trade-fields ask refl asked) codes input) }
 
   pub confirm-allowed : Clear (stateChecks b confirm qs) → Allowed b (change confirm b qs)
   unfolding apply
@@ -155,9 +175,11 @@ module _ (b : Book) (qs : List Request) (s : SoundBook b) where
   settle-allowed state first = omega (arith, passed-11 b qs settle state)
 
 pub change-allowed : (k : Kind) (b : Book) (c : Call) (qs : List Request) → Asked k qs → CodesFit qs → SoundBook b
-    → Clear (inputChecks b c k qs) → Clear (stateChecks b k qs) → Allowed b (change k b qs)
-change-allowed register b c qs asked codes s input state = register-allowed b qs s c (asked .kinds) codes input state
-change-allowed strip b c qs asked codes s input state = strip-allowed b qs s c (asked .kinds) codes input state
+    → Clear (inputChecks b c (checkedAs k) qs) → Clear (stateChecks b (checkedAs k) qs) → Allowed b (change k b qs)
+change-allowed register b c qs asked codes s input state = register-allowed b qs s c (trade-fields register refl asked) codes input state
+change-allowed strip b c qs asked codes s input state = strip-allowed b qs s c (trade-fields strip refl asked) codes input state
+change-allowed commit b c qs asked codes s input state = commit-allowed b qs s c (trade-fields commit refl asked) codes input state
+change-allowed ask b c qs asked codes s input state = ask-allowed b qs s c asked codes input
 change-allowed confirm b c qs asked codes s input state = confirm-allowed b qs s state
 change-allowed withdraw b c qs asked codes s input state = withdraw-allowed b qs s state
 change-allowed guarantee b c qs asked codes s input state = guarantee-allowed b qs s c asked input state

@@ -13,11 +13,11 @@ use Rattle.rules.specs.declared.Row.{Row}
 use Rattle.rules.specs.declared.Request.{Request}
 use Rattle.rules.specs.Basics.{if_then_else_, anyPasses, nth, Each, nil, cons}
 use Rattle.rules.specs.Books.{Setup, noRow}
-use Rattle.rules.specs.Registration.{pending, proposed, alike, hasTwin, twins, withStatus, mark, closed}
+use Rattle.rules.specs.Registration.{pending, proposed, sameTerms, alike, hasTwin, twins, withStatus, mark, closed}
 use Rattle.rules.proofs.Basics.Tests.{and-both}
 use Rattle.rules.proofs.Basics.Searches.{any-none, none-any, each-snoc, each-both}
 use Rattle.rules.proofs.Rows.RowTests.{alike-by, alike-ended, alike-true, twins-none, twin-snoc}
-use Rattle.image.specs.Valid.{noTwins, sameTerms, follows}
+use Rattle.image.specs.Valid.{noTwins, follows}
 use Rattle.image.proofs.Sound.Soundness.{SoundRow}
 
 -- two tests cannot both hold and fail

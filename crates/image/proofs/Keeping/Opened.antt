@@ -20,9 +20,11 @@ use Rattle.image.specs.Layout.{usedSize}
 use Rattle.image.specs.Image.{image}
 use Rattle.image.specs.Valid.{noTwins, valid, isBookOf}
 use Rattle.image.proofs.Sound.Soundness.{sound-setup}
-use Rattle.image.proofs.Sound.SoundBooks.{SoundPart, book-sound}
+use Rattle.image.proofs.Sound.SoundBooks.{SoundPart, SoundBook, stands-valid}
 use Rattle.image.proofs.Setups.SetupRanges.{SoundOperator}
 use Rattle.image.proofs.Round.{image-is-book}
+use Rattle.rules.proofs.Lists.Asks.{none-there}
+use Rattle.image.proofs.Keeping.Keeps.{cleared-stands}
 use Rattle.image.proofs.Setups.SetupAgain.{accepted-in-range, accepted-sound}
 
 guarantees-in-range : {os : List Operator} → Each SoundOperator os → Each (λ g. g .0 ≤ mostGuarantee) (map (λ x. x .guarantee) os)
@@ -54,10 +56,10 @@ module _ (s : List ℕ) (h : setupRefusal s ≡ none) where
         is-covered = λ o l m. le-leb (exposure (setupOf s) [] o) (available (setupOf s) (opened s .part) o) (omega (arith, nothing-exposed (setupOf s) o));
       }
 
-  pub opened-valid : valid (opened s) ≡ true
+  pub opened-sound : SoundBook (opened s)
   unfolding opened anyPasses
-  opened-valid =
-      book-sound (opened s) (record {
+  opened-sound =
+      record {
         setup-sound = sound-setup (setupOf s) (accepted-sound s h);
         phase-low = omega arith;
         phase-high = omega arith;
@@ -68,7 +70,13 @@ module _ (s : List ℕ) (h : setupRefusal s ≡ none) where
         none-pending = λ n. refl;
         no-schedules = λ e. refl;
         no-batch = λ n. refl;
-      })
+        asks-all = refl;
+        asks-sound = λ a low high. rw (none-there a) tt;
+      }
+
+  pub opened-valid : valid (opened s) ≡ true
+  unfolding opened
+  opened-valid = stands-valid (opened s) opened-sound (cleared-stands (opened s))
 
   -- and so its bytes are a book
   pub opened-is-book : (top size : ℕ) → usedSize top ≤ size → isBookOf top size (image top size (opened s)) ≡ true

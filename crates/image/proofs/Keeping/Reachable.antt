@@ -22,7 +22,7 @@ use Rattle.rules.proofs.Rows.SignedReading.{keeps-margins-signed, net-keeps-mar
 use Rattle.rules.proofs.Lists.CallLists.{after-keeps}
 use Rattle.image.specs.Valid.{valid}
 use Rattle.image.proofs.Sound.Soundness.{SoundRow}
-use Rattle.image.proofs.Sound.SoundBooks.{sound}
+use Rattle.image.proofs.Sound.SoundBooks.{valid-sound}
 use Rattle.image.proofs.Keeping.Keeps.{keeps-valid, no-call-changes-setup}
 use Rattle.image.proofs.Keeping.Opened.{opened-valid}
 
@@ -59,22 +59,22 @@ module _ (b : Book) (v : valid b ≡ true) where
       let n = accountCount (b .setup) in
       let both : (r : Row) → SoundRow (b .setup) r → Parties n r = λ r s.
       parties n r (s .proposer-low, s .proposer-high) (s .counterparty-low, s .counterparty-high) (s .side-low, s .side-high) in
-      nets-cancel n hour (b .part .rows) (each-map both (sound b v .part-sound .rows-sound))
+      nets-cancel n hour (b .part .rows) (each-map both (valid-sound b v .part-sound .rows-sound))
 
   pub valid-margins-kept : MarginsKept b
   valid-margins-kept a hour al ah hl hh =
       keeps-margins-signed (marginsAt (b .setup) a hour) (accountHour (b .part .rows) a hour) .0
-      (sound b v .part-sound .keeps-margins a hour al ah hl hh)
+      (valid-sound b v .part-sound .keeps-margins a hour al ah hl hh)
 
   pub valid-nets-within-margins : NetsWithinMargins b
   valid-nets-within-margins a hour al ah hl hh =
       net-keeps-margins (marginsAt (b .setup) a hour) (accountHour (b .part .rows) a hour)
-      (sound b v .part-sound .keeps-margins a hour al ah hl hh)
+      (valid-sound b v .part-sound .keeps-margins a hour al ah hl hh)
 
   pub valid-covered : Covered b
   unfolding covered
   valid-covered o l h =
-      leb-true (exposure (b .setup) (b .part .rows) o) (available (b .setup) (b .part) o) (sound b v .part-sound .is-covered o l h)
+      leb-true (exposure (b .setup) (b .part .rows) o) (available (b .setup) (b .part) o) (valid-sound b v .part-sound .is-covered o l h)
 
 -- ---- after any list
 

@@ -17,13 +17,13 @@ use Rattle.rules.specs.declared.Row.{Row}
 use Rattle.rules.specs.declared.Schedule.{Schedule}
 use Rattle.rules.specs.Basics.{upTo, joined}
 use Rattle.rules.specs.Limits.{mostOperators, mostAccounts, mostRows, mostSchedules}
-use Rattle.rules.specs.Books.{Part, Book, noRow}
+use Rattle.rules.specs.Books.{Part, Book, noRow, askAt}
 use Rattle.rules.specs.Registration.{bought, sold, netOf, figure}
 use Rattle.rules.specs.Opening.{guaranteeWidth}
 use Rattle.rules.proofs.Basics.Searches.{counting-length}
-use Rattle.image.specs.Layout.{setupRoom, rowWidths, rowWidth, scheduleWidths, scheduleWidth, accountWidth, partWidths, partSize, bookWidths, phaseOffset, flagOffset, scheduleCountOffset, schedulesOffset, presentOffset, savedOffset, guaranteesOffset, rowCountOffset, rowOffset, netOffset, netWidth, setupSection}
-use Rattle.image.specs.Image.{rowValues, rowBytes, scheduleValues, scheduleBytes, accountNets, netsBytes, partSections, partBytes, flag, savedBytes, storedSetup, sectionsWith, sections, image}
-use Rattle.image.proofs.Writing.Sizes.{PartFits, Fits, length-row, length-schedule, length-guarantee, length-account, wide-part, wide-book}
+use Rattle.image.specs.Layout.{setupRoom, rowWidths, rowWidth, scheduleWidths, scheduleWidth, accountWidth, partWidths, partSize, bookWidths, phaseOffset, flagOffset, scheduleCountOffset, schedulesOffset, presentOffset, savedOffset, guaranteesOffset, rowCountOffset, rowOffset, netOffset, netWidth, askOffset, setupSection, asksSection}
+use Rattle.image.specs.Image.{rowValues, rowBytes, scheduleValues, scheduleBytes, accountNets, netsBytes, partSections, partBytes, askBytes, flag, savedBytes, storedSetup, sectionsWith, sections, image}
+use Rattle.image.proofs.Writing.Sizes.{PartFits, Fits, length-row, length-ask, length-schedule, length-guarantee, length-account, wide-part, wide-book}
 use Rattle.image.proofs.Writing.Nets.{upTo-at, nets-end}
 
 -- a number alone in its bytes
@@ -165,6 +165,18 @@ module _ (top size : ℕ) (b : Book) (f : Fits b) where
   saved-read p j m at s l e =
       read-part (bookWidths top size) (sections top size b) (wide-book top size b f) 6 j m at (omega arith) l (omega arith)
       ∙ rw s
+
+  -- the place of an account's ask
+  pub ask-read : (a at : ℕ) → 1 ≤ a → a ≤ length (b .asks) → at ≡ askOffset top a
+      → take rowWidth (drop at (image top size b)) ≡ askBytes (askAt b a)
+  unfolding image sections sectionsWith
+  ask-read (suc i) at low high e =
+      let o : Option Row = getD (b .asks) i none in
+      let af = f .asks-fit in
+      read-part (bookWidths top size) (sections top size b) (wide-book top size b f) asksSection (rowWidth * i) rowWidth at (omega arith) (omega arith) (omega arith)
+      ∙ slots-get rowWidth mostAccounts askBytes length-ask (b .asks) i 0 rowWidth (rowWidth * i) none af (omega arith) (omega arith) (omega arith)
+      ∙ take-all rowWidth (askBytes o) (omega (arith, length-ask o))
+  ask-read zero at low high e = absurd (omega arith)
 
   pub row-count-read : numberAt (image top size b) (presentOffset + rowCountOffset) 2 ≡ length (b .part .rows)
   unfolding numberAt

@@ -10,12 +10,12 @@ use Rattle.wire.proofs.NumberLaws.{number-at-one}
 use Rattle.wire.proofs.PartLaws.{cut-at}
 use Rattle.rules.specs.declared.Counts.{Counts}
 use Rattle.rules.specs.Basics.{entries}
-use Rattle.rules.specs.Limits.{mostSchedules}
+use Rattle.rules.specs.Limits.{mostAccounts, mostSchedules}
 use Rattle.rules.specs.Books.{Book, operatorCount}
 use Rattle.rules.specs.Opening.{countsIn, setupOf}
 use Rattle.rules.proofs.Setups.SetupEntries.{counts-of-setup}
-use Rattle.image.specs.Layout.{setupRoom, scheduleWidth, partSize, bookWidths, phaseOffset, flagOffset, scheduleCountOffset, schedulesOffset, presentOffset, savedOffset, setupSection, phaseSection, flagSection, scheduleCountSection, schedulesSection, presentSection, savedSection}
-use Rattle.image.specs.Image.{scheduleIn, savedIn, bookOf, decode}
+use Rattle.image.specs.Layout.{setupRoom, rowWidth, scheduleWidth, partSize, asksSize, bookWidths, phaseOffset, flagOffset, scheduleCountOffset, schedulesOffset, presentOffset, savedOffset, asksOffset, setupSection, phaseSection, flagSection, scheduleCountSection, schedulesSection, presentSection, savedSection, asksSection}
+use Rattle.image.specs.Image.{askIn, scheduleIn, savedIn, bookOf, decode}
 use Rattle.image.specs.Cells.{partAt}
 use Rattle.image.proofs.Setups.SetupAgain.{counts-first-bytes}
 
@@ -28,6 +28,7 @@ bookAt top s =
       part = partAt top (countsIn s .operators) s presentOffset;
       schedules = map scheduleIn (chunks scheduleWidth (numberAt s scheduleCountOffset 2) (take (scheduleWidth * mostSchedules) (drop schedulesOffset s)));
       saved = savedIn (getD s flagOffset 0) top (countsIn s .operators) (take (partSize top) (drop (savedOffset top) s));
+      asks = map askIn (chunks rowWidth mostAccounts (take asksSize (drop (asksOffset top) s)));
     }
 
 -- the counts stand at the front
@@ -39,7 +40,9 @@ unfolding decode bookOf entries numberAt
 decode-places top size s =
     let ws : List ℕ = bookWidths top size in
     let at : startOf ws savedSection ≡ savedOffset top = omega arith in
+    let asks-at : startOf ws asksSection ≡ asksOffset top = omega arith in
     let phase : number (getD (cut ws s) phaseSection []) ≡ getD s phaseOffset 0 = ap number (cut-at ws s phaseSection) ∙ number-at-one s phaseOffset in
     let flag : number (getD (cut ws s) flagSection []) ≡ getD s flagOffset 0 = ap number (cut-at ws s flagSection) ∙ number-at-one s flagOffset in
     let saved : getD (cut ws s) savedSection [] ≡ take (partSize top) (drop (savedOffset top) s) = cut-at ws s savedSection ∙ ap (λ (k : ℕ). take (partSize top) (drop k s)) at in
-    rw (phase, flag, cut-at ws s setupSection, cut-at ws s scheduleCountSection, cut-at ws s schedulesSection, cut-at ws s presentSection, saved, counts-at s)
+    let asks : getD (cut ws s) asksSection [] ≡ take asksSize (drop (asksOffset top) s) = cut-at ws s asksSection ∙ ap (λ (k : ℕ). take asksSize (drop k s)) asks-at in
+    rw (phase, flag, cut-at ws s setupSection, cut-at ws s scheduleCountSection, cut-at ws s schedulesSection, cut-at ws s presentSection, saved, asks, counts-at s)

@@ -3,34 +3,34 @@
 use Prim.Native.Nat.{ℕ, suc, _+_, _-_, _*_, _^_, _≤_, _<_}
 use mathlib.Core.Path.{_≡_, refl, ap, _∙_}
 use mathlib.Core.List.{List, [], _∷_, _++_}
-use mathlib.Core.Option.{some}
+use mathlib.Core.Option.{none, some}
 use mathlib.Core.Bool.{true}
 use native.Mathlib.Omega.{arith}
-use lib.ListN.{length, set, drop, length-append, length-drop}
+use lib.ListN.{length, getD, set, drop, length-append, length-drop}
 use Rattle.wire.specs.Numbers.{le}
 use Rattle.wire.specs.Regions.{splice, pasted}
-use Rattle.wire.specs.Parts.{zeros, flat, slots, sweep}
+use Rattle.wire.specs.Parts.{zeros, flat, cells, slots, sweep}
 use Rattle.wire.proofs.NumberLaws.{length-le}
-use Rattle.wire.proofs.RegionLaws.{length-splice, pasted-splice}
+use Rattle.wire.proofs.RegionLaws.{length-splice, splice-all, pasted-splice}
 use Rattle.wire.proofs.ZeroLaws.{length-zeros}
 use Rattle.wire.proofs.PartLaws.{write-part, write-whole, read-whole, wide-set}
-use Rattle.wire.proofs.SlotLaws.{length-slots, slots-snoc}
+use Rattle.wire.proofs.SlotLaws.{length-slots, slots-snoc, slots-set, flat-zero-cells}
 use Rattle.wire.proofs.SweepLaws.{sweep-part, length-sweep}
 use Rattle.units.specs.declared.Cents.{Cents}
 use Rattle.rules.specs.declared.Row.{Row}
 use Rattle.rules.specs.declared.Schedule.{Schedule}
 use Rattle.rules.specs.Basics.{nth, Each}
-use Rattle.rules.specs.Limits.{mostRows, mostSchedules}
-use Rattle.rules.specs.Books.{Part, Book, noRow, withRows, withPhase, withPart}
+use Rattle.rules.specs.Limits.{mostRows, mostSchedules, mostAccounts}
+use Rattle.rules.specs.Books.{Part, Book, noRow, noAsks, withRows, withPhase, withPart, withAsks}
 use Rattle.rules.specs.Registration.{pending, seller, buyer, closed}
-use Rattle.rules.specs.Calls.{addRows, setStatus, setGuarantee, savePart, restorePart, dropSaved, shutGate, addSchedule, endDay, restored, apply}
+use Rattle.rules.specs.Calls.{addRows, setStatus, setGuarantee, savePart, restorePart, dropSaved, shutGate, addSchedule, endDay, standAsk, restored, apply}
 use Rattle.rules.specs.Opening.{guaranteeWidth}
 use Rattle.rules.proofs.Rows.RowChanges.{length-closed}
 use Rattle.rules.proofs.Rows.AccountHours.{pending-inside}
-use Rattle.image.specs.Layout.{rowWidth, scheduleWidth, partSize, usedSize, bookWidths, phaseOffset, flagOffset, scheduleCountOffset, schedulesOffset, presentOffset, savedOffset, guaranteesOffset, rowCountOffset, rowOffset, netOffset, statusOffset, netWidth, phaseSection, flagSection, scheduleCountSection, schedulesSection, presentSection, savedSection}
-use Rattle.image.specs.Image.{rowBytes, scheduleBytes, partBytes, savedBytes, sectionsWith, sections, image}
+use Rattle.image.specs.Layout.{rowWidth, scheduleWidth, partSize, asksSize, usedSize, bookWidths, phaseOffset, flagOffset, scheduleCountOffset, schedulesOffset, presentOffset, savedOffset, asksOffset, guaranteesOffset, rowCountOffset, rowOffset, netOffset, statusOffset, netWidth, phaseSection, flagSection, scheduleCountSection, schedulesSection, presentSection, savedSection, asksSection}
+use Rattle.image.specs.Image.{rowBytes, scheduleBytes, partBytes, askBytes, savedBytes, sectionsWith, sections, image}
 use Rattle.image.specs.Changes.{raised, ended}
-use Rattle.image.proofs.Writing.Sizes.{RowFits, Fits, length-row, length-schedule, length-part, length-saved, wide-with, wide-book, length-image}
+use Rattle.image.proofs.Writing.Sizes.{RowFits, Fits, length-row, length-ask, length-schedule, length-part, length-saved, wide-with, wide-book, length-image}
 use Rattle.image.proofs.Writing.Nets.{length-raised, nets-end, party-fits}
 use Rattle.image.proofs.Writing.Writes.{length-ended, part-row, part-withdraw, part-confirm, part-guarantee, part-close}
 
@@ -43,6 +43,11 @@ write-phase top size b f phase =
 -- the image with these bytes for the present part
 unfoldable framed : ℕ → ℕ → Book → List ℕ → List ℕ
 framed top size b x = flat (sectionsWith top size b x)
+
+-- no asks are zeros
+pub no-asks-zero : slots rowWidth mostAccounts askBytes noAsks ≡ zeros asksSize
+unfolding slots cells
+no-asks-zero = flat-zero-cells rowWidth mostAccounts
 
 module _ (top size : ℕ) (b : Book) (f : Fits b) where
   -- ---- the present part
@@ -236,6 +241,7 @@ module _ (top size : ℕ) (b : Book) (f : Fits b) where
         part-fits =
             record { guarantees-fit = f .part-fits .guarantees-fit; rows-fit = omega (arith, length-closed (p .rows)) };
         saved-fits = f .saved-fits;
+        asks-fit = f .asks-fit;
       } in
       let loop = framed-sweep (partBytes top p) ended rowWidth length-ended (rowOffset 0) n at (length-part top p (f .part-fits)) (omega arith) a in
       ap (λ (s : List ℕ). splice (sweep ended rowWidth s at n) phaseOffset (le 1 2)) framed-image
@@ -267,3 +273,29 @@ module _ (top size : ℕ) (b : Book) (f : Fits b) where
   pub write-settled : splice (image top size b) phaseOffset (le 1 3) ≡ image top size (apply endDay b)
   unfolding apply
   write-settled = write-phase top size b f 3
+
+  -- ---- an ask put in its account's place
+
+  pub write-ask : (r : Row) (i at : ℕ) → r .proposer ≡ suc i → suc i ≤ length (b .asks) → at ≡ asksOffset top + rowWidth * i
+      → splice (image top size b) at (rowBytes r) ≡ image top size (apply (standAsk r) b)
+  unfolding apply image sections sectionsWith
+  write-ask r i at e h a =
+      let ws : List ℕ = bookWidths top size in
+      let ss : List (List ℕ) = sections top size b in
+      let w = wide-book top size b f in
+      let af = f .asks-fit in
+      let old : List ℕ = askBytes (getD (b .asks) i none) in
+      let lo = length-ask (getD (b .asks) i none) in
+      let lr = length-row r in
+      let whole : splice old 0 (rowBytes r) ≡ askBytes (some r) = splice-all old (rowBytes r) (omega arith) in
+      let one = write-part ws ss w asksSection (rowWidth * i) at (rowBytes r) (omega arith) (omega arith) (omega arith) in
+      let put = slots-set rowWidth mostAccounts askBytes length-ask (b .asks) i 0 (rowWidth * i) (rowBytes r) none (some r) af (omega arith) (omega arith) (omega arith) whole in
+      one ∙ rw (put, e)
+
+  -- ---- all asks cleared
+
+  pub write-cleared : splice (image top size b) (asksOffset top) (zeros asksSize) ≡ image top size (withAsks b noAsks)
+  unfolding image sections sectionsWith
+  write-cleared =
+      write-whole (bookWidths top size) (sections top size b) (wide-book top size b f) asksSection (asksOffset top) (zeros asksSize) (omega arith) (length-zeros asksSize) (omega arith)
+      ∙ rw no-asks-zero

@@ -28,7 +28,7 @@ use Rattle.rules.specs.Registration.{netOf, figure}
 use Rattle.rules.proofs.Basics.Searches.{counting-length, each-map, each-any}
 use Rattle.rules.proofs.Setups.SetupShape.{length-most}
 use Rattle.image.specs.Layout.{setupRoom, rowWidths, rowWidth, scheduleWidths, scheduleWidth, accountWidth, partWidths, partSize, usedSize, bookWidths, netWidth}
-use Rattle.image.specs.Image.{rowValues, rowBytes, scheduleValues, scheduleBytes, accountNets, netsBytes, partSections, partBytes, savedBytes, storedSetup, sectionsWith, sections, image}
+use Rattle.image.specs.Image.{rowValues, rowBytes, scheduleValues, scheduleBytes, accountNets, netsBytes, partSections, partBytes, askBytes, savedBytes, storedSetup, sectionsWith, sections, image}
 use Rattle.image.proofs.Sound.Soundness.{MarginsAll, SoundSetup, SoundRow, SoundSchedule}
 use Rattle.image.proofs.Sound.SoundBooks.{SoundPart, SavedSound, SoundBook}
 
@@ -64,12 +64,17 @@ pub record Fits (b : Book) : Type 0 where
   pub schedules-fit : length (b .schedules) ≤ mostSchedules
   pub part-fits : PartFits (b .part)
   pub saved-fits : SavedFits (b .saved)
+  pub asks-fit : length (b .asks) ≤ mostAccounts
 
 -- ---- lengths
 
 pub length-row : (r : Row) → length (rowBytes r) ≡ rowWidth
 unfolding rowBytes
 length-row r = length-pack rowWidths (rowValues r) refl
+
+pub length-ask : (o : Option Row) → length (askBytes o) ≡ rowWidth
+length-ask none = length-zeros rowWidth
+length-ask (some r) = length-row r
 
 pub length-schedule : (x : Schedule) → length (scheduleBytes x) ≡ scheduleWidth
 unfolding scheduleBytes
@@ -127,6 +132,7 @@ wide-with top size b part f h =
     then length-slots scheduleWidth mostSchedules scheduleBytes length-schedule (b .schedules) (f .schedules-fit)
     then h
     then length-saved top (b .saved) (f .saved-fits)
+    then length-slots rowWidth mostAccounts askBytes length-ask (b .asks) (f .asks-fit)
     then length-zeros _
     then tt
 
@@ -249,6 +255,7 @@ fits b s =
       schedules-fit = s .schedules-high;
       part-fits = part-fits-of (b .setup) (b .part) (u .operators-high) (s .part-sound);
       saved-fits = saved (b .part .rows) (b .saved) (s .saved-sound);
+      asks-fit = omega (arith, s .asks-all);
     }
   where
     saved : (rows : List Row) (o : Option Part) → SavedSound (b .setup) rows o → SavedFits o

@@ -3,7 +3,7 @@ use Prim.Native.Nat.{ℕ, zero, suc, _+_, _-_, _≤_, _<_}
 use mathlib.Core.Path.{_≡_, refl, sym, ap, _∙_}
 use mathlib.Core.List.{List, [], _∷_, _++_, map}
 use mathlib.Core.Option.{Option, none, some}
-use mathlib.Core.Bool.{Bool, true, false}
+use mathlib.Core.Bool.{Bool, true, false, _||_}
 use native.Mathlib.Omega.{arith}
 use lib.ListN.{length, getD}
 use Rattle.rules.proofs.Basics.Tests.{and-both}
@@ -30,11 +30,20 @@ unfolding counting
 counting-length zero from = refl
 counting-length (suc n) from = ap suc (counting-length n (suc from))
 
+-- what each element has, the first has, and each of the others
+pub first-and-rest {ℓ κ} : {A : Type ℓ} {P : A → Type κ} {x : A} {xs : List A} → Each P (x ∷ xs) → P x × Each P xs
+first-and-rest (cons p e) = (p, e)
+
 -- what each element has, the element at an index has
 pub each-at {ℓ κ} : {A : Type ℓ} {P : A → Type κ} {xs : List A} (d : A) (i : ℕ) → Each P xs → i < length xs → P (getD xs i d)
 each-at d i nil h = absurd (omega arith)
 each-at d zero (cons p e) h = p
 each-at d (suc i) (cons p e) h = each-at d i e (omega arith)
+
+-- and what the element at each index has, each element has
+pub at-each {ℓ κ} : {A : Type ℓ} {P : A → Type κ} (d : A) (xs : List A) → ((i : ℕ) → i < length xs → P (getD xs i d)) → Each P xs
+at-each d [] f = nil
+at-each d (x ∷ xs) f = cons (f 0 (omega arith)) (at-each d xs (λ i h. f (suc i) (omega arith)))
 
 -- the same counted from 1
 pub each-nth {ℓ κ} : {A : Type ℓ} {P : A → Type κ} {xs : List A} (d : A) (n : ℕ) → Each P xs → 1 ≤ n → n ≤ length xs → P (nth xs n d)
@@ -96,6 +105,15 @@ pub record First {ℓ} {A : Type ℓ} (p : A → Bool) (xs : List A) (d : A) (i 
   pub before : (j : ℕ) → j < i → p (getD xs j d) ≡ false
 
 module _ {ℓ} {A : Type ℓ} (p : A → Bool) where
+  -- the first passes, or one of the others
+  pub any-step : (x : A) (xs : List A) → anyPasses p (x ∷ xs) ≡ p x || anyPasses p xs
+  unfolding anyPasses
+  any-step x xs = go (p x) refl
+    where
+      go : (t : Bool) → p x ≡ t → anyPasses p (x ∷ xs) ≡ t || anyPasses p xs
+      go true e = rw (e, anyPasses)
+      go false e = rw (e, anyPasses)
+
   any-go : (x : A) (xs : List A) (t : Bool) → p x ≡ t → anyPasses p (x ∷ xs) ≡ false → (p x ≡ false) × (anyPasses p xs ≡ false)
   unfolding anyPasses
   any-go x xs true e h = let z : true ≡ false = rw (e, anyPasses) at h in (cc, cc)

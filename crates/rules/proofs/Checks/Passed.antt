@@ -15,16 +15,17 @@ use Rattle.rules.specs.declared.Counts.{Counts}
 use Rattle.rules.specs.declared.Request.{Request}
 use Rattle.rules.specs.declared.Refusal.{Refusal}
 use Rattle.rules.specs.declared.Refusal.the-variants.{Unreadable, UnknownKind, OutOfRange, SameAccount, BufferShort}
-use Rattle.rules.specs.Basics.{if_then_else_, anyPasses, nth, counting, upTo, bit, Each, nil, cons}
+use Rattle.rules.specs.Basics.{if_then_else_, anyPasses, every, nth, counting, upTo, bit, Each, nil, cons}
 use Rattle.rules.specs.Limits.{mostPrice, mostRows, mostStrip, mostSchedules}
 use Rattle.rules.specs.Verdicts.{Check, _⇒_, _⇒↑_, applies, accepted, refused}
-use Rattle.rules.specs.Books.{Part, Book, noRow, operatorCount, countsOf}
-use Rattle.rules.specs.Requests.{Kind, register, confirm, withdraw, guarantee, openBatch, undo, keep, closeGate, schedule, settle, strip, kindNumber, kindOf, isSingle, wantedMap, wantedLength, mapOf, fieldIn, requestOf, unreadable, mapCheck, readChecks, isStrip, headLength, rowLength, stripCount, stripRows, rowChecks, stripChecks, requestsOf, firstOf, fieldCount, bits, inRange, faultyField, faultyBit, faultyBitAmong, sameAccounts}
-use Rattle.rules.specs.Registration.{hasTwin, twins, confirms, withdraws, mirrors, brokenHour, covered}
+use Rattle.rules.specs.Books.{Part, Book, withAsks, noRow, askAt, noAsks, operatorCount, countsOf}
+use Rattle.rules.specs.Requests.{Kind, register, confirm, withdraw, guarantee, openBatch, undo, keep, closeGate, schedule, settle, strip, ask, commit, kindNumber, kindOf, isSingle, wantedMap, wantedLength, mapOf, fieldIn, requestOf, unreadable, mapCheck, readChecks, isStrip, headLength, rowLength, stripCount, stripRows, rowChecks, stripChecks, requestsOf, firstOf, fieldCount, bits, inRange, faultyField, faultyBit, faultyBitAmong, sameAccounts}
+use Rattle.rules.specs.Registration.{proposed, standsWith, hasTwin, twins, confirms, withdraws, mirrors, brokenHour, covered}
 use Rattle.rules.specs.Settlement.{priceCount, pricesIn}
-use Rattle.rules.specs.Calls.{Call, callKind, callRequests, next, given, confirmedNumber, _oneOf_, adding, phaseOf, exposedOperator, bytesChecks, inputChecks, stateChecks, checks, refusal, answer, step}
+use Rattle.rules.specs.Calls.{Call, callKind, callRequests, changed, clearedBy, next, given, confirmedNumber, _oneOf_, adding, checkedAs, phaseOf, exposedOperator, bytesChecks, inputChecks, stateChecks, checks, refusal, answer, step}
 use Rattle.rules.proofs.Basics.Tests.{within-true, or-neither, and-spared}
-use Rattle.rules.proofs.Basics.Searches.{some-of, none-of, counted-has, find-none, each-nth, each-map, each-both, each-image}
+use Rattle.rules.proofs.Basics.Searches.{some-of, none-of, every-each, counted-has, find-none, each-nth, each-map, each-both, each-image}
+use Rattle.rules.proofs.Checks.KindTables.{single-kind}
 use Rattle.rules.proofs.Checks.Clearing.{never-both, Clear, clear, clear-split, clear-each, clear-at, spared, spared↑, spared-for, spared↑-for}
 
 -- ---- 2 to 5, of the record itself
@@ -46,14 +47,15 @@ module _ (s : List ℕ) (h : Clear (readChecks s)) where
   unfolding readChecks
   passed-5-record = eqb-true _ _ (not-false _ (spared _ _ (clear-at 3 (readChecks s) h)))
 
-kind-numbers : Each (λ n. kindNumber (kindOf n) ≡ n) (upTo 10)
-unfolding counting
-kind-numbers = cons refl (cons refl (cons refl (cons refl (cons refl (cons refl (cons refl (cons refl (cons refl (cons refl nil)))))))))
+-- the kind of a number from 1 to 13 has that number
+numbered : every (λ n. eqb (kindNumber (kindOf n)) n) (upTo 13) ≡ true
+unfolding counting every
+numbered = refl
 
--- the kind of a number from 1 to 10 has that number
 pub kind-number : (n : ℕ) → isSingle n ≡ true → kindNumber (kindOf n) ≡ n
 kind-number n h =
-    let w = within-true 1 n 10 .0 h in counted-has 10 1 n kind-numbers (w .0) (omega arith)
+    let (low, (high, _)) = single-kind n h in
+    eqb-true _ _ (counted-has 13 1 n (every-each (λ n. eqb (kindNumber (kindOf n)) n) (upTo 13) numbered) low (omega arith))
 
 -- ---- 2 to 5 and 21, of a strip, and 2 to 4 of its rows
 
@@ -116,9 +118,32 @@ first-has a e = each-nth (requestOf []) 1 e (omega arith) (a .several)
 pub first-kind : {k : Kind} {qs : List Request} → Asked k qs → firstOf qs .kind ≡ requestKind k
 first-kind a = first-has a (a .kinds)
 
-request-kinds : Each (λ n. requestKind (kindOf n) ≡ n) (upTo 10)
-unfolding counting
-request-kinds = cons refl (cons refl (cons refl (cons refl (cons refl (cons refl (cons refl (cons refl (cons refl (cons refl nil)))))))))
+-- a request of a single record has the number of its kind
+request-kind : (k : Kind) → k oneOf (strip ∷ []) ≡ false → requestKind k ≡ kindNumber k
+request-kind k e = rw e
+
+-- a request with the fields of a register
+abbrev pub TradeFields : Request → Type 0
+TradeFields q = wantedMap (q .kind) ≡ wantedMap (kindNumber register)
+
+fields-of : (k : Kind) → k oneOf (ask ∷ adding) ≡ true → wantedMap (requestKind k) ≡ wantedMap (kindNumber register)
+fields-of register e = refl
+fields-of strip e = refl
+fields-of ask e = refl
+fields-of commit e = refl
+fields-of confirm e = refl
+fields-of withdraw e = cc
+fields-of guarantee e = cc
+fields-of openBatch e = cc
+fields-of undo e = cc
+fields-of keep e = cc
+fields-of closeGate e = cc
+fields-of schedule e = cc
+fields-of settle e = cc
+
+-- such are the requests of a call that adds rows or asks for one
+pub trade-fields : (k : Kind) {qs : List Request} → k oneOf (ask ∷ adding) ≡ true → Asked k qs → Each TradeFields qs
+trade-fields k e a = each-map (λ q same. ap wantedMap same ∙ fields-of k e) (a .kinds)
 
 -- a single record brings one request
 pub single-requests : (s : List ℕ) → isStrip s ≡ false → requestsOf s ≡ requestOf s ∷ []
@@ -132,8 +157,9 @@ strip-requests s e = rw e
 single-asked : (s : List ℕ) → isStrip s ≡ false → Clear (readChecks s) → Asked (kindOf (fieldIn s 0)) (requestsOf s)
 unfolding requestOf
 single-asked s e h =
-    let w = within-true 1 (fieldIn s 0) 10 .0 (passed-3 s h) in
-    let same : requestKind (kindOf (fieldIn s 0)) ≡ fieldIn s 0 = counted-has 10 1 (fieldIn s 0) request-kinds (w .0) (omega arith) in
+    let number = kind-number (fieldIn s 0) (passed-3 s h) in
+    let single : kindOf (fieldIn s 0) oneOf (strip ∷ []) ≡ false = rw (number, e) in
+    let same : requestKind (kindOf (fieldIn s 0)) ≡ fieldIn s 0 = request-kind (kindOf (fieldIn s 0)) single ∙ number in
     rw (single-requests s e) (record { several = omega arith; kinds = cons (sym same) nil; alone = λ _. refl })
 
 strip-asked : (s : List ℕ) → isStrip s ≡ true → Clear (stripChecks s) → Asked (kindOf (fieldIn s 0)) (requestsOf s)
@@ -150,6 +176,15 @@ bytes-asked s h = go (isStrip s) refl h
     go : (t : Bool) → isStrip s ≡ t → Clear (if t then stripChecks s else readChecks s) → Asked (kindOf (fieldIn s 0)) (requestsOf s)
     go true e h = strip-asked s e h
     go false e h = single-asked s e h
+
+-- bytes that are not refused can be read, and say the number of their kind
+pub bytes-kind : (s : List ℕ) → Clear (bytesChecks s) → (unreadable s ≡ false) × (kindNumber (kindOf (fieldIn s 0)) ≡ fieldIn s 0)
+bytes-kind s h = go (isStrip s) refl h
+  where
+    go : (t : Bool) → isStrip s ≡ t → Clear (if t then stripChecks s else readChecks s)
+        → (unreadable s ≡ false) × (kindNumber (kindOf (fieldIn s 0)) ≡ fieldIn s 0)
+    go true e h = (strip-readable s h, rw (eqb-true (fieldIn s 0) (kindNumber strip) e))
+    go false e h = (passed-2 s h, kind-number (fieldIn s 0) (passed-3 s h))
 
 -- under 3 bytes, bit 0 clear, or a bit of 13 to 15 set: none of these
 pub readable : (s : List ℕ) → unreadable s ≡ false → (3 ≤ length s) × (bit (mapOf s) 0 ≡ true) × (mapOf s < 2 ^ 13)
@@ -255,51 +290,56 @@ module _ (b : Book) (qs : List Request) where
   unfolding stateChecks
   passed-13 k e h = some-of (b .saved) (not-false _ (spared-for _ _ _ e (clear-at 2 (stateChecks b k qs) h)))
 
+  -- the ask of the commit stands
+  pub passed-23 : Clear (stateChecks b commit qs) → standsWith (proposed (firstOf qs)) (askAt b (firstOf qs .account)) ≡ true
+  unfolding stateChecks
+  passed-23 h = not-false _ (spared _ _ (clear-at 3 (stateChecks b commit qs) h))
+
   -- no pending row is alike
   pub passed-14 : (k : Kind) → k oneOf adding ≡ true → Clear (stateChecks b k qs) → anyPasses (hasTwin (b .part .rows)) qs ≡ false
   unfolding stateChecks
-  passed-14 k e h = spared-for _ _ _ e (clear-at 3 (stateChecks b k qs) h)
+  passed-14 k e h = spared-for _ _ _ e (clear-at 4 (stateChecks b k qs) h)
 
   -- no two of the requests are alike
   pub passed-22 : (k : Kind) → k oneOf adding ≡ true → Clear (stateChecks b k qs) → twins qs ≡ false
   unfolding stateChecks
-  passed-22 k e h = spared-for _ _ _ e (clear-at 4 (stateChecks b k qs) h)
+  passed-22 k e h = spared-for _ _ _ e (clear-at 5 (stateChecks b k qs) h)
 
   -- a number is left for each
   pub passed-15 : (k : Kind) → k oneOf adding ≡ true → Clear (stateChecks b k qs) → length (b .part .rows) + length qs ≤ mostRows
   unfolding stateChecks
-  passed-15 k e h = leb-true _ _ (not-false _ (spared-for _ _ _ e (clear-at 5 (stateChecks b k qs) h)))
+  passed-15 k e h = leb-true _ _ (not-false _ (spared-for _ _ _ e (clear-at 6 (stateChecks b k qs) h)))
 
   -- the row is there
   pub passed-16-confirm : Clear (stateChecks b confirm qs) → (i : ℕ) × (confirms (b .part .rows) (firstOf qs) ≡ some i)
   unfolding stateChecks
-  passed-16-confirm h = some-of _ (not-false _ (spared _ _ (clear-at 6 (stateChecks b confirm qs) h)))
+  passed-16-confirm h = some-of _ (not-false _ (spared _ _ (clear-at 7 (stateChecks b confirm qs) h)))
 
   pub passed-16-withdraw : Clear (stateChecks b withdraw qs) → withdraws (b .part .rows) (firstOf qs) ≡ true
   unfolding stateChecks
-  passed-16-withdraw h = not-false _ (spared _ _ (clear-at 7 (stateChecks b withdraw qs) h))
+  passed-16-withdraw h = not-false _ (spared _ _ (clear-at 8 (stateChecks b withdraw qs) h))
 
   -- terms mirror
   pub passed-17 : Clear (stateChecks b confirm qs) → mirrors (firstOf qs) (nth (b .part .rows) (confirmedNumber b (firstOf qs)) noRow) ≡ true
   unfolding stateChecks
-  passed-17 h = not-false _ (spared _ _ (clear-at 8 (stateChecks b confirm qs) h))
+  passed-17 h = not-false _ (spared _ _ (clear-at 9 (stateChecks b confirm qs) h))
 
   -- no margin of the calling account is broken on the book as it will be
   pub passed-18 : (k : Kind) → k oneOf (confirm ∷ adding) ≡ true → Clear (stateChecks b k qs)
-      → brokenHour (b .setup) (next k b qs .part .rows) (firstOf qs .account) ≡ none
+      → brokenHour (b .setup) (changed k b qs .part .rows) (firstOf qs .account) ≡ none
   unfolding stateChecks
-  passed-18 k e h = spared↑-for _ _ _ e (clear-at 9 (stateChecks b k qs) h)
+  passed-18 k e h = spared↑-for _ _ _ e (clear-at 10 (stateChecks b k qs) h)
 
   -- exposure is covered on the book as it will be
   pub passed-19 : (k : Kind) → k oneOf (confirm ∷ guarantee ∷ adding) ≡ true → Clear (stateChecks b k qs)
-      → covered (b .setup) (next k b qs .part) (exposedOperator k (b .setup) (firstOf qs)) ≡ true
+      → covered (b .setup) (changed k b qs .part) (exposedOperator k (b .setup) (firstOf qs)) ≡ true
   unfolding stateChecks
-  passed-19 k e h = not-false _ (spared-for _ _ _ e (clear-at 10 (stateChecks b k qs) h))
+  passed-19 k e h = not-false _ (spared-for _ _ _ e (clear-at 11 (stateChecks b k qs) h))
 
   -- a place is left
   pub passed-20 : Clear (stateChecks b schedule qs) → length (b .schedules) < mostSchedules
   unfolding stateChecks
-  passed-20 h = leb-false _ _ (spared _ _ (clear-at 11 (stateChecks b schedule qs) h))
+  passed-20 h = leb-false _ _ (spared _ _ (clear-at 12 (stateChecks b schedule qs) h))
 
 -- ---- a call
 
@@ -308,8 +348,8 @@ pub record Passed (b : Book) (c : Call) : Type 0 where
   pub book : step b c .book ≡ next (callKind c) b (callRequests c)
   pub outcome : step b c .outcome ≡ accepted (given (callKind c) b (callRequests c))
   pub read : Clear (bytesChecks (c .bytes))
-  pub input : Clear (inputChecks b c (callKind c) (callRequests c))
-  pub state : Clear (stateChecks b (callKind c) (callRequests c))
+  pub input : Clear (inputChecks b c (checkedAs (callKind c)) (callRequests c))
+  pub state : Clear (stateChecks b (checkedAs (callKind c)) (callRequests c))
 
 -- a refused call: why, and the book and both buffers as they were
 pub record Kept (b : Book) (c : Call) : Type 0 where
@@ -319,6 +359,14 @@ pub record Kept (b : Book) (c : Call) : Type 0 where
   pub results : step b c .results ≡ c .results
   pub balances : step b c .balances ≡ c .balances
 
+-- what holds of a book, and of it without its asks, holds whatever kind of call was accepted
+pub cleared-either : (P : Book → Type 0) (k : Kind) (b : Book) → P b → P (withAsks b noAsks) → P (clearedBy k b)
+cleared-either P k b with-asks without = go (k oneOf (ask ∷ []))
+  where
+    go : (t : Bool) → P (if t then b else withAsks b noAsks)
+    go true = with-asks
+    go false = without
+
 -- the requests say the call's kind
 pub passed-asked : {b : Book} {c : Call} → Passed b c → Asked (callKind c) (callRequests c)
 passed-asked {c} p = bytes-asked (c .bytes) (p .read)
@@ -327,8 +375,8 @@ pub passed : (b : Book) (c : Call) → refusal b c ≡ none → Passed b c
 unfolding step answer refusal checks
 passed b c e =
     let r = bytesChecks (c .bytes) in
-    let i = inputChecks b c (callKind c) (callRequests c) in
-    let s = stateChecks b (callKind c) (callRequests c) in
+    let i = inputChecks b c (checkedAs (callKind c)) (callRequests c) in
+    let s = stateChecks b (checkedAs (callKind c)) (callRequests c) in
     let outer = clear-split (r ++ i) s (clear (checks b c) e) in
     let inner = clear-split r i (outer .0) in
     record { book = rw e; outcome = rw e; read = inner .0; input = inner .1; state = outer .1 }

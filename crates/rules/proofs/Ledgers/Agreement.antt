@@ -2,7 +2,7 @@
 -- puts back is the part that the book saved, and no schedule comes while a batch is open.
 use Prim.Native.Nat.{ℕ}
 use mathlib.Core.Path.{_≡_, refl, sym, ap, _∙_}
-use mathlib.Core.Bool.{false}
+use mathlib.Core.Bool.{true, false}
 use mathlib.Core.Logic.{_⊎_, inl, inr}
 use mathlib.Core.List.{List, [], _∷_, _++_, map}
 use mathlib.Core.Option.{Option, none, some}
@@ -12,15 +12,15 @@ use Rattle.rules.specs.declared.Request.{Request}
 use Rattle.rules.specs.Basics.{total, nth, Each, nil, cons}
 use Rattle.rules.specs.Books.{Part, Book, noRow}
 use Rattle.rules.specs.Opening.{opened}
-use Rattle.rules.specs.Requests.{Kind, register, confirm, withdraw, guarantee, openBatch, undo, keep, closeGate, schedule, settle, strip, kindNumber, kindOf, firstOf}
+use Rattle.rules.specs.Requests.{Kind, register, confirm, withdraw, guarantee, openBatch, undo, keep, closeGate, schedule, settle, strip, ask, commit, kindNumber, kindOf, firstOf}
 use Rattle.rules.specs.Registration.{moved, proposed, confirms}
-use Rattle.rules.specs.Calls.{Call, callKind, callRequests, next, numberFrom, confirmedNumber, scheduled, _oneOf_, inputChecks, stateChecks, step, apply, addRows}
+use Rattle.rules.specs.Calls.{Call, callKind, callRequests, changed, clearedBy, numberFrom, confirmedNumber, scheduled, _oneOf_, adding, checkedAs, inputChecks, stateChecks, step, apply, addRows}
 use Rattle.rules.specs.Lists.{accepts, after, runs, heard}
 use Rattle.rules.specs.Ledger.{Page, Ledger, blank, newLedger, tradeOf, pageAfter, feed, feedEach, fed, fedAll, traded, ledgerAfter}
-use Rattle.rules.proofs.Basics.Searches.{each-nth, each-any, each-image}
+use Rattle.rules.proofs.Basics.Searches.{each-nth, each-any, each-map, each-image}
 use Rattle.rules.proofs.Checks.Clearing.{Clear}
 use Rattle.rules.proofs.Checks.KindTables.{kind-again}
-use Rattle.rules.proofs.Checks.Passed.{Asked, first-kind, Passed, Kept, passed-asked, step-cases, passed-11, passed-12, passed-13, passed-16-confirm}
+use Rattle.rules.proofs.Checks.Passed.{Asked, requestKind, first-kind, Passed, Kept, cleared-either, passed-asked, step-cases, passed-11, passed-12, passed-13, passed-16-confirm}
 use Rattle.rules.proofs.Rows.RowTests.{passed-confirm, passed-withdraw}
 use Rattle.rules.proofs.Ledgers.Entries.{entriesFrom}
 use Rattle.rules.proofs.Ledgers.Ranged.{Ranged, confirm-side, opened-ranged, step-ranged}
@@ -84,18 +84,42 @@ undone phase xs o p g e s = rw e at s
 abbrev enteredFor : List Request → Ledger → Ledger
 enteredFor qs l = record { setup = l .setup; page = enteredAll (l .page) (map proposed qs); copy = l .copy }
 
-registers-fed : {qs : List Request} (l : Ledger) → Each (λ q. q .kind ≡ kindNumber register) qs → feedEach qs l ≡ enteredFor qs l
-unfolding feedEach feed pageAfter
-registers-fed l nil = refl
-registers-fed l (cons {x = q} e es) = rw e (registers-fed (enteredFor (q ∷ []) l) es)
+-- a request that enters its row
+abbrev Enters : Request → Type 0
+Enters q = (l : Ledger) → feed (kindOf (q .kind)) q l ≡ enteredFor (q ∷ []) l
 
--- registers, and a strip's rows
-entered-agrees : (b : Book) (qs : List Request) (l : Ledger) → Each (λ q. q .kind ≡ kindNumber register) qs → Agrees b l
+-- what adds rows brings such requests: registers and commits
+entry-kind : (k : Kind) → k oneOf adding ≡ true → (q : Request) (l : Ledger) → feed (kindOf (requestKind k)) q l ≡ enteredFor (q ∷ []) l
+unfolding feed pageAfter
+entry-kind register e q l = refl
+entry-kind strip e q l = refl
+entry-kind commit e q l = refl
+entry-kind confirm e q l = cc
+entry-kind withdraw e q l = cc
+entry-kind guarantee e q l = cc
+entry-kind openBatch e q l = cc
+entry-kind undo e q l = cc
+entry-kind keep e q l = cc
+entry-kind closeGate e q l = cc
+entry-kind schedule e q l = cc
+entry-kind settle e q l = cc
+entry-kind ask e q l = cc
+
+entering : (k : Kind) {qs : List Request} → k oneOf adding ≡ true → Asked k qs → Each Enters qs
+entering k e a = each-map (λ q same l. ap (λ (n : ℕ). feed (kindOf n) q l) same ∙ entry-kind k e q l) (a .kinds)
+
+all-entered : {qs : List Request} (l : Ledger) → Each Enters qs → feedEach qs l ≡ enteredFor qs l
+unfolding feedEach
+all-entered l nil = refl
+all-entered l (cons {x = q} e es) = rw (e l) (all-entered (enteredFor (q ∷ []) l) es)
+
+-- registers, a strip's rows, and commits
+entered-agrees : (b : Book) (qs : List Request) (l : Ledger) → Each Enters qs → Agrees b l
     → Agrees (apply (addRows (map proposed qs)) b) (feedEach qs l)
 unfolding apply
-entered-agrees b qs l kinds g =
+entered-agrees b qs l enter g =
     let xs = entered-schedules (l .page) (map proposed qs) in
-    rw (registers-fed l kinds) (record {
+    rw (all-entered l enter) (record {
       setup = g .setup;
       part = rows-added-agrees (b .part) (l .page) (each-image proposed (each-any qs (λ q. refl))) (g .part);
       schedules = g .schedules ∙ sym xs;
@@ -111,12 +135,15 @@ single-fed k qs l e a =
     ∙ ap (λ (n : ℕ). feed (kindOf n) (firstOf qs) l) kind
     ∙ ap (λ (j : Kind). feed j (firstOf qs) l) (kind-again k)
 
-next-agrees : (k : Kind) (b : Book) (c : Call) (qs : List Request) (l : Ledger) → Asked k qs → Clear (inputChecks b c k qs)
-    → Clear (stateChecks b k qs) → Ranged b → Agrees b l → Agrees (next k b qs) (feedEach qs l)
+change-agrees : (k : Kind) (b : Book) (c : Call) (qs : List Request) (l : Ledger) → Asked k qs → Clear (inputChecks b c (checkedAs k) qs)
+    → Clear (stateChecks b (checkedAs k) qs) → Ranged b → Agrees b l → Agrees (changed k b qs) (feedEach qs l)
 unfolding apply feed pageAfter confirms
-next-agrees register b c qs l a i h r g = entered-agrees b qs l (a .kinds) g
-next-agrees strip b c qs l a i h r g = entered-agrees b qs l (a .kinds) g
-next-agrees confirm b c qs l a i h r g =
+change-agrees register b c qs l a i h r g = entered-agrees b qs l (entering register refl a) g
+change-agrees strip b c qs l a i h r g = entered-agrees b qs l (entering strip refl a) g
+change-agrees commit b c qs l a i h r g = entered-agrees b qs l (entering commit refl a) g
+change-agrees ask b c qs l a i h r g =
+    rw (single-fed ask qs l refl a) (record { setup = g .setup; part = g .part; schedules = g .schedules; saved = g .saved })
+change-agrees confirm b c qs l a i h r g =
     let found = passed-16-confirm b qs h in
     let q : Request = firstOf qs in
     rw (single-fed confirm qs l refl a) (record {
@@ -127,54 +154,59 @@ next-agrees confirm b c qs l a i h r g =
       schedules = g .schedules;
       saved = g .saved;
     })
-next-agrees withdraw b c qs l a i h r g =
+change-agrees withdraw b c qs l a i h r g =
     rw (single-fed withdraw qs l refl a) (record {
       setup = g .setup;
       part = withdrawn-agrees (b .part) (l .page) (g .part) (firstOf qs .number) (passed-withdraw b qs h .0);
       schedules = g .schedules;
       saved = g .saved;
     })
-next-agrees guarantee b c qs l a i h r g =
+change-agrees guarantee b c qs l a i h r g =
     rw (single-fed guarantee qs l refl a) (record {
       setup = g .setup;
       part = guaranteed-agrees (b .part) (l .page) (g .part) (firstOf qs .operator) (firstOf qs .guarantee);
       schedules = g .schedules;
       saved = g .saved;
     })
-next-agrees openBatch b c qs l a i h r g =
+change-agrees openBatch b c qs l a i h r g =
     rw (single-fed openBatch qs l refl a) (record {
       setup = g .setup;
       part = g .part;
       schedules = g .schedules;
       saved = record { phase = passed-11 b qs openBatch h; schedules = g .schedules; part = g .part };
     })
-next-agrees undo b c qs l a i h r g =
+change-agrees undo b c qs l a i h r g =
     let (p, o) = passed-13 b qs undo refl h in
     let s = undone (b .phase) (b .schedules) (b .saved) p (l .copy) o (g .saved) in
     rw (single-fed undo qs l refl a) (record { setup = g .setup; part = rw o (s .part); schedules = s .schedules; saved = tt })
-next-agrees keep b c qs l a i h r g =
+change-agrees keep b c qs l a i h r g =
     rw (single-fed keep qs l refl a) (record { setup = g .setup; part = g .part; schedules = g .schedules; saved = tt })
-next-agrees closeGate b c qs l a i h r g =
+change-agrees closeGate b c qs l a i h r g =
     rw (single-fed closeGate qs l refl a) (record {
       setup = g .setup;
       part = closed-agrees (b .part) (l .page) (g .part);
       schedules = g .schedules;
       saved = saved-none 2 (b .schedules) (b .saved) (l .copy) (passed-12 b qs closeGate refl h);
     })
-next-agrees schedule b c qs l a i h r g =
+change-agrees schedule b c qs l a i h r g =
     rw (single-fed schedule qs l refl a) (record {
       setup = g .setup;
       part = scheduled-agrees (b .part) (l .page) (g .part) _;
       schedules = ap (λ (xs : List Schedule). xs ++ scheduled (firstOf qs) ∷ []) (g .schedules);
       saved = saved-later (b .phase) (b .schedules) _ (b .saved) (l .copy) (b .phase) (passed-11 b qs schedule h) (g .saved);
     })
-next-agrees settle b c qs l a i h r g =
+change-agrees settle b c qs l a i h r g =
     rw (single-fed settle qs l refl a) (record {
       setup = g .setup;
       part = g .part;
       schedules = g .schedules;
       saved = saved-later (b .phase) (b .schedules) _ (b .saved) (l .copy) 3 (passed-11 b qs settle h) (g .saved);
     })
+
+-- asks are nothing to the ledger
+cleared-agrees : (k : Kind) (b : Book) (l : Ledger) → Agrees b l → Agrees (clearedBy k b) l
+cleared-agrees k b l g =
+    cleared-either (λ x. Agrees x l) k b g (record { setup = g .setup; part = g .part; schedules = g .schedules; saved = g .saved })
 
 -- ---- a call, and a list of calls
 
@@ -186,7 +218,8 @@ step-agrees b c l r g = go (step-cases b c)
     go : Kept b c ⊎ Passed b c → Agrees (step b c .book) (fed (c .bytes) (accepts step b c) l)
     go (inl kept) = rw (kept .book, kept .outcome) g
     go (inr p) =
-        rw (p .book, p .outcome) (next-agrees (callKind c) b c (callRequests c) l (passed-asked p) (p .input) (p .state) r g)
+        rw (p .book, p .outcome) (cleared-agrees (callKind c) _ _
+        (change-agrees (callKind c) b c (callRequests c) l (passed-asked p) (p .input) (p .state) r g))
 
 pub list-agrees : (b : Book) (l : Ledger) (cs : List Call) → Ranged b → Agrees b l → Agrees (after step b cs) (fedAll l (heard step b cs))
 unfolding after fedAll heard runs

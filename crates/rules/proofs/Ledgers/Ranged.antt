@@ -14,15 +14,15 @@ use Rattle.rules.specs.declared.Request.{Request}
 use Rattle.rules.specs.Basics.{bit, Each, nil, cons}
 use Rattle.rules.specs.Books.{Part, Book, accountCount, pointCount, countsOf}
 use Rattle.rules.specs.Opening.{opened}
-use Rattle.rules.specs.Requests.{Kind, register, confirm, withdraw, guarantee, openBatch, undo, keep, closeGate, schedule, settle, strip, kindNumber, wantedMap, inRange, faultyBit, firstOf}
+use Rattle.rules.specs.Requests.{Kind, register, confirm, withdraw, guarantee, openBatch, undo, keep, closeGate, schedule, settle, strip, ask, commit, kindNumber, wantedMap, inRange, faultyBit, firstOf}
 use Rattle.rules.specs.Registration.{withStatus, proposed}
-use Rattle.rules.specs.Calls.{Call, callKind, callRequests, Change, addRows, setStatus, setGuarantee, savePart, restorePart, dropSaved, shutGate, addSchedule, endDay, scheduled, change, restored, apply, inputChecks, step}
+use Rattle.rules.specs.Calls.{Call, callKind, callRequests, Change, addRows, setStatus, setGuarantee, savePart, restorePart, dropSaved, shutGate, addSchedule, endDay, standAsk, scheduled, change, restored, apply, clearedBy, checkedAs, inputChecks, step}
 use Rattle.rules.specs.Lists.{after}
 use Rattle.rules.proofs.Basics.Tests.{within-true}
 use Rattle.rules.proofs.Basics.Searches.{each-snoc, each-append, each-both, each-image}
 use Rattle.rules.proofs.Rows.RowChanges.{each-mark, each-closed}
 use Rattle.rules.proofs.Checks.Clearing.{Clear}
-use Rattle.rules.proofs.Checks.Passed.{field-in-range, passed-6, Asked, first-has, first-kind, Passed, Kept, passed-asked, step-cases}
+use Rattle.rules.proofs.Checks.Passed.{field-in-range, passed-6, Asked, TradeFields, trade-fields, first-has, first-kind, Passed, Kept, cleared-either, passed-asked, step-cases}
 use Rattle.rules.proofs.Rows.Balanced.{Parties, parties}
 
 -- ---- rows between accounts
@@ -62,13 +62,13 @@ bit-stands : (k : Kind) (q : Request) (i : ℕ) → q .kind ≡ kindNumber k →
     → bit (wantedMap (q .kind)) i ≡ true
 bit-stands k q i e h = rw e h
 
-proposed-parties : (n : Counts) (q : Request) → q .kind ≡ kindNumber register → faultyBit n q ≡ none → Parties (n .accounts) (proposed q)
+proposed-parties : (n : Counts) (q : Request) → TradeFields q → faultyBit n q ≡ none → Parties (n .accounts) (proposed q)
 unfolding bit
 proposed-parties n q e f =
     parties (n .accounts) (proposed q)
-    (account-in-range n q f (bit-stands register q 1 e refl))
-    (other-in-range n q f (bit-stands register q 2 e refl))
-    (side-in-range n q f (bit-stands register q 4 e refl))
+    (account-in-range n q f (rw e refl))
+    (other-in-range n q f (rw e refl))
+    (side-in-range n q f (rw e refl))
 
 -- an accepted confirm has a side
 pub confirm-side : (b : Book) (c : Call) (qs : List Request) → Asked confirm qs → Clear (inputChecks b c confirm qs)
@@ -117,6 +117,7 @@ Adds b dropSaved = Unit {0}
 Adds b shutGate = Unit {0}
 Adds b (addSchedule x) = OnPoint (pointCount (b .setup)) x
 Adds b endDay = Unit {0}
+Adds b (standAsk r) = Unit {0}
 
 apply-ranged : (x : Change) (b : Book) → Adds b x → Ranged b → Ranged (apply x b)
 unfolding apply
@@ -131,15 +132,19 @@ apply-ranged dropSaved b new g = record { rows = g .rows; saved = tt; schedules 
 apply-ranged shutGate b new g = record { rows = each-closed (parties-status _ 3) (g .rows); saved = g .saved; schedules = g .schedules }
 apply-ranged (addSchedule x) b new g = record { rows = g .rows; saved = g .saved; schedules = each-snoc (g .schedules) new }
 apply-ranged endDay b new g = record { rows = g .rows; saved = g .saved; schedules = g .schedules }
+apply-ranged (standAsk r) b new g = record { rows = g .rows; saved = g .saved; schedules = g .schedules }
 
 -- each row that is proposed
-rows-parties : (n : Counts) {qs : List Request} → Each (λ q. q .kind ≡ kindNumber register) qs → Each (λ q. faultyBit n q ≡ none) qs
+rows-parties : (n : Counts) {qs : List Request} → Each TradeFields qs → Each (λ q. faultyBit n q ≡ none) qs
     → Each (Parties (n .accounts)) (map proposed qs)
-rows-parties n kinds fine = each-image proposed (each-both (proposed-parties n) kinds fine)
+rows-parties n fields fine = each-image proposed (each-both (proposed-parties n) fields fine)
 
-change-adds : (k : Kind) (b : Book) (c : Call) (qs : List Request) → Asked k qs → Clear (inputChecks b c k qs) → Adds b (change k b qs)
-change-adds register b c qs a i = rows-parties (countsOf (b .setup)) (a .kinds) (passed-6 b c qs register i)
-change-adds strip b c qs a i = rows-parties (countsOf (b .setup)) (a .kinds) (passed-6 b c qs strip i)
+change-adds : (k : Kind) (b : Book) (c : Call) (qs : List Request) → Asked k qs → Clear (inputChecks b c (checkedAs k) qs)
+    → Adds b (change k b qs)
+change-adds register b c qs a i = rows-parties (countsOf (b .setup)) (trade-fields register refl a) (passed-6 b c qs register i)
+change-adds strip b c qs a i = rows-parties (countsOf (b .setup)) (trade-fields strip refl a) (passed-6 b c qs strip i)
+change-adds commit b c qs a i = rows-parties (countsOf (b .setup)) (trade-fields commit refl a) (passed-6 b c qs commit i)
+change-adds ask b c qs a i = tt
 change-adds confirm b c qs a i = tt
 change-adds withdraw b c qs a i = tt
 change-adds guarantee b c qs a i = tt
@@ -154,12 +159,18 @@ pub opened-ranged : (s : List ℕ) → Ranged (opened s)
 unfolding opened
 opened-ranged s = record { rows = nil; saved = tt; schedules = nil }
 
+-- asks may be cleared
+cleared-ranged : (k : Kind) (b : Book) → Ranged b → Ranged (clearedBy k b)
+cleared-ranged k b g = cleared-either Ranged k b g (record { rows = g .rows; saved = g .saved; schedules = g .schedules })
+
 pub step-ranged : (b : Book) (c : Call) → Ranged b → Ranged (step b c .book)
 step-ranged b c g = go (step-cases b c)
   where
     go : Kept b c ⊎ Passed b c → Ranged (step b c .book)
     go (inl kept) = rw (kept .book) g
-    go (inr p) = rw (p .book) (apply-ranged (change (callKind c) b (callRequests c)) b (change-adds (callKind c) b c (callRequests c) (passed-asked p) (p .input)) g)
+    go (inr p) =
+        rw (p .book) (cleared-ranged (callKind c) _
+        (apply-ranged (change (callKind c) b (callRequests c)) b (change-adds (callKind c) b c (callRequests c) (passed-asked p) (p .input)) g))
 
 pub last-ranged : (b : Book) (cs : List Call) → Ranged b → Ranged (after step b cs)
 unfolding after

@@ -1,5 +1,5 @@
--- Lists of calls put together, and calls cut out of them, whatever form the book has: calls that leave the book as they found it leave
--- no trace after them.
+-- Lists of calls put together, and calls in the place of others, whatever form the book has: calls that lead to the same book leave the
+-- same trace after them.
 use Prim.Native.Nat.{ℕ, suc, _+_}
 use mathlib.Core.Path.{_≡_, refl, sym, ap, _∙_}
 use mathlib.Core.Logic.{_⊎_, inl, inr}
@@ -12,7 +12,7 @@ use Rattle.rules.specs.declared.Outcome.{Outcome}
 use Rattle.rules.specs.Basics.{Each, nil, cons}
 use Rattle.rules.specs.Books.{Book}
 use Rattle.rules.specs.Calls.{Call, Answer, step}
-use Rattle.rules.specs.Lists.{runs, after, isAcceptance, accepts, CutOut}
+use Rattle.rules.specs.Lists.{runs, after, isAcceptance, accepts, Matched}
 use Rattle.rules.proofs.Checks.Passed.{Passed, Kept, step-cases}
 
 -- ---- lists, put together
@@ -33,30 +33,32 @@ module _ {B : Type 0} (answer : B → Call → Answer B) where
   runs-append b [] ys = refl
   runs-append b (c ∷ xs) ys = rw (runs-append (answer b c .book) xs ys)
 
-  -- calls that leave the book as they found it may be cut out
-  pub cut-out : (b : B) (before out rest : List Call) → after answer (after answer b before) out ≡ after answer b before
-      → CutOut answer b before out rest
-  cut-out b before out rest same =
-      let there : after answer b (before ++ out) ≡ after answer b before = after-append b before out ∙ same in
-      let first : length (runs answer b before) ≡ length before = runs-length b before in
-      let both : length (runs answer b (before ++ out)) ≡ length before + length out
-      = runs-length b (before ++ out) ∙ length-append before out in
-      let plain = runs-append b before rest in
-      let long = runs-append b (before ++ out) rest in
+  -- calls that lead to the same book may stand in each other's place
+  pub matched : (b : B) (before calls others rest : List Call)
+      → after answer (after answer b before) calls ≡ after answer (after answer b before) others → Matched answer b before calls others rest
+  matched b before calls others rest same =
+      let there : after answer b (before ++ calls) ≡ after answer b (before ++ others)
+      = after-append b before calls ∙ same ∙ sym (after-append b before others) in
       record {
-        same-before =
-            ap (λ (cs : List Call). take (length before) (runs answer b cs)) (append-assoc before out rest)
-            ∙ ap (take (length before)) (runs-append b before (out ++ rest))
-            ∙ take-at (runs answer b before) _ (length before) first
-            ∙ sym (ap (take (length before)) plain ∙ take-at (runs answer b before) _ (length before) first);
-        same-after =
-            ap (drop (length before + length out)) long
-            ∙ drop-at (runs answer b (before ++ out)) _ (length before + length out) both
-            ∙ ap (λ (x : B). runs answer x rest) there
-            ∙ sym (ap (drop (length before)) plain ∙ drop-at (runs answer b before) _ (length before) first);
+        same-before = front calls ∙ sym (front others);
+        same-after = back calls ∙ ap (λ (x : B). runs answer x rest) there ∙ sym (back others);
         same-book =
-            after-append b (before ++ out) rest ∙ ap (λ (x : B). after answer x rest) there ∙ sym (after-append b before rest);
+            after-append b (before ++ calls) rest
+            ∙ ap (λ (x : B). after answer x rest) there
+            ∙ sym (after-append b (before ++ others) rest);
       }
+    where
+      front : (cs : List Call) → take (length before) (runs answer b (before ++ cs ++ rest)) ≡ runs answer b before
+      front cs =
+          ap (λ (xs : List Call). take (length before) (runs answer b xs)) (append-assoc before cs rest)
+          ∙ ap (take (length before)) (runs-append b before (cs ++ rest))
+          ∙ take-at (runs answer b before) _ (length before) (runs-length b before)
+
+      back : (cs : List Call)
+          → drop (length before + length cs) (runs answer b (before ++ cs ++ rest)) ≡ runs answer (after answer b (before ++ cs)) rest
+      back cs =
+          ap (drop (length before + length cs)) (runs-append b (before ++ cs) rest)
+          ∙ drop-at (runs answer b (before ++ cs)) _ (length before + length cs) (runs-length b (before ++ cs) ∙ length-append before cs)
 
   -- what every call of some sort keeps, a list of them keeps
   pub after-keeps : {Good : B → Type 0} {Sort : Call → Type 0} → ((b : B) (c : Call) → Sort c → Good b → Good (answer b c .book))
@@ -90,8 +92,8 @@ refuses-go b c h (inr w) = let n = passed-accepted w in let z : _≡_ {A = ℕ} 
 pub refused-leaves-all : (b : Book) (c : Call) → accepts step b c ≡ false → Kept b c
 refused-leaves-all b c h = refuses-go b c h (step-cases b c)
 
--- and may be cut out of any list
-pub refused-cut-out : (b : Book) (before : List Call) (c : Call) (rest : List Call) → accepts step (after step b before) c ≡ false
-    → CutOut step b before (c ∷ []) rest
+-- so that nothing may stand in its place
+pub refused-like-nothing : (b : Book) (before : List Call) (c : Call) (rest : List Call) → accepts step (after step b before) c ≡ false
+    → Matched step b before (c ∷ []) [] rest
 unfolding after
-refused-cut-out b before c rest h = cut-out step b before (c ∷ []) rest (refused-leaves-all (after step b before) c h .book)
+refused-like-nothing b before c rest h = matched step b before (c ∷ []) [] rest (refused-leaves-all (after step b before) c h .book)

@@ -20,16 +20,16 @@ use Rattle.rules.specs.declared.Refusal.the-variants.{Unreadable, Unknow
 use Rattle.rules.specs.Basics.{total, anyPasses, every, counting, bit, Each, nil, cons}
 use Rattle.rules.specs.Verdicts.{Check, _⇒_, _⇒↑_, applies, firstToApply}
 use Rattle.rules.specs.Limits.{mostRows}
-use Rattle.rules.specs.Books.{Book, partRows, withRows, countsOf, operatorOf, registrationPhase}
+use Rattle.rules.specs.Books.{Book, partRows, withAsks, withRows, noAsks, countsOf, operatorOf, registrationPhase}
 use Rattle.rules.specs.Registration.{proposed, hasTwin, twins, rowsPass, accountHour, brokenHour, covered}
 use Rattle.rules.specs.Requests.{Kind, register, strip, kindNumber, kindOf, mapOf, offset, fieldIn, requestOf, unreadable, mapCheck, readChecks, isStrip, headLength, rowLength, stripCount, stripRows, rowChecks, stripChecks, requestsOf, firstOf, faultyBit, faultyBitAmong, sameAccounts}
-use Rattle.rules.specs.Calls.{Call, callKind, callRequests, bytesChecks, inputChecks, stateChecks, checks, refusal, apply, given, settles, answer, step}
+use Rattle.rules.specs.Calls.{Call, callKind, callRequests, checkedAs, bytesChecks, inputChecks, stateChecks, checks, refusal, apply, given, settles, answer, step}
 use Rattle.rules.specs.Lists.{runs, after, accepts, wasAccepted}
 use Rattle.rules.specs.Ledger.{Ledger, feed, feedEach, fed, fedAll}
 use Rattle.rules.specs.Strips.{withBytes, stripOfOne, registersOf}
 use Rattle.rules.proofs.Checks.Clearing.{Clear, clear-join, clear-applies}
-use Rattle.rules.proofs.Checks.Passed.{RowRead, strip-sized, strip-rows-read, Passed, passed, passed-6, passed-6-proposer, passed-7, passed-11, passed-14, passed-15, passed-18, passed-19, passed-22, single-requests, strip-requests}
-use Rattle.rules.proofs.Basics.Searches.{any-none, none-any, each-both, each-image, each-any}
+use Rattle.rules.proofs.Checks.Passed.{RowRead, strip-sized, passed-21, strip-rows-read, strip-rows-length, Passed, passed, passed-6, passed-6-proposer, passed-7, passed-11, passed-14, passed-15, passed-18, passed-19, passed-22, single-requests, strip-requests}
+use Rattle.rules.proofs.Basics.Searches.{first-and-rest, any-none, none-any, each-both, each-image, each-any}
 use Rattle.rules.proofs.Rows.RowTests.{twins-none, twin-snoc}
 use Rattle.rules.proofs.Rows.Easing.{Eased, eased-unbroken, eased-covered, fewer-ease}
 use Rattle.rules.proofs.Lists.CallLists.{passed-accepted, accepts-passed}
@@ -41,7 +41,7 @@ use Rattle.rules.proofs.Records.Fields.{offset-first, field-in-absent}
 abbrev later : Book → Call → Kind → List Request → List Check
 later b c k qs = inputChecks b c k qs ++ stateChecks b k qs
 
-in-two : (b : Book) (c : Call) → refusal b c ≡ firstToApply (bytesChecks (c .bytes) ++ later b c (callKind c) (callRequests c))
+in-two : (b : Book) (c : Call) → refusal b c ≡ firstToApply (bytesChecks (c .bytes) ++ later b c (checkedAs (callKind c)) (callRequests c))
 unfolding refusal checks
 in-two b c = ap firstToApply (append-assoc (bytesChecks (c .bytes)) _ _)
 
@@ -95,7 +95,8 @@ module _ (b : Book) (c : Call) (sized : length (c .bytes) ≡ rowLength) where
   same-later qs = refl
 
   module _ (e : fieldIn (c .bytes) 0 ≡ kindNumber register) where
-    same-checks : later b (stripOfOne c) (callKind (stripOfOne c)) (callRequests (stripOfOne c)) ≡ later b c (callKind c) (callRequests c)
+    same-checks : later b (stripOfOne c) (checkedAs (callKind (stripOfOne c))) (callRequests (stripOfOne c))
+        ≡ later b c (checkedAs (callKind c)) (callRequests c)
     same-checks = rw (e, head-kind (c .bytes), one-request (c .bytes) sized, single-requests (c .bytes) (rw e)) (same-later (requestOf (c .bytes) ∷ []))
 
     same-refusal : refusal b (stripOfOne c) ≡ refusal b c
@@ -159,13 +160,13 @@ strip-fits b c qs i s =
       cover = passed-19 b qs strip refl s;
     }
 
--- the book with one row more
-abbrev withOne : Book → Request → Book
-withOne b q = withRows b (b .part .rows ++ proposed q ∷ [])
+-- the book with rows more, and no asks
+abbrev withMore : Book → List Row → Book
+withMore b rows = withAsks (withRows b (b .part .rows ++ rows)) noAsks
 
--- the first of them, and the others
-first-and-rest : {A : Type 0} {P : A → Type 0} {x : A} {xs : List A} → Each P (x ∷ xs) → P x × Each P xs
-first-and-rest (cons p e) = (p, e)
+-- with one row more
+abbrev withOne : Book → Request → Book
+withOne b q = withMore b (proposed q ∷ [])
 
 -- checks that are idle, one after the other
 infixr 5 _then_
@@ -234,6 +235,7 @@ module _ (b : Book) (p : ℕ) (q : Request) (qs : List Request) (f : Fit b p (q 
       idle-not _ (eq-eqb _ _ (f .phase))
       then refl
       then refl
+      then refl
       then idle _ fresh
       then refl
       then idle-not _ room
@@ -273,10 +275,10 @@ module _ (b : Book) (c : Call) (p : ℕ) (qs : List Request) (r : ReadRow (c .by
   row-passes : Passed b c
   unfolding refusal checks
   row-passes =
-      let input : Clear (inputChecks b c (callKind c) (callRequests c)) = rw (r .read .known, alone) (idle-clear (first-input b p (requestOf (c .bytes)) qs f c)) in
-      let state : Clear (stateChecks b (callKind c) (callRequests c)) = rw (r .read .known, alone) (idle-clear (first-state b p (requestOf (c .bytes)) qs f)) in
+      let input : Clear (inputChecks b c (checkedAs (callKind c)) (callRequests c)) = rw (r .read .known, alone) (idle-clear (first-input b p (requestOf (c .bytes)) qs f c)) in
+      let state : Clear (stateChecks b (checkedAs (callKind c)) (callRequests c)) = rw (r .read .known, alone) (idle-clear (first-state b p (requestOf (c .bytes)) qs f)) in
       let before = clear-join (bytesChecks (c .bytes)) _ (row-clear (c .bytes) r) input in
-      passed b c (clear-applies (checks b c) (clear-join (bytesChecks (c .bytes) ++ inputChecks b c (callKind c) (callRequests c)) _ before state))
+      passed b c (clear-applies (checks b c) (clear-join (bytesChecks (c .bytes) ++ inputChecks b c (checkedAs (callKind c)) (callRequests c)) _ before state))
 
   row-adds : step b c .book ≡ withOne b (requestOf (c .bytes))
   unfolding apply
@@ -284,15 +286,15 @@ module _ (b : Book) (c : Call) (p : ℕ) (qs : List Request) (r : ReadRow (c .by
 
 -- rows that fit a book, as registers in turn: all are accepted, and all rows are added
 module _ (c : Call) (p : ℕ) where
-  in-turn : (b : Book) (rows : List (List ℕ)) → Each ReadRow rows → Fit b p (map requestOf rows)
-      → after step b (map (withBytes c) rows) ≡ withRows b (b .part .rows ++ map proposed (map requestOf rows))
+  in-turn : (b : Book) (s : List ℕ) (rows : List (List ℕ)) → Each ReadRow (s ∷ rows) → Fit b p (map requestOf (s ∷ rows))
+      → after step b (map (withBytes c) (s ∷ rows)) ≡ withMore b (map proposed (map requestOf (s ∷ rows)))
   unfolding after
-  in-turn b [] nil f = rw append-nil
-  in-turn b (s ∷ rows) (cons r e) f =
+  in-turn b s [] (cons r e) f = row-adds b (withBytes c s) p [] r f
+  in-turn b s (t ∷ rows) (cons r e) f =
       let q : Request = requestOf s in
-      ap (λ (x : Book). after step x (map (withBytes c) rows)) (row-adds b (withBytes c s) p (map requestOf rows) r f)
-      ∙ in-turn (withOne b q) rows e (fit-next b p q (map requestOf rows) f)
-      ∙ ap (withRows b) (all-in b p q (map requestOf rows) f)
+      ap (λ (x : Book). after step x (map (withBytes c) (t ∷ rows))) (row-adds b (withBytes c s) p (map requestOf (t ∷ rows)) r f)
+      ∙ in-turn (withOne b q) t rows e (fit-next b p q (map requestOf (t ∷ rows)) f)
+      ∙ ap (λ (rs : List Row). withAsks (withRows b rs) noAsks) (all-in b p q (map requestOf (t ∷ rows)) f)
 
   all-accepted : (b : Book) (rows : List (List ℕ)) → Each ReadRow rows → Fit b p (map requestOf rows)
       → every wasAccepted (runs step b (map (withBytes c) rows)) ≡ true
@@ -328,8 +330,14 @@ module _ (b : Book) (c : Call) (strips : isStrip (c .bytes) ≡ true) (passes : 
   pub strip-in-turn : after step b (registersOf c) ≡ step b c .book
   unfolding apply
   strip-in-turn =
-      in-turn c _ b (stripRows (c .bytes)) its-rows its-fit
+      let clear : Clear (stripChecks (c .bytes)) = rw strips at (it-passed .read) in
+      go (stripRows (c .bytes)) (omega (arith, strip-rows-length (c .bytes) clear, passed-21 (c .bytes) clear .0)) its-rows its-fit
       ∙ sym (it-passed .book ∙ rw (eqb-true (fieldIn (c .bytes) 0) (kindNumber strip) strips, strip-requests (c .bytes) strips))
+    where
+      go : (rows : List (List ℕ)) → 1 ≤ length rows → Each ReadRow rows → Fit b (firstOf (map requestOf (stripRows (c .bytes))) .account) (map requestOf rows)
+          → after step b (map (withBytes c) rows) ≡ withMore b (map proposed (map requestOf rows))
+      go [] more e f = absurd (omega arith)
+      go (s ∷ rows) more e f = in-turn c _ b s rows e f
 
   -- each of which would be accepted
   pub strip-rows-accepted : every wasAccepted (runs step b (registersOf c)) ≡ true

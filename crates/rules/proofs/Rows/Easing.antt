@@ -122,7 +122,7 @@ eased-covered u gs rows later o eased h =
 
 -- ---- rows that wait
 
-waiting-append : (side : ℕ) (rows more : List Row) (a h : ℕ) → waiting side (rows ++ more) a h ≡ waiting side rows a h + waiting side more a h
+pub waiting-append : (side : ℕ) (rows more : List Row) (a h : ℕ) → waiting side (rows ++ more) a h ≡ waiting side rows a h + waiting side more a h
 unfolding waiting
 waiting-append side rows more a h = total-append (counted (pendingOf side a h)) rows more
 

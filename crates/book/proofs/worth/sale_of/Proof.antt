@@ -16,7 +16,7 @@ shared-slice-read-if2 c =
     let pending = c .before .before in
     let start = pending .before .before .before .before .before .before in
     let known = start .pre .1 .proposer-known (sale-waits (start .args .r) (pending .if1 .left)) in
-    operator-listed _ _ _ (start .pre .0 .is-book) (start .pre .0 .account-operators) known
+    operator-listed _ _ _ (start .pre .0 .is-sound) (start .pre .0 .account-operators) known
 
 span-worth-requires : tie.Need-span-worth-requires
 span-worth-requires c κs =

@@ -1,12 +1,14 @@
 -- Bytes that are a book are read as one, and others are not.
 use mathlib.Core.Path.{sym, _∙_}
 use borrow.Author.Needs.{needs}
+use Rattle.rules.specs.Limits.{mostHours, bookSize}
+use Rattle.image.proofs.Round.{book-is-sound}
 use Rattle.book.specs.Answers.{exposureAnswer}
 use Rattle.day.proofs.interface.exposure.Statement.{statement}
 use Rattle.day.proofs.interface.exposure.Tie as tie
 
 exposure-in-requires : tie.Need-exposure-in-requires
-exposure-in-requires c κs = sym (c .before .is-book .ensures) ∙ c .if1 .taken
+exposure-in-requires c κs = book-is-sound mostHours bookSize _ (sym (c .before .is-book .ensures) ∙ c .if1 .taken)
 
 returns : tie.Need-returns
 unfolding exposureAnswer

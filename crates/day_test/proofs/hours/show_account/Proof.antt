@@ -16,12 +16,12 @@ abbrev μ-loop : tie.MeasureT-loop
 μ-loop book prices energy charges number n hour₀ hour = periods (setupIn book) + 1 - hour
 
 counts-requires : tie.Need-counts-requires Inv-loop μ-loop
-counts-requires c κs = let s = setup-tabled _ (c .before .before .before .before .pre .0 .0 .is-book) in search needs
+counts-requires c κs = let s = setup-tabled _ (c .before .before .before .before .pre .0 .0 .is-sound) in search needs
 
 loop-holds : tie.Need-loop-holds Inv-loop μ-loop
 loop-holds c =
     let pre = c .before .before .before .before .before .pre in
-    (hours-read _ (pre .0 .0 .is-book) _ (c .counts .ensures), search needs, search needs)
+    (hours-read _ (pre .0 .0 .is-sound) _ (c .counts .ensures), search needs, search needs)
 
 value-hour-requires : tie.Need-value-hour-requires Inv-loop μ-loop
 value-hour-requires c κs =
@@ -32,7 +32,7 @@ value-hour-requires c κs =
 add-hour : tie.Need-add-hour Inv-loop μ-loop
 add-hour c =
     let looped = c .before .before .before .before in
-    omega (arith, hours-few _ (looped .before .before .before .before .before .before .pre .0 .0 .is-book))
+    omega (arith, hours-few _ (looped .before .before .before .before .before .before .pre .0 .0 .is-sound))
 
 loop-again : tie.Need-loop-again Inv-loop μ-loop
 loop-again c = (c .before .before .before .before .loop .inv .0, search needs, search needs)

@@ -18,12 +18,12 @@ abbrev μ-loop : tie.MeasureT-loop
 μ-loop book prices energy charges n number₀ number = accountCount (setupIn book) + 1 - number
 
 counts-requires : tie.Need-counts-requires Inv-loop μ-loop
-counts-requires c κs = let s = setup-tabled _ (c .before .before .before .before .pre .0 .is-book) in search needs
+counts-requires c κs = let s = setup-tabled _ (c .before .before .before .before .pre .0 .is-sound) in search needs
 
 loop-holds : tie.Need-loop-holds Inv-loop μ-loop
 loop-holds c =
     let z = c .before .before .before .before .before .pre .0 in
-    (ap (λ (n : Counts). n .accounts) (c .counts .ensures ∙ sym (counts-in _ (z .is-book))), search needs, search needs)
+    (ap (λ (n : Counts). n .accounts) (c .counts .ensures ∙ sym (counts-in _ (z .is-sound))), search needs, search needs)
 
 show-account-requires : tie.Need-show-account-requires Inv-loop μ-loop
 show-account-requires c κs =
@@ -35,7 +35,7 @@ add-number : tie.Need-add-number Inv-loop μ-loop
 add-number c =
     let looped = c .before .before .before in
     let z = looped .before .before .before .before .before .before .pre .0 in
-    omega (arith, accounts-read _ (z .is-book) (looped .loop .number) (omega arith) .1)
+    omega (arith, accounts-read _ (z .is-sound) (looped .loop .number) (omega arith) .1)
 
 loop-again : tie.Need-loop-again Inv-loop μ-loop
 loop-again c = (c .before .before .before .loop .inv .0, search needs, search needs)

@@ -17,7 +17,7 @@ show-valued-requires c κs =
     let start = counted .before .before .before in
     let n = counted .price-count .ensures .0 in
     record {
-      is-book = start .pre;
+      is-sound = start .pre;
       whole = c .before .before .if1 .left ∙ ap (λ (k : ℕ). priceWidth * k) n;
       prices-low =
           ap (λ (k : ℕ). anyPasses (λ p. ltb mostPrice (p .0)) (entries priceWidth priceIn k (start .args .prices .now))) (sym n)

@@ -1,5 +1,6 @@
 -- The kind says which map is wanted, and the map which fields are checked.
 use mathlib.Core.Path.{sym, ap, refl}
+use mathlib.Core.Logic.{⊎-elim}
 use native.Mathlib.Omega.{arith}
 use borrow.Author.Needs.{needs}
 use Rattle.rules.specs.Requests.{wantedMap}
@@ -18,15 +19,20 @@ schedule-fields-requires : tie.Need-schedule-fields-requires
 schedule-fields-requires c κs = ap wantedMap (c .match .keys3)
 
 trade-fields-requires : tie.Need-trade-fields-requires
-trade-fields-requires c κs = wanted-run 1 2 0x00FF (c .before .before .before .args .request .kind) refl (omega arith) (omega arith)
+trade-fields-requires c κs =
+    let kind = c .before .before .before .args .request .kind in
+    ⊎-elim
+    (λ w. wanted-run 1 2 0x00FF kind refl (omega arith) (omega (arith, w .taken)))
+    (λ w. wanted-run 12 2 0x00FF kind refl (omega (arith, w .2 .left)) (omega (arith, w .3 .taken)))
+    (c .if2 .came)
 
-returns-5 : tie.Need-returns-5
-returns-5 c =
+returns-4 : tie.Need-returns-4
+returns-4 c =
     let s = c .before .before .before .before in
     sym (ranges-kind-alone (s .args .counts) (s .args .request) (wanted-run 5 4 1 (s .args .request .kind) refl (omega arith) (omega arith)))
 
-returns-6 : tie.Need-returns-6
-returns-6 c =
+returns-5 : tie.Need-returns-5
+returns-5 c =
     let s = c .before .before .before .before .before in
     sym (ranges-kind-alone (s .args .counts) (s .args .request) (wanted-run 10 2 1 (s .args .request .kind) refl (omega arith) (omega arith)))
 
@@ -37,7 +43,7 @@ returns-7 c =
 
 returns-8 : tie.Need-returns-8
 returns-8 c =
-    let s = c .before .before .before .before .before in
+    let s = c .before .before .before .before .before .before in
     sym (ranges-none (s .args .counts) (s .args .request) (wanted-none (s .args .request .kind) (omega arith)))
 
 pub check-ranges-spec : {M : Type 1} → statement M
@@ -45,5 +51,7 @@ check-ranges-spec =
     tie.close
     (tie.spec
     withdrawal-fields-requires guarantee-fields-requires schedule-fields-requires trade-fields-requires
-    (λ c. search needs) (λ c. search needs) (λ c. search needs) (λ c. search needs)
-    returns-5 returns-6 returns-7 returns-8)
+    (λ c. search needs) (λ c. search needs) (λ c. search needs)
+    returns-4 returns-5
+    (λ c. search needs)
+    returns-7 returns-8)

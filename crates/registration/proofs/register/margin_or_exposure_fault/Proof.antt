@@ -3,7 +3,7 @@ use mathlib.Core.Path.{sym, ap, _∙_}
 use Rattle.rules.specs.Verdicts.{checked}
 use Rattle.registration.proofs.MarginLaws.{sound-account-trade, found-hour, found-nowhere}
 use Rattle.book.proofs.WorthParts.{sound-row-in-range}
-use Rattle.registration.proofs.RegisterLaws.{ready-row, margin-breaks, row-uncovered, covered-with-row}
+use Rattle.registration.proofs.RegisterLaws.{proposing-sound, margin-breaks, row-uncovered, covered-with-row}
 use borrow.Author.Needs.{needs}
 use Rattle.registration.proofs.register.margin_or_exposure_fault.Statement.{statement}
 use Rattle.registration.proofs.register.margin_or_exposure_fault.Tie as tie
@@ -11,7 +11,7 @@ use Rattle.registration.proofs.register.margin_or_exposure_fault.Tie as
 first-broken-requires : tie.Need-first-broken-requires
 first-broken-requires c κs =
     let pre = c .before .before .before .pre in
-    (pre .0, rw (c .proposed-row .ensures) (sound-account-trade _ _ (ready-row _ _ (pre .1 .ready))))
+    (pre .0, rw (c .proposed-row .ensures) (sound-account-trade _ _ (proposing-sound _ _ (pre .1))))
 
 returns : tie.Need-returns
 returns c =
@@ -25,7 +25,7 @@ covered-with-row-requires : tie.Need-covered-with-row-requires
 covered-with-row-requires c κs =
     let trade = c .before .before .before in
     let pre = trade .before .before .before .pre in
-    let row = ready-row _ _ (pre .1 .ready) in
+    let row = proposing-sound _ _ (pre .1) in
     ((pre .0 .0, (row .proposer-low, row .proposer-high)), (rw (trade .proposed-row .ensures) (sound-row-in-range _ _ row), rw (trade .proposed-row .ensures)))
 
 returns-2 : tie.Need-returns-2

@@ -1,15 +1,18 @@
 -- What was checked is what the state decides, and what is written is the book with the row proposed.
-use mathlib.Core.Path.{sym, _∙_}
+use mathlib.Core.Path.{refl, sym, _∙_}
 use mathlib.Core.Option.{none, some}
 use native.Mathlib.Omega.{arith}
 use Rattle.rules.specs.Requests.{register}
 use Rattle.rules.proofs.Checks.Clearing.{checked-same}
 use Rattle.book.proofs.StateLaws.{book-length}
 use Rattle.book.proofs.Answers.{refused-answered}
-use Rattle.registration.proofs.RegisterLaws.{few-rows, registered-answered}
+use Rattle.registration.proofs.RegisterLaws.{ready-proposes, few-rows, registered-answered}
 use borrow.Author.Needs.{needs}
 use Rattle.registration.proofs.register.register.Statement.{statement}
 use Rattle.registration.proofs.register.register.Tie as tie
+
+register-fault-requires : tie.Need-register-fault-requires
+register-fault-requires c κs = let pre = c .before .before .pre in (pre .0, ready-proposes register _ _ refl (pre .1))
 
 returns : tie.Need-returns
 returns c =
@@ -40,7 +43,7 @@ pub register-spec : {M : Type 1} → statement M
 register-spec =
     tie.close
     (tie.spec
-    (λ c κs. search needs)
+    register-fault-requires
     (λ c. search needs)
     (λ c. search needs)
     returns

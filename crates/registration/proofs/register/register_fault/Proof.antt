@@ -36,7 +36,7 @@ margin-or-exposure-fault-requires c κs =
     let alone = sym (filled .fill-waits .ensures .1) ∙ none .if2 .left in
     let first = sym (phase .before .phase .ensures) ∙ phase .if1 .left in
     let room = count .row-count .ensures .0 in
-    ((pre .0, filled .fill-waits .ensures .0), record { ready = pre .1; in-registration = first; no-twin = alone; has-room = omega arith })
+    ((pre .0, filled .fill-waits .ensures .0), record { proposes = pre .1; in-registration = first; no-twin = alone; has-room = omega arith })
 
 pub register-fault-spec : {M : Type 1} → statement M
 register-fault-spec =

@@ -69,6 +69,9 @@ returns-21 c = rw (c .before .enum-told17 .given .1) (c .numbered21 .ensures)
 returns-22 : tie.Need-returns-22
 returns-22 c = rw (c .before .enum-told18 .given .1) (c .numbered22 .ensures)
 
+returns-23 : tie.Need-returns-23
+returns-23 c = rw (c .before .enum-told19 .given .1) (c .numbered23 .ensures)
+
 pub refusal-numbers-spec : {M : Type 1} → statement M
 refusal-numbers-spec =
     tie.close
@@ -121,6 +124,8 @@ refusal-numbers-spec =
     (λ c κs. search needs)
     (λ c. search needs)
     (λ c κs. search needs)
+    (λ c. search needs)
+    (λ c κs. search needs)
     returns
     returns-2
     returns-3
@@ -142,4 +147,5 @@ refusal-numbers-spec =
     returns-19
     returns-20
     returns-21
-    returns-22)
+    returns-22
+    returns-23)

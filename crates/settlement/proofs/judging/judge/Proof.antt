@@ -10,19 +10,19 @@ use Rattle.settlement.proofs.judging.judge.Tie as tie
 point-requires : tie.Need-point-requires
 point-requires c κs =
     let pre = c .before .before .before .before .before .pre in
-    point-stands _ (pre .0 .0 .is-book) _ (pre .0 .1)
+    point-stands _ (pre .0 .0 .is-sound) _ (pre .0 .1)
 
 result-of-requires : tie.Need-result-of-requires
 result-of-requires c κs =
     let read = c .before in
     let pre = read .before .before .before .before .before .before .pre in
-    (pre .0 .0, (on-point _ (pre .0 .0 .is-book) _ (pre .0 .1) _ (read .point .ensures), pre .1 .used-whole))
+    (pre .0 .0, (on-point _ (pre .0 .0 .is-sound) _ (pre .0 .1) _ (read .point .ensures), pre .1 .used-whole))
 
 use-up-requires : tie.Need-use-up-requires
 use-up-requires c κs =
     let read = c .before .before .before in
     let pre = read .before .before .before .before .before .before .pre in
-    let h = pre .0 .0 .is-book in
+    let h = pre .0 .0 .is-sound in
     let ok = pre .0 .1 in
     let on = on-point _ h _ ok _ (read .point .ensures) in
     ((point-in-cells _ h _ ok, account-read-in-cells _ h _ ok _ (on .its-point)), (pre .1 .used-whole, pre .1 .used-room))
@@ -31,7 +31,7 @@ carried-by-requires : tie.Need-carried-by-requires
 carried-by-requires c κs =
     let read = c .before .before .before .before .before .before in
     let pre = read .before .before .before .before .before .before .pre in
-    (pre .0 .0, on-point _ (pre .0 .0 .is-book) _ (pre .0 .1) _ (read .point .ensures))
+    (pre .0 .0, on-point _ (pre .0 .0 .is-sound) _ (pre .0 .1) _ (read .point .ensures))
 
 gather-energy-requires : tie.Need-gather-energy-requires
 gather-energy-requires c κs =
@@ -39,7 +39,7 @@ gather-energy-requires c κs =
     let read = carried .before .before .before .before .before .before .before in
     let start = read .before .before .before .before .before .before in
     let pre = start .pre in
-    let on = on-point _ (pre .0 .0 .is-book) _ (pre .0 .1) _ (read .point .ensures) in
+    let on = on-point _ (pre .0 .0 .is-sound) _ (pre .0 .1) _ (read .point .ensures) in
     let fits = carried-fits (pre .0 .0) on _ _ (carried .carried-by .ensures) (start .args .energy .now) (start .args .charges .now) (pre .1 .energy-room) (pre .1 .charges-room) in
     ((pre .1 .energy-whole, in-lanes (pre .0 .0) on), fits .0)
 
@@ -49,7 +49,7 @@ gather-cct-requires c κs =
     let read = carried .before .before .before .before .before .before .before in
     let start = read .before .before .before .before .before .before in
     let pre = start .pre in
-    let on = on-point _ (pre .0 .0 .is-book) _ (pre .0 .1) _ (read .point .ensures) in
+    let on = on-point _ (pre .0 .0 .is-sound) _ (pre .0 .1) _ (read .point .ensures) in
     let fits = carried-fits (pre .0 .0) on _ _ (carried .carried-by .ensures) (start .args .energy .now) (start .args .charges .now) (pre .1 .energy-room) (pre .1 .charges-room) in
     ((pre .1 .charges-whole, in-lanes (pre .0 .0) on), fits .1)
 
@@ -62,7 +62,7 @@ returns c =
     let judgement = used .before .before in
     let read = judgement .before .before in
     let pre = read .before .before .before .before .before .before .pre in
-    let on = on-point _ (pre .0 .0 .is-book) _ (pre .0 .1) _ (read .point .ensures) in
+    let on = on-point _ (pre .0 .0 .is-sound) _ (pre .0 .1) _ (read .point .ensures) in
     let account = ap (λ (p : Point). p .account) (sym (on .its-point)) in (
       record {
         result-is = judgement .result-of .ensures .0;

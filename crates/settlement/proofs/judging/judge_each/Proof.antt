@@ -22,7 +22,7 @@ abbrev μ-loop : tie.MeasureT-loop
 loop-holds : tie.Need-loop-holds Inv-loop μ-loop
 loop-holds c =
     let pre = c .before .before .before .before .before .before .pre in
-    let few = schedule-count-high _ (pre .0 .is-book) in
+    let few = schedule-count-high _ (pre .0 .is-sound) in
     (search needs, omega (arith, pre .1 .0 .all-of, few), tables-begin _ _ _ _ _ _ (pre .1 .1 .0) (pre .1 .1 .1))
 
 judge-requires : tie.Need-judge-requires Inv-loop μ-loop

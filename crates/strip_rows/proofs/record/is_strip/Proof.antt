@@ -1,30 +1,7 @@
--- The kind stands behind the map where its bit is set, and is 0 where it is not.
-use mathlib.Core.Path.{sym, _∙_}
-use Rattle.rules.specs.Requests.{mapOf}
-use Rattle.rules.proofs.Records.Fields.{field-in-absent}
-use Rattle.strip_rows.proofs.RowLaws.{kind-there, kind-short}
+-- A strip is a record of that kind.
 use borrow.Author.Needs.{needs}
 use Rattle.strip_rows.proofs.record.is_strip.Statement.{statement}
 use Rattle.strip_rows.proofs.record.is_strip.Tie as tie
 
-returns : tie.Need-returns
-returns c = rw (kind-short (c .before .before .args .bytes .now) (c .if1 .taken))
-
-returns-2 : tie.Need-returns-2
-unfolding mapOf
-returns-2 c =
-    let s = c .before .before .before .before .before .before .args .bytes .now in
-    let given = rw (c .before .before .before .get-u16 .ensures) at (sym (c .before .before .has-field .ensures) ∙ c .before .if2 .taken) in
-    rw (kind-there s given, c .get-u8 .ensures)
-
-returns-3 : tie.Need-returns-3
-unfolding mapOf
-returns-3 c =
-    let s = c .before .before .before .before .before .args .bytes .now in
-    let given = rw (c .before .before .get-u16 .ensures) at (sym (c .before .has-field .ensures) ∙ c .if2 .left) in
-    rw (field-in-absent s 0 given)
-
 pub is-strip-spec : {M : Type 1} → statement M
-is-strip-spec =
-    tie.close
-    (tie.spec returns (λ c κs. search needs) (λ c κs. search needs) (λ c κs. search needs) returns-2 returns-3)
+is-strip-spec = tie.close (tie.spec (λ c κs. search needs) (λ c. search needs))

@@ -8,10 +8,10 @@ use borrow.Author.Needs.{needs}
 use Rattle.rules.specs.Requests.{rowLength}
 use Rattle.rules.specs.Verdicts.{firstToApply, checked}
 use Rattle.rules.proofs.Checks.Clearing.{checked-same}
+use Rattle.records.proofs.ReadingLaws.{check-here, check-next}
 use Rattle.strip_rows.specs.Rows.{requestsFrom, RegisterRows}
 use Rattle.strip_rows.specs.Passes.{requestCheck}
 use Rattle.strip_rows.proofs.RowSteps.{register-kind, any-register, requests-step, requests-done}
-use Rattle.strip_rows.proofs.Passes.{check-here, check-next}
 use Rattle.strip_rows.proofs.requests.first_request_fault.Statement.{statement}
 use Rattle.strip_rows.proofs.requests.first_request_fault.Tie as tie
 

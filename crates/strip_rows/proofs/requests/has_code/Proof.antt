@@ -5,9 +5,9 @@ use native.Mathlib.Omega.{arith}
 use borrow.Author.Needs.{needs}
 use Rattle.rules.specs.Basics.{anyPasses}
 use Rattle.rules.specs.Registration.{ofCode}
+use Rattle.rules.proofs.Basics.Searches.{any-step}
 use Rattle.strip_rows.specs.Rows.{requestsFrom, RegisterRows}
 use Rattle.strip_rows.proofs.RowSteps.{first-register, other-registers, requests-step, requests-done}
-use Rattle.strip_rows.proofs.RequestLaws.{any-here, any-next}
 use Rattle.strip_rows.proofs.requests.has_code.Statement.{statement}
 use Rattle.strip_rows.proofs.requests.has_code.Tie as tie
 
@@ -31,14 +31,14 @@ returns : tie.Need-returns Inv-loop μ-loop
 returns c =
     let test = c .before in
     let l = test .before .before .before .loop in
-    sym (l .inv .1 ∙ rw (requests-step _ (l .k) (l .left) (l .left - 1) (omega arith) refl) (any-here _ _ _ (sym (test .is-of-code .ensures) ∙ c .if1 .taken)))
+    sym (l .inv .1 ∙ rw (requests-step _ (l .k) (l .left) (l .left - 1) (omega arith) refl) (any-step _ _ _ ∙ rw (sym (test .is-of-code .ensures) ∙ c .if1 .taken)))
 
 loop-again : tie.Need-loop-again Inv-loop μ-loop
 loop-again c =
     let test = c .before in
     let l = test .before .before .before .loop in (
       other-registers _ (l .k) (l .left) (l .left - 1) (omega arith) (l .inv .0),
-      l .inv .1 ∙ rw (requests-step _ (l .k) (l .left) (l .left - 1) (omega arith) refl) (any-next _ _ _ (sym (test .is-of-code .ensures) ∙ c .if1 .left)),
+      l .inv .1 ∙ rw (requests-step _ (l .k) (l .left) (l .left - 1) (omega arith) refl) (any-step _ _ _ ∙ rw (sym (test .is-of-code .ensures) ∙ c .if1 .left)),
     )
 
 returns-2 : tie.Need-returns-2 Inv-loop μ-loop

@@ -2,7 +2,7 @@
 use mathlib.Core.Path.{sym, _∙_}
 use Rattle.rules.specs.Requests.{mapOf}
 use Rattle.rules.proofs.Records.Fields.{field-in-absent}
-use Rattle.strip_rows.proofs.RowLaws.{kind-there}
+use Rattle.records.proofs.ReadingLaws.{kind-there}
 use borrow.Author.Needs.{needs}
 use Rattle.strip_rows.proofs.rows.is_other_kind.Statement.{statement}
 use Rattle.strip_rows.proofs.rows.is_other_kind.Tie as tie

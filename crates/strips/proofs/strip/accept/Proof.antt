@@ -1,4 +1,4 @@
--- The rows that are appended make the next book, and there is a number for each.
+-- The rows that are appended make the changed book, and there is a number for each.
 use native.Mathlib.Omega.{arith}
 use borrow.Author.Needs.{needs}
 use Rattle.wire.proofs.NumberLaws.{bytes-known}

@@ -6,11 +6,12 @@ use lib.ListN.{length}
 use borrow.Author.Needs.{needs}
 use Rattle.rules.specs.Basics.{Each}
 use Rattle.rules.specs.Limits.{mostEnergy, mostRows}
+use Rattle.rules.proofs.Basics.Searches.{first-and-rest}
 use Rattle.image.specs.Cells.{rowsFrom}
 use Rattle.image.specs.Tables.{Tabled}
 use Rattle.image.specs.Layout.{rowWidth}
 use Rattle.image.proofs.Reading.RowsFrom.{rows-done, rows-step}
-use Rattle.tables.proofs.FillLaws.{each-first, each-rest, Filling, filling-none, filling-room, filling-next, filling-done}
+use Rattle.tables.proofs.FillLaws.{Filling, filling-none, filling-room, filling-next, filling-done}
 use Rattle.tables.proofs.sums.fill.Statement.{statement}
 use Rattle.tables.proofs.sums.fill.Tie as tie
 
@@ -36,7 +37,7 @@ add-row-requires c κs =
     let s = c .before .before .before .before .before .before .args .s .now in
     let step = rows-step s (l .place) (l .left) (l .left - 1) (omega arith) in
     let first = rw step at (l .inv .3) in
-    let r : Tabled (c .before .before .before .before .before .before .args .top) (c .before .row-at .result) = rw (c .before .row-at .ensures) (each-first first) in
+    let r : Tabled (c .before .before .before .before .before .before .args .top) (c .before .row-at .result) = rw (c .before .row-at .ensures) (first-and-rest first .0) in
     (search needs, record { tabled = r; room = filling-room _ _ _ _ _ (l .inv .4) r (omega arith) })
 
 loop-again : tie.Need-loop-again Inv-loop μ-loop
@@ -49,8 +50,8 @@ loop-again c =
       search needs,
       search needs,
       search needs,
-      each-rest rows,
-      filling-next _ _ _ _ _ _ _ _ step (omega arith) (each-first rows) (rw (t .before .before .row-at .ensures) at (t .add-row .ensures)) (l .inv .4),
+      first-and-rest rows .1,
+      filling-next _ _ _ _ _ _ _ _ step (omega arith) (first-and-rest rows .0) (rw (t .before .before .row-at .ensures) at (t .add-row .ensures)) (l .inv .4),
     )
 
 returns : tie.Need-returns Inv-loop μ-loop

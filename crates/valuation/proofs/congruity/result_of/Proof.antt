@@ -8,23 +8,23 @@ use Rattle.valuation.proofs.congruity.result_of.Statement.{statement}
 use Rattle.valuation.proofs.congruity.result_of.Tie as tie
 
 counts-requires : tie.Need-counts-requires
-counts-requires c κs = omega (arith, book-length _ (c .before .before .before .pre .0 .is-book))
+counts-requires c κs = omega (arith, book-length _ (c .before .before .before .pre .0 .is-sound))
 
 over-point-requires : tie.Need-over-point-requires
 over-point-requires c κs =
     let pre = c .before .before .before .before .pre in
-    (pre .1 .1, point-in-cells _ (pre .0 .is-book) _ (pre .1 .0 .in-range))
+    (pre .1 .1, point-in-cells _ (pre .0 .is-sound) _ (pre .1 .0 .in-range))
 
 over-account-requires : tie.Need-over-account-requires
 over-account-requires c κs =
     let pre = c .before .before .before .before .before .pre in
-    (pre .0 .is-book, pre .1 .0, pre .1 .1)
+    (pre .0 .is-sound, pre .1 .0, pre .1 .1)
 
 is-taken-requires : tie.Need-is-taken-requires
 is-taken-requires c κs =
     let read = c .before .before in
     let pre = read .before .before .before .before .pre in
-    price-stands _ (pre .0 .is-book) _ (pre .1 .0 .in-range) _ (pre .0) _ _ (read .counts .ensures) (pre .1 .0 .its-point)
+    price-stands _ (pre .0 .is-sound) _ (pre .1 .0 .in-range) _ (pre .0) _ _ (read .counts .ensures) (pre .1 .0 .its-point)
 
 returns : tie.Need-returns
 returns c =

@@ -1,8 +1,8 @@
 -- The tests of the definition, in its order.
 use mathlib.Core.Path.{refl}
-use Rattle.image.specs.Valid.{sameTerms}
-use Rattle.audit.proofs.saved.same_terms.Statement.{statement}
-use Rattle.audit.proofs.saved.same_terms.Tie as tie
+use Rattle.rules.specs.Registration.{sameTerms}
+use Rattle.image.proofs.rows.same_terms.Statement.{statement}
+use Rattle.image.proofs.rows.same_terms.Tie as tie
 
 returns : tie.Need-returns
 unfolding sameTerms

@@ -1,4 +1,4 @@
--- A section that is not valid makes the bytes no book; where the set-up and both parts are valid, the other tests decide.
+-- A section that is not valid makes the bytes no sound book; where the set-up and both parts are valid, the other tests decide.
 use mathlib.Core.Path.{sym, _∙_}
 use native.Mathlib.Omega.{arith}
 use borrow.Author.Tests.{not-true, not-false}
@@ -8,8 +8,8 @@ use Rattle.audit.proofs.ValidityLaws.{setup-known}
 use Rattle.audit.proofs.BookValidity.{not-sized, one-falls, rest-decides}
 use borrow.Author.Needs.{needs}
 use Rattle.image.specs.Layout.{presentOffset}
-use Rattle.audit.proofs.whole.is_book.Statement.{statement}
-use Rattle.audit.proofs.whole.is_book.Tie as tie
+use Rattle.audit.proofs.whole.is_sound.Statement.{statement}
+use Rattle.audit.proofs.whole.is_sound.Tie as tie
 
 returns : tie.Need-returns
 returns c = not-sized _ (bytes-known _ (c .before .shared-slice-known .given)) (c .if1 .taken)
@@ -57,7 +57,8 @@ phase-valid-requires c κs =
 
 returns-5 : tie.Need-returns-5
 returns-5 c =
-    let phase = c .before in
+    let asks = c .before in
+    let phase = asks .before in
     let schedules = phase .before in
     let saved = schedules .before in
     let part = saved .before .before in
@@ -67,10 +68,10 @@ returns-5 c =
     (sym (setup .before .setup-valid .ensures) ∙ not-false _ (setup .if2 .left))
     (sym (part .before .is-part .ensures) ∙ not-false _ (part .if3 .left))
     (sym (saved .before .saved-valid .ensures) ∙ not-false _ (saved .if4 .left))
-    (schedules .schedules-valid .ensures) (phase .phase-valid .ensures) (c .all-zero .ensures)
+    (schedules .schedules-valid .ensures) (phase .phase-valid .ensures) (asks .asks-valid .ensures) (c .all-zero .ensures)
 
-pub is-book-spec : {M : Type 1} → statement M
-is-book-spec =
+pub is-sound-spec : {M : Type 1} → statement M
+is-sound-spec =
     tie.close
     (tie.spec
     returns
@@ -82,6 +83,7 @@ is-book-spec =
     returns-4
     schedules-valid-requires
     phase-valid-requires
+    (λ c κs. search needs)
     (λ c. search needs)
     (λ c κs. search needs)
     returns-5)

@@ -1,0 +1,6 @@
+// Asks: kinds 12 and 13, the places of standing asks, and whether bytes are a book, their asks included.
+pub mod ask;
+pub mod commit;
+pub mod places;
+pub mod standing;
+pub mod whole;

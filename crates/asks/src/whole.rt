@@ -1,0 +1,15 @@
+// Whether bytes are a book: every section passes its tests, and register would accept each ask that stands.
+ghost use mathlib.Core.Path.{_≡_};
+ghost use Rattle.image.specs.Valid.{isBook};
+use crate::standing::asks_stand;
+use audit::whole::is_sound;
+
+// Whether bytes are a book, for all bytes of all lengths.
+pub fn is_book(book: &[u8]) -> bool
+    ensures { λ r. ⌜ r ≡ isBook (now (book .entry)) ⌝ }
+{
+    if is_sound(book) {
+        return asks_stand(book);
+    }
+    false
+}
