@@ -5,7 +5,7 @@ Owes nothing to the proved code. A row, a schedule and an entry of the set-up ar
 from document import ACCEPTED, COUNT_RANGES, ESTIMATE, OPERATOR, POINT, account_shape, entries_of, low_first, setup_verdict
 
 BOOK = 49_152
-PHASE, FLAG, SCHEDULE_COUNT, SCHEDULES, PRESENT, SAVED, SPARE = 8_192, 8_193, 8_194, 8_196, 11_012, 18_950, 26_888
+PHASE, FLAG, SCHEDULE_COUNT, SCHEDULES, PRESENT, SAVED, ASKS, SPARE = 8_192, 8_193, 8_194, 8_196, 11_012, 18_950, 26_888, 27_464
 ROW_COUNT, ROWS, NETS = 128, 130, 4_738      # within a part
 ROW = (("account", 1), ("other", 1), ("code", 8), ("side", 1), ("first", 1), ("last", 1), ("quantity", 4), ("status", 1))
 SCHEDULE = (("point", 1), ("side", 1), ("hour", 1), ("quantity", 4), ("price", 4))
@@ -43,6 +43,10 @@ def net_at(part, account, hour):
 
 def schedule_at(place, field):
     return SCHEDULES + 11 * (place - 1) + within(SCHEDULE, field)
+
+
+def ask_at(account, field):
+    return ASKS + 18 * (account - 1) + within(ROW, field)
 
 
 class Setup:
@@ -101,6 +105,10 @@ def available_of(setup, guarantees, operator):
 
 # ---- the image of a plain book
 
+def spelt(row):
+    return b"".join(low_first(row[name], width) for name, width in ROW)
+
+
 class Part:
     def __init__(self, guarantees, rows=()):
         self.guarantees, self.rows = list(guarantees), [dict(row) for row in rows]
@@ -111,7 +119,7 @@ class Part:
         into[at + ROW_COUNT:at + ROW_COUNT + 2] = low_first(len(self.rows), 2)
         for number, row in enumerate(self.rows, 1):
             where = row_at(at, number, "account")
-            into[where:where + 18] = b"".join(low_first(row[name], width) for name, width in ROW)
+            into[where:where + 18] = spelt(row)
         totals = Totals(self.rows)
         for account in range(1, setup.account_count + 1):
             for hour in range(1, setup.hours + 1):
@@ -120,10 +128,11 @@ class Part:
 
 
 class Book:
-    """A plain book; fresh, unless it is told otherwise."""
+    """A plain book; fresh, unless it is told otherwise. The asks that stand are rows, each in the place of its account."""
 
-    def __init__(self, setup_bytes, phase=1, rows=(), schedules=(), guarantees=None, saved=None):
+    def __init__(self, setup_bytes, phase=1, rows=(), schedules=(), guarantees=None, saved=None, asks=()):
         self.bytes, self.setup, self.phase, self.schedules, self.saved = setup_bytes, Setup(setup_bytes), phase, schedules, saved
+        self.asks = asks
         self.part = Part(guarantees or [x["guarantee"] for x in self.setup.operators], rows)
 
     def image(self):
@@ -141,6 +150,9 @@ class Book:
         self.part.put(into, PRESENT, self.setup)
         if self.saved:
             self.saved.put(into, SAVED, self.setup)
+        for ask in self.asks:
+            where = ask_at(ask["account"], "account")
+            into[where:where + 18] = spelt(ask)
         return bytes(into)
 
 
@@ -214,6 +226,7 @@ def in_use(book, setup):
     yield from part_in_use(book, PRESENT, setup)
     if book[FLAG]:
         yield from part_in_use(book, SAVED, setup)
+    yield ASKS, 18 * setup.account_count
 
 
 def saved_fault(book, setup):
@@ -228,6 +241,34 @@ def saved_fault(book, setup):
             return "saved row changed"
         if old["status"] != new["status"] and old["status"] != PENDING:
             return "ended row changed"
+    return None
+
+
+def ask_fault(book, setup, account):
+    """An ask that stands for an account: register would accept it as the book is. No ask, where its place is zeros."""
+    ask = entries(book, ask_at(account, "account"), 1, ROW)[0]
+    if not any(ask.values()):
+        return None
+    if ask["account"] != account:
+        return "ask of another account"
+    if row_fault(setup, ask):
+        return "ask: " + row_fault(setup, ask)
+    if ask["status"] != PENDING:
+        return "ask not pending"
+    if book[PHASE] != 1:
+        return "ask after phase 1"
+    rows = entries(book, PRESENT + ROWS, number(book, PRESENT + ROW_COUNT, 2), ROW)
+    if any(row["status"] == PENDING and all(row[name] == ask[name] for name in ("account", "other", "code")) for row in rows):
+        return "ask alike"
+    if len(rows) >= 256:
+        return "ask without a number"
+    totals, has = Totals(rows + [ask]), setup.accounts[account - 1]
+    if any(totals.low(account, hour) < -has["lower", hour] or totals.high(account, hour) > has["upper", hour]
+           for hour in range(1, setup.hours + 1)):
+        return "ask: margin"
+    guarantees = [number(book, guarantee_at(PRESENT, operator), 8) for operator in range(1, setup.operator_count + 1)]
+    if exposure_of(setup, totals, has["operator"]) > available_of(setup, guarantees, has["operator"]):
+        return "ask: exposure"
     return None
 
 
@@ -259,6 +300,9 @@ def fault(book):
         return "batch after phase 1"
     if phase == 1 and count:
         return "schedule in phase 1"
+    for account in range(1, setup.account_count + 1):
+        if ask_fault(book, setup, account):
+            return ask_fault(book, setup, account)
     rest = bytearray(book)
     for at, many in in_use(book, setup):
         rest[at:at + many] = bytes(many)

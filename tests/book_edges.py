@@ -1,10 +1,10 @@
-"""Cases of books at the edges: margins and guarantees met exactly, margins that differ by hour, rows alike, the ranges of rows, and a
-book that is full.
+"""Cases of books at the edges: margins and guarantees met exactly, margins that differ by hour, rows alike, the ranges of rows, asks that
+stand, and a book that is full.
 """
 import setups
-from book import (BUYS, CONFIRMED, PENDING, PRESENT, ROW_COUNT, SAVED, SCHEDULE_COUNT, SELLS, SPARE, WITHDRAWN, Book, Part, guarantee_at,
-                  margin_at, net_at, row_at, schedule_at)
-from books import CODE, DAY, UNUSED, at_the_ends, but, readings, row, schedule
+from book import (BOOK, BUYS, CONFIRMED, PENDING, PHASE, PRESENT, ROW_COUNT, SAVED, SCHEDULE_COUNT, SELLS, SPARE, WITHDRAWN, Book, Part,
+                  ask_at, guarantee_at, margin_at, net_at, row_at, schedule_at)
+from books import BEFORE, CODE, DAY, ENDED, NOW, SINCE, THEN, UNUSED, at_the_ends, but, readings, row, schedule
 from setups import OPERATORS, margins
 
 
@@ -170,6 +170,82 @@ def withdrawn(s):
     s.damage(row_at(PRESENT, 3, "quantity"), 0x7F, "")
 
 
+def asks(s):
+    """Asks that stand: what register would refuse is no book, and what it would just accept is one.
+
+    Of NOW and SINCE 24,915,000 are left to operator 1, and 39,000,000 to operator 2; the estimate of hour 6 is 5,005.
+    """
+    s.open(DAY)
+    base = dict(rows=NOW, guarantees=SINCE)
+    first = row(1, 3, 5, SELLS, 6, 6, 4_978, PENDING)
+    others = [row(2, 1, CODE, BUYS, 5, 5, 23_000, PENDING), row(3, 1, 0, SELLS, 6, 6, 4_978, PENDING),
+              row(4, 2, 2 ** 64 - 1, BUYS, 1, 24, 29_000, PENDING)]
+    s.become(Book(DAY, **base))
+    s.become(Book(DAY, asks=[first], **base))
+    readings(s, (1, 3), (1, 6))
+    # each may take all that is left: an ask weighs on nothing
+    s.become(Book(DAY, asks=[first] + others, **base))
+    readings(s, (2, 4), (5, 24))
+    ask_damages(s)
+    # margins and guarantees, met exactly and passed by one
+    for ask, more in ((first, "ask: exposure"), (row(1, 2, 5, BUYS, 1, 1, 39_000, PENDING), "ask: margin"), (others[0], "ask: margin"),
+                      (others[2], "ask: margin"), (row(2, 1, CODE, SELLS, 1, 1, 7_800, PENDING), "ask: exposure"),
+                      (row(3, 1, 0, BUYS, 5, 6, 30_000, PENDING), "ask: margin")):
+        s.become(Book(DAY, asks=[ask], **base))
+        s.become(Book(DAY, asks=[{**ask, "quantity": ask["quantity"] + 1}], **base), more)
+    ample = dict(rows=NOW, guarantees=[10 ** 12, 10 ** 12])
+    for ask in (row(1, 2, 5, SELLS, 2, 2, 6_000, PENDING), row(1, 2, 5, SELLS, 24, 24, 20_000, PENDING),
+                row(2, 1, 5, SELLS, 5, 5, 27_000, PENDING), row(3, 2, 5, SELLS, 4, 5, 13_000, PENDING)):
+        s.become(Book(DAY, asks=[ask], **ample))
+        s.damage(ask_at(ask["account"], "quantity"), ask["quantity"] % 256 + 1, "ask: margin")
+    # a pending row alike; alike with one that is ended, in two of the three, or with another account's ask
+    for ask, expected in ((row(1, 2, CODE, BUYS, 9, 9, 1, PENDING), "ask alike"), (row(1, 2, 9, SELLS, 9, 9, 1, PENDING), ""),
+                          (row(1, 3, CODE, SELLS, 9, 9, 1, PENDING), ""), (row(1, 2, CODE ^ 1 << 63, SELLS, 9, 9, 1, PENDING), ""),
+                          (row(2, 1, CODE, SELLS, 9, 9, 1, PENDING), ""), (row(3, 2, CODE, SELLS, 9, 9, 1, PENDING), ""),
+                          (row(3, 4, 2, SELLS, 9, 9, 1, PENDING), ""), (row(4, 1, 2 ** 64 - 1, BUYS, 9, 9, 1, PENDING), "ask alike")):
+        s.become(Book(DAY, asks=[ask], **base), expected)
+    s.become(Book(DAY, asks=[row(1, 2, 7, SELLS, 9, 9, 1, PENDING), row(2, 1, 7, BUYS, 9, 9, 1, PENDING),
+                             row(3, 2, 7, SELLS, 9, 9, 1, PENDING)], **base))
+    # an open batch: the present part decides, be the part saved poorer or richer
+    s.become(Book(DAY, asks=[first], saved=Part(BEFORE, THEN), **base))
+    s.damage(ask_at(1, "quantity"), 4_979 % 256, "ask: exposure")
+    s.become(Book(DAY, asks=[first], saved=Part([213_071_000 // 900 + 1, 0], THEN), **base))
+    s.become(Book(DAY, asks=[{**first, "quantity": 1}], saved=Part([10 ** 12, 0], THEN), rows=NOW, guarantees=[272_317, 0]),
+             "ask: exposure")
+    s.become(Book(DAY, asks=[row(3, 4, 2, BUYS, 9, 9, 1, PENDING)], saved=Part(BEFORE, THEN), **base))
+    # no ask after phase 1
+    for phase in (2, 3):
+        s.become(Book(DAY, phase=phase, rows=ENDED, guarantees=SINCE, asks=[first]), "ask after phase 1")
+        s.damage(PHASE, 1, "")
+    s.become(Book(DAY, phase=2, rows=ENDED, guarantees=SINCE))
+
+
+def ask_damages(s):
+    """Asks of all four accounts: each byte of the first turned, each field past its range, other places and the bytes behind them."""
+    for at in range(ask_at(1, "account"), ask_at(2, "account")):
+        s.damage(at, s.room[at] ^ 1)
+        s.damage(at, 0 if s.room[at] else 128)
+    for account, field, value, expected in (
+            (1, "account", 0, "ask of another account"), (1, "account", 2, "ask of another account"),
+            (1, "account", 5, "ask of another account"), (4, "account", 1, "ask of another account"),
+            (1, "other", 0, "ask: no such account"), (1, "other", 5, "ask: no such account"),
+            (1, "other", 1, "ask: both accounts the same"), (1, "other", 4, ""), (1, "code", 6, ""), (1, "side", 0, "ask: side or status"),
+            (1, "side", 3, "ask: side or status"), (1, "side", 2, ""), (1, "first", 0, "ask: hours"), (1, "first", 7, "ask: hours"),
+            (1, "first", 5, "ask: exposure"), (1, "last", 5, "ask: hours"), (1, "last", 25, "ask: hours"), (1, "last", 7, "ask: exposure"),
+            (4, "first", 24, ""), (4, "last", 25, "ask: hours"), (4, "last", 22, ""), (1, "quantity", 0x73, "ask: exposure"),
+            (1, "quantity", 0x71, ""), (1, "status", 0, "ask: side or status"), (1, "status", 2, "ask not pending"),
+            (1, "status", 3, "ask not pending"), (1, "status", 4, "ask: side or status"), (4, "status", 2, "ask not pending"),
+            (2, "side", 1, "ask: exposure"), (3, "quantity", 0x73, "ask: exposure"), (5, "account", 5, UNUSED), (5, "status", 1, UNUSED),
+            (17, "code", 1, UNUSED), (32, "account", 32, UNUSED), (32, "status", 1, UNUSED)):
+        s.damage(ask_at(account, field), value, expected)
+    for at in (SPARE, SPARE + 1, BOOK - 1):
+        s.damage(at, 1, UNUSED)
+    s.damage(ask_at(1, "quantity") + 2, 1, "ask: margin")
+    s.damage(ask_at(4, "quantity") + 3, 1, "ask: quantity")
+    s.damage(guarantee_at(PRESENT, 1) + 1, 0, "exposure")
+    s.damage(guarantee_at(PRESENT, 1), 0, "ask: exposure")
+
+
 def full(s):
     """The greatest set-up, 256 rows and 256 schedules; 257 are too many, though what stands past 256 would read as a schedule."""
     most = setups.Setup(25, 16, 32, 64, 8).bytes()
@@ -177,6 +253,17 @@ def full(s):
             for k in range(256)]
     schedules = [schedule(1 + k % 64, 1 + k % 2, 1 + k % 25, 10_000_000 - k, 400_000 - k) for k in range(256)]
     at_the_ends(s, most)
+    # the last number can be asked for, the one after it cannot
+    last = [row(account, 33 - account, 7, BUYS, 25, 25, 1, PENDING) for account in (1, 32)]
+    ample = [10 ** 12] * 16
+    s.become(Book(most, rows=rows[:255], guarantees=ample, asks=last))
+    s.damage(ask_at(32, "status"), 2, "ask not pending")
+    s.damage(ask_at(32, "account"), 31, "ask of another account")
+    s.damage(ask_at(32, "first"), 24, "")
+    s.damage(SPARE, 1, UNUSED)
+    for asked in (last, last[:1], last[1:]):
+        s.become(Book(most, rows=rows, guarantees=ample, asks=asked), "ask without a number")
+    s.become(Book(most, rows=rows, guarantees=ample))
     s.become(Book(most, phase=2, rows=rows, schedules=schedules, guarantees=[0x01010101, 0xE800000000] + [10 ** 12] * 14))
     for account in (1, 2, 16, 31, 32):
         for hour in (1, 2, 13, 24, 25):
@@ -205,4 +292,5 @@ def cases(s):
     by_hour(s)
     twins(s)
     withdrawn(s)
+    asks(s)
     full(s)

@@ -3,8 +3,8 @@
 Each case says what is wrong with its bytes ('' where they are a book), and the reading in book.py must find just that.
 """
 import setups
-from book import (BOOK, BUYS, CONFIRMED, FLAG, NETS, PENDING, PHASE, PRESENT, ROW_COUNT, ROWS, SAVED, SCHEDULE_COUNT, SCHEDULES, SELLS,
-                  SPARE, WITHDRAWN, Book, Part, guarantee_at, in_use, net_at, row_at, schedule_at)
+from book import (ASKS, BOOK, BUYS, CONFIRMED, FLAG, NETS, PENDING, PHASE, PRESENT, ROW_COUNT, ROWS, SAVED, SCHEDULE_COUNT, SCHEDULES,
+                  SELLS, SPARE, WITHDRAWN, Book, Part, guarantee_at, in_use, net_at, row_at, schedule_at)
 from setups import ESTIMATES, OPERATORS
 
 SETUP_ROOM = 8_192
@@ -65,10 +65,12 @@ def opening(s):
     # nothing of what stood there before stays
     s.put(0, b"\xFF" * 2_000)
     s.put(PHASE, b"\xFF" * 40)
+    s.put(ASKS, b"\xFF" * 40)
     s.put(BOOK - 3, b"\xFF" * 6)
     s.open(DAY)
     s.judge()
-    for at, many in ((0, len(DAY) + 1), (PHASE, 16), (PRESENT, 200), (PRESENT + NETS, 16), (SAVED, 16), (SPARE - 4, 8), (BOOK - 4, 8)):
+    for at, many in ((0, len(DAY) + 1), (PHASE, 16), (PRESENT, 200), (PRESENT + NETS, 16), (SAVED, 16), (ASKS - 4, 44), (SPARE - 4, 8),
+                     (BOOK - 4, 8)):
         s.show(at, many)
     readings(s)
     for length in (0, 1, BOOK - 1, BOOK + 1, 65_535):
@@ -170,6 +172,9 @@ def part_damages(s, part, rows, in_saved):
 
 
 def state_damages(s):
+    s.damage(ASKS, 1, "ask: no such account")
+    s.damage(ASKS, 2, "ask of another account")
+    s.damage(SPARE - 1, 1, UNUSED)
     for at in (SPARE, SPARE + 1, BOOK - 2, BOOK - 1):
         s.damage(at, 1, UNUSED)
         s.damage(at, 255, UNUSED)

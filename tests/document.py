@@ -5,10 +5,10 @@ From its sections "Opening", "Requests" and "Verdicts". A verdict is a triple: n
 # ---- "Requests": a record is a 2-byte map, then only the fields whose bit stands, in bit order.
 FIELDS = (("kind", 1), ("account", 1), ("other", 1), ("code", 8), ("side", 1), ("first", 1), ("last", 1), ("quantity", 4),
           ("number", 2), ("operator", 1), ("guarantee", 8), ("point", 1), ("price", 4))
-TABLE = (((1, 2), 0x00FF, 20), ((3,), 0x0103, 6), ((4,), 0x0601, 12), ((5, 6, 7, 8, 10), 0x0001, 3), ((9,), 0x18B1, 14))
+TABLE = (((1, 2, 12, 13), 0x00FF, 20), ((3,), 0x0103, 6), ((4,), 0x0601, 12), ((5, 6, 7, 8, 10), 0x0001, 3), ((9,), 0x18B1, 14))
 MAP = {kind: given for kinds, given, length in TABLE for kind in kinds}
 LENGTH = {kind: length for kinds, given, length in TABLE for kind in kinds}
-KINDS = range(1, 11)
+KINDS = tuple(sorted(MAP))            # of single records: 1 to 10, an ask (12) and a commit (13)
 ACCEPTED = (0, 0, 0)
 
 

@@ -28,10 +28,11 @@ def edge_cases(s):
                 whole_day = {"first": {"last": most("last", s.counts)}, "last": {"first": 1}}.get(name, {})
                 request(s, kind, **{**whole_day, name: value})
         checked = [name for name in names(MAP[kind]) if name not in ("kind", "code")]
-        for two in itertools.combinations(checked, 2):
+        # of an ask and a commit neighbours only: they have the ranges of a register
+        for two in zip(checked, checked[1:]) if kind in (12, 13) else itertools.combinations(checked, 2):
             request(s, kind, **{name: all_ones(name) for name in two})
         request(s, kind, **{name: 0 for name in checked})
-    for kind in (1, 2):
+    for kind in (1, 2, 12, 13):
         for first, last in ((2, 1), (2, 2), (24, 23), (24, 24), (24, 25), (25, 24), (25, 25), (25, 26), (0, 0), (255, 255), (255, 0)):
             request(s, kind, first=first, last=last)
         for same in (0, 1, most("account", s.counts), most("account", s.counts) + 1):
@@ -48,10 +49,12 @@ def reading_cases(s):
     for counts in ((23, 1, 1, 0, 1), (23, 2, 2, 1, 1), (25, 16, 32, 64, 8)):
         s.count(*counts)
         for hour in (23, 24, 25, 26):
-            request(s, 1, account=1, other=2, first=1, last=hour)
+            for kind in (1, 12):
+                request(s, kind, account=1, other=2, first=1, last=hour)
             request(s, 9, first=hour)
         for account in (1, 2, 32, 33):
-            request(s, 1, account=account, other=account)
+            for kind in (1, 13):
+                request(s, kind, account=account, other=account)
             request(s, 3, account=account)
         for operator in (1, 2, 16, 17):
             request(s, 4, operator=operator)
@@ -64,7 +67,7 @@ def reading_cases(s):
         maps = [MAP[kind] ^ 1 << bit for bit in range(16)] + sorted(set(MAP.values())) + [0x0000, 0x1FFE, 0x1FFF, 0x3FFF, 0xFFFF, 0x1F01]
         for given in maps:
             s.record(spell(given, {**values, "kind": kind}))
-    for kind in (0, 11, 255):
+    for kind in (0, 11, 14, 255):
         for given in (0x0000, 0x0001, 0x00FF, 0x18B1, 0x1FFF, 0x2001, 0x4001, 0x8001):
             s.record(spell(given, {**values, "kind": kind}))
     # lengths: one less and one more, with the right map and with a wrong one; each start of a record; a long one
@@ -73,9 +76,10 @@ def reading_cases(s):
         wrong = spell(MAP[kind] ^ 2, {**GOOD, "kind": kind})
         for altered in (record[:-1], record + b"\0", record + b"\1" * 9, wrong[:-1], wrong + b"\0"):
             s.record(altered)
-    record = spell(MAP[1], GOOD)
-    for length in range(len(record)):
-        s.record(record[:length])
+    for kind in (12, 13, 1):
+        record = spell(MAP[kind], {**GOOD, "kind": kind})
+        for length in range(len(record)):
+            s.record(record[:length])
     s.record(record * 20)
     # a strip is a call, not a record: 3, with rows and without
     s.record(b"\1\0\x0B\1" + record)
@@ -93,6 +97,6 @@ def writing_cases(s):
             s.writing({**GOOD, "kind": kind}, room)
         s.writing({**ones, "kind": kind}, ROOM)
         s.writing({**{name: 0 for name in ones}, "kind": kind}, ROOM)
-    for kind in (0, 11, 255):
+    for kind in (0, 11, 14, 255):
         for room in (0, 2, ROOM):
             s.writing({**GOOD, "kind": kind}, room)

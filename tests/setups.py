@@ -132,8 +132,7 @@ def margins_by_hour(s):
         s.setup(base.but(*((ACCOUNTS, entry, (bound, hour), 10_000_001) for entry, bound, hour in two)).bytes())
     s.setup(base.but((ACCOUNTS, 1, "operator", 2), (ACCOUNTS, 0, ("upper", 23), 10_000_001)).bytes())
     s.setup(base.but((ACCOUNTS, 1, "kind", 3), (ACCOUNTS, 1, ("lower", 1), 10_000_001)).bytes())
-    # the last margin of the greatest set-up
-    s.setup(Setup(25, 16, 32, 64, 8).but((ACCOUNTS, 31, ("upper", 25), 10_000_001)).bytes())
+    # the last margin of the greatest set-up is in the days
 
 
 def points_against_accounts(s):

@@ -1,6 +1,7 @@
 """Writes test cases and the lines they print."""
 import copy
 
+import asks
 import reading
 import valuation
 from records import le, SETTLE
@@ -13,20 +14,20 @@ class Days:
 
     The buffer is a book, or bytes that are surely none (`plain` names them: the zero
     buffer or a buffer of one byte throughout). `damage` holds bytes put into places that
-    are zero in every book.
+    are zero in every book, `spoilt` the places of the asks where no such asks can stand.
     """
 
     def __init__(self):
         self.input = bytearray()
         self.lines = []
-        self.book, self.plain, self.damage = None, 'zero', {}
+        self.book, self.plain, self.damage, self.spoilt = None, 'zero', {}, None
         self.remembered = self.state()
 
     def state(self):
-        return (self.book.state() if self.book else self.plain), tuple(sorted(self.damage.items()))
+        return (self.book.state() if self.book else self.plain), tuple(sorted(self.damage.items())), self.spoilt
 
     def present(self):
-        return None if self.damage else self.book
+        return None if self.damage or self.spoilt else self.book
 
     def case(self, tag, body=b''):
         self.input += tag.encode() + le(len(body), 2) + body
@@ -43,7 +44,7 @@ class Days:
         self.case('o', setup)
         verdict, book = reading.open_book(setup)
         if book:
-            self.book, self.plain, self.damage = book, None, {}
+            self.book, self.plain, self.damage, self.spoilt = book, None, {}, None
         self.expect(verdict, want)
         self.say('o', *verdict)
 
@@ -113,13 +114,19 @@ class Days:
         self.say('=', equal)
 
     def p(self, offset, data):
-        """Damage: the last 8 bytes of the buffer, or the whole buffer."""
+        """Bytes put into the places of the asks, into the spare room behind them, or into the whole buffer."""
         self.case('p', le(offset, 2) + data)
         if len(data) == SIZE and offset == 0:
-            self.book, self.plain, self.damage = None, data[:1].hex(), {}
+            self.book, self.plain, self.damage, self.spoilt = None, data[:1].hex(), {}, None
             return
-        assert offset >= SIZE - 8 and offset + len(data) <= SIZE
         assert self.book is not None
+        if asks.AT <= offset and offset + len(data) <= asks.END:
+            places = bytearray(self.spoilt or asks.image(self.book))
+            places[offset - asks.AT:offset - asks.AT + len(data)] = data
+            found = asks.standing(self.book, places)
+            self.book.asks, self.spoilt = found or {}, bytes(places) if found is None else None
+            return
+        assert offset >= asks.END and offset + len(data) <= SIZE
         for place, byte in enumerate(data, offset):
             if byte:
                 self.damage[place] = byte

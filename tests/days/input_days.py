@@ -1,5 +1,5 @@
 """Directed days on what the input alone decides: verdicts 1 to 10, and phases."""
-from records import (CLOSE, KEEP, OPEN, SETTLE, UNDO, confirm, flat, guarantee, le, register, schedule,
+from records import (CLOSE, KEEP, OPEN, SETTLE, UNDO, ask, commit, confirm, flat, guarantee, le, register, schedule,
                      setup, strip, withdraw)
 
 AMPLE = 10 ** 12
@@ -14,7 +14,7 @@ def market(hours=24, operators=((AMPLE, 0), (AMPLE, 0)),
 def no_book(d):
     # the zero buffer is no book: no set-up has 0 hours and no phase is 0
     for record in (register(1, 2, 1, 1, 1, 1, 1), withdraw(1, 1), OPEN, b'', b'\xff' * 3, strip(register(1, 2, 1, 1, 1, 1, 1)),
-                   strip()):
+                   strip(), ask(1, 2, 1, 1, 1, 1, 1), commit(1, 2, 1, 1, 1, 1, 1)):
         d.c(record, 1)
     d.c(SETTLE, 1, flat(24, 1, 1), 8, 8)
     d.a(1, 1, 1)
@@ -128,7 +128,8 @@ def records_of(d):
     """2 to 7 on records, at every length, map bit and field bound."""
     d.o(market(23, points=[(1, 1, 1, 5, 0)], zones=2))
     good = {1: register(1, 2, 7, 1, 2, 23, 4), 2: confirm(1, 2, 7, 1, 2, 23, 4), 3: withdraw(1, 1),
-            4: guarantee(1, 5), 5: OPEN, 6: UNDO, 7: KEEP, 8: CLOSE, 9: schedule(1, 1, 1, 1, 1), 10: SETTLE}
+            4: guarantee(1, 5), 5: OPEN, 6: UNDO, 7: KEEP, 8: CLOSE, 9: schedule(1, 1, 1, 1, 1), 10: SETTLE,
+            12: ask(1, 2, 7, 1, 2, 23, 4), 13: commit(1, 2, 7, 1, 2, 23, 4)}
     d.k()
     for kind, record in good.items():
         # cut short at every length, and longer
@@ -144,7 +145,7 @@ def records_of(d):
             d.c(turned, want)
             d.c(turned[:3], want)
         d.c(le(given, 2) + b'\x00' + record[3:], 3)
-        d.c(le(given, 2) + b'\x0c' + record[3:], 3)
+        d.c(le(given, 2) + b'\x0e' + record[3:], 3)
         # kind 11 is a strip: the map 0001, then a count byte
         d.c(le(given, 2) + b'\x0b' + record[3:], 5 if given == 1 else (4, 0, bin(given).count('1') - 1))
         d.c(b'\xff\x1f' + record[2:], (4, 0, 13 - bin(given).count('1')))
@@ -156,8 +157,7 @@ def records_of(d):
     d.c(b'\x01\x00\xff', 3)
     # 6: each field at its bounds, lowest bit of several
     far = 10 ** 7 + 1
-    for kind in (1, 2):
-        make = register if kind == 1 else confirm
+    for make in (register, confirm, ask, commit):
         for change, bit in (((0, 2, 7, 1, 1, 1, 1), 1), ((4, 2, 7, 1, 1, 1, 1), 1), ((1, 0, 7, 1, 1, 1, 1), 2),
                             ((1, 4, 7, 1, 1, 1, 1), 2), ((1, 2, 7, 0, 1, 1, 1), 4), ((1, 2, 7, 3, 1, 1, 1), 4),
                             ((1, 2, 7, 1, 0, 1, 1), 5), ((1, 2, 7, 1, 24, 24, 1), 5), ((1, 2, 7, 1, 1, 24, 1), 6),
@@ -210,7 +210,7 @@ def phases(d):
     d.o(market(24, points=[(1, 1, 1, 50, 0)]))
     early = (schedule(1, 1, 1, 1, 1), SETTLE)
     late = (register(1, 2, 5, 1, 1, 1, 1), confirm(2, 1, 9, 2, 1, 1, 1), withdraw(1, 1), guarantee(1, 0), OPEN, UNDO,
-            KEEP, CLOSE, strip(register(1, 2, 5, 1, 1, 1, 1)))
+            KEEP, CLOSE, strip(register(1, 2, 5, 1, 1, 1, 1)), ask(1, 2, 5, 1, 1, 1, 1), commit(1, 2, 5, 1, 1, 1, 1))
     d.c(register(1, 2, 9, 1, 1, 1, 10), (0, 1))
     d.k()
     for record in early:

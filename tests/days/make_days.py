@@ -2,6 +2,7 @@
 import collections
 import pathlib
 
+import ask_days
 import input_days
 import margin_days
 import random_days
@@ -18,7 +19,7 @@ PROGRAM = pathlib.Path(__file__).parents[2] / 'crates' / 'day_test'
 
 def make():
     days = Days()
-    for group in (input_days, row_days, settle_days, setup_days, margin_days, strip_days, random_days, valuation_days):
+    for group in (input_days, row_days, settle_days, setup_days, margin_days, strip_days, ask_days, random_days, valuation_days):
         for day in group.DAYS:
             day(days)
     return days
@@ -28,12 +29,12 @@ def main():
     days = make()
     text = days.text().encode()
     seen = collections.Counter(line.split()[1] for line in days.lines if line[0] in 'oc')
-    assert {int(verdict) for verdict in seen} == set(range(23)), sorted(seen)
+    assert {int(verdict) for verdict in seen} == set(range(24)), sorted(seen)
     assert len(days.input) < MOST and len(text) < MOST
     (PROGRAM / 'stdin').write_bytes(days.input)
     (PROGRAM / 'stdout').write_bytes(text)
     print('input', len(days.input), 'output', len(text))
-    print(', '.join('%s: %d' % (verdict, seen[str(verdict)]) for verdict in range(23)))
+    print(', '.join('%s: %d' % (verdict, seen[str(verdict)]) for verdict in range(24)))
 
 
 if __name__ == '__main__':

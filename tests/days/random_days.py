@@ -1,15 +1,19 @@
-"""Random days near limits, checked against the ledger and against the list without undone batches.
+"""Random days near limits, checked against the ledger and against the list with an empty kept batch for each undone one.
 
-In some the margins of an account are the same in every hour, in others they differ by hour. Now and then a call is a strip.
+In some the margins of an account are the same in every hour, in others they differ by hour. Now and then a call is a strip
+or an ask; while asks stand, half the calls are commits and further asks.
 """
+import copy
 import random
 
+import asks
 import reading
 import records as w
 
-SEEDS = range(301, 331)
+SEEDS = range(301, 323)
 SEEDS_BY_HOUR = range(331, 341)
 STRIPS = 0.012
+ASKS = 0.05
 
 
 def hour_by_hour(chance, margin, hours):
@@ -120,6 +124,40 @@ def spoilt(chance, record):
     return bytes(data)
 
 
+def of_kind(kind, record):
+    return record[:2] + bytes([kind]) + record[3:]
+
+
+def ask(chance, book, differing):
+    return of_kind(asks.ASK, register(chance, book, differing))
+
+
+def commit(chance, book, differing):
+    """Mostly of an ask that stands; at times one field differs, or none stands."""
+    if not book.asks:
+        return of_kind(asks.COMMIT, register(chance, book, differing))
+    terms = list(book.asks[chance.choice(sorted(book.asks))][:7])
+    if chance.random() < 0.2:
+        place = chance.randrange(7)
+        if place == 2:
+            at = chance.randrange(8)
+            terms[2] = terms[2][:at] + bytes([terms[2][at] ^ 1 << chance.randrange(8)]) + terms[2][at + 1:]
+        else:
+            terms[place] = 3 - terms[3] if place == 3 else max(0, terms[place] + chance.choice((-1, 1)))
+    return w.commit(*terms)
+
+
+def ask_or_commit(chance, book, differing):
+    if chance.random() < (0.7 if book.asks else 0.1):
+        return commit(chance, book, differing)
+    return ask(chance, book, differing)
+
+
+def as_register(book, record):
+    """What the register of an ask's fields would be answered, on a copy."""
+    return reading.call(copy.copy(book), of_kind(1, record))
+
+
 def confirm(chance, book):
     pending = [row for row in book.rows if row.status == reading.PENDING]
     if not pending:
@@ -207,22 +245,25 @@ def trade_record(chance, book, differing):
     return chance.choice((w.schedule(1, 1, 1, 1, 1), w.SETTLE, register(chance, book, differing)))
 
 
-def random_day(d, seed, differing=False, strips=STRIPS):
-    """A day of the seed; `strips` is the share of strips among the calls before the gate."""
+def random_day(d, seed, differing=False, strips=STRIPS, asked=ASKS):
+    """A day of the seed; `strips` and `asked` are the shares of strips and of asks among the calls before the gate."""
     chance = random.Random(seed)
-    # strips have a chance of their own: whatever their share, the opening and the number of calls are the seed's
-    apart = random.Random(seed + 1000)
+    # strips and asks have a chance of their own: whatever their share, the opening and the number of calls are the seed's
+    apart, quoting = random.Random(seed + 1000), random.Random(seed + 2000)
     setup = opening(chance, differing)
     d.o(setup)
     ledger = reading.Ledger(setup)
-    calls, verdicts = [], []
+    calls, verdicts, promised = [], [], {}
 
     def do(record, table=b'', results=0, balances=0):
         if chance.random() < 0.04:
             record = damaged(chance, record)
         if chance.random() < 0.03:
             d.k()
+        standing = dict(d.book.asks)
+        register_gives = as_register(d.book, record) if record[2:3] == bytes([asks.ASK]) else None
         verdict, first, second = d.c(record, None, table, results, balances)
+        hold_asks(record, verdict, standing, register_gives)
         if verdict[0] and chance.random() < 0.02:
             d.same(int(d.state() == d.remembered))
         ledger.feed(record, verdict[0] == 0)
@@ -230,13 +271,28 @@ def random_day(d, seed, differing=False, strips=STRIPS):
         verdicts.append((verdict, first, second))
         return verdict[0]
 
+    def hold_asks(record, verdict, standing, register_gives):
+        """An ask is answered as its register, a commit as its ask; the asks that stand could be registered."""
+        assert register_gives in (None, verdict)
+        if verdict[0] == 0 and record[2] == asks.ASK:
+            standing[record[3]] = reading.row_of(reading.read_record(record)[1])
+            promised[record[3:]] = verdict
+        elif verdict[0] == 0:
+            assert record[2] != asks.COMMIT or verdict == promised[record[3:]]
+            standing.clear()
+            promised.clear()
+        assert d.book.asks == standing == asks.standing(d.book, asks.image(d.book))
+
     def look(times):
         for _ in range(times):
             d.a(chance.randrange(1, len(d.book.accounts) + 1), chance.randrange(1, d.book.hours + 1))
             d.e(chance.randrange(1, len(d.book.guarantees) + 1))
 
     for step in range(chance.randrange(150, 420)):
-        do(strip(apart, d.book) if apart.random() < strips else trade_record(chance, d.book, differing))
+        if quoting.random() < (0.5 if d.book.asks else asked):
+            do(ask_or_commit(quoting, d.book, differing))
+        else:
+            do(strip(apart, d.book) if apart.random() < strips else trade_record(chance, d.book, differing))
         if step % 60 == 30:
             look(3)
             ledger.check(d.book)
@@ -262,22 +318,23 @@ def random_day(d, seed, differing=False, strips=STRIPS):
         do(strip(apart, d.book))
     if seed % 10 == 0:
         d.read_all()
-    # with every undone batch cut out: the same answers outside it, the same book
-    stay = reading.without_undone([c[0] for c in calls], [v[0] for v in verdicts])
+    # with an empty kept batch in the place of every undone one: the same answers outside it, the same book
     plain = reading.open_book(setup)[1]
-    for place in stay:
-        record, table, results, balances = calls[place]
+    kept = []
+    for record, place in reading.matched([c[0] for c in calls], [v[0] for v in verdicts]):
+        _, table, results, balances = calls[place] if place is not None else (record, b'', 0, 0)
+        want = verdicts[place] if place is not None else ((0, 0, 0), b'', b'')
         first, second = bytearray(b'\xaa' * results), bytearray(b'\xaa' * balances)
         verdict = reading.call(plain, record, table, first, second)
-        assert (verdict, bytes(first), bytes(second)) == verdicts[place]
+        assert (verdict, bytes(first), bytes(second)) == want
+        kept.append((record, want[0], table, results, balances))
     assert plain.state() == d.book.state()
     d.k()
     if seed % 3 == 0:
-        # the same day in the cases without its undone batches
+        # the same day in the cases, with its undone batches so replaced
         d.o(setup)
-        for place in stay:
-            record, table, results, balances = calls[place]
-            d.c(record, verdicts[place][0], table, results, balances)
+        for call in kept:
+            d.c(*call)
         d.same(1)
     return setup, calls
 

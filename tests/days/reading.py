@@ -1,6 +1,7 @@
 """Calls and readings of the energy account book, its replay, and the ledger beside it."""
 import copy
 
+import asks
 import strips
 from market_rules import (BOOK_BYTES, MOST_PRICE, MOST_SCHEDULES, PENDING, STREAM_BYTES,
                           WITHDRAWN, Schedule, confirm, exposure_of, fault_bit, number,
@@ -13,13 +14,21 @@ def read_prices(table):
 
 
 def call(book, record, table=b'', results=b'', balances=b'', size=BOOK_BYTES):
-    """One call, of the ten kinds or a strip: (verdict, detail, detail).
+    """One call of any kind: (verdict, detail, detail).
 
     `book` is None where the lent bytes are no book; `results` and `balances` are lent
-    bytearrays that only settle looks at.
+    bytearrays that only settle looks at. Accepted, every call but an ask clears all asks.
     """
     if book is None or size != BOOK_BYTES:
         return 1, 0, 0
+    verdict = answer(book, record, table, results, balances)
+    if verdict[0] == 0 and record[2] != asks.ASK:
+        book.asks = {}
+    return verdict
+
+
+def answer(book, record, table, results, balances):
+    """The verdict of a call on a book, and what it changes but for the clearing of asks."""
     if strips.is_strip(record):
         return strips.register_all(book, record)
     refusal, fields = read_record(record)
@@ -36,7 +45,7 @@ def call(book, record, table=b'', results=b'', balances=b'', size=BOOK_BYTES):
         prices = read_prices(table)
         if max(prices) > MOST_PRICE:
             return 6, 12, 0
-    if kind in (1, 2) and fields[1] == fields[2]:
+    if kind in (1, 2, asks.ASK, asks.COMMIT) and fields[1] == fields[2]:
         return 7, 0, 0
     if kind == 10 and (len(results) < len(book.schedules) or len(balances) < 8 * len(book.guarantees)):
         return 10, 0, 0
@@ -52,6 +61,10 @@ def call(book, record, table=b'', results=b'', balances=b'', size=BOOK_BYTES):
         return confirm(book, row_of(fields))
     if kind == 3:
         return withdraw(book, fields[1], fields[8])
+    if kind == asks.ASK:
+        return asks.ask(book, row_of(fields))
+    if kind == asks.COMMIT:
+        return asks.commit(book, row_of(fields))
     if kind == 4:
         operator, cents = fields[9], fields[10]
         if book.available(operator, cents) < exposure_of(book, book.rows, operator):
@@ -158,7 +171,7 @@ class Ledger:
             return
         fields = read_record(record)[1]
         kind = fields[0]
-        if kind == 1:
+        if kind in (1, asks.COMMIT):
             self.pending[self.next_number] = row_of(fields)
             self.next_number += 1
         elif kind == 2:
@@ -230,13 +243,18 @@ class Ledger:
         assert len(self.schedules) == len(book.schedules)
 
 
-def without_undone(calls, verdicts):
-    """Places of the calls that stay when open, undo and all between are cut out."""
-    stay, opened = [], None
+def matched(calls, verdicts):
+    """The list with each undone batch replaced by an empty kept one: a record and the place of the call it is, or None.
+
+    The open stays, all that follows it up to the undo goes, and a keep stands in the place of the undo.
+    """
+    kept, opened = [], None
     for place, (record, verdict) in enumerate(zip(calls, verdicts)):
-        stay.append(place)
+        if verdict[0] == 0 and record[2] == 6:
+            del kept[opened + 1:]
+            kept.append((b'\x01\x00\x07', None))
+            continue
+        kept.append((record, place))
         if verdict[0] == 0 and record[2] == 5:
-            opened = len(stay) - 1
-        elif verdict[0] == 0 and record[2] == 6:
-            del stay[opened:]
-    return stay
+            opened = len(kept) - 1
+    return kept

@@ -35,6 +35,14 @@ def confirm(account, other, code, side, first, last, quantity):
     return trade(2, account, other, code, side, first, last, quantity)
 
 
+def ask(account, other, code, side, first, last, quantity):
+    return trade(12, account, other, code, side, first, last, quantity)
+
+
+def commit(account, other, code, side, first, last, quantity):
+    return trade(13, account, other, code, side, first, last, quantity)
+
+
 def withdraw(account, row):
     return le(0x103, 2) + bytes([3, account]) + le(row, 2)
 

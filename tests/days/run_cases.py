@@ -4,6 +4,7 @@ Usage: run_cases.py FILE
 """
 import sys
 
+import asks
 import reading
 import valuation
 
@@ -16,10 +17,10 @@ def hexed(tag, data):
 
 def run(data):
     lines, at, day = [], 0, 0
-    book, none, put = None, 'zero', {}
+    book, none, put, spoilt = None, 'zero', {}, None
 
     def state():
-        return (book.state() if book else none), {k: v for k, v in put.items() if v}
+        return (book.state() if book else none), {k: v for k, v in put.items() if v}, spoilt
 
     kept = state()
     while at < len(data):
@@ -35,11 +36,11 @@ def run(data):
         body = data[at + 3:at + 3 + length]
         assert len(body) == length
         at += 3 + length
-        seen = None if any(put.values()) else book
+        seen = None if any(put.values()) or spoilt else book
         if tag == 'o':
             verdict, opened = reading.open_book(body)
             if opened:
-                book, put = opened, {}
+                book, put, spoilt = opened, {}, None
             lines.append('o %d %d %d' % verdict)
         elif tag == 'c':
             results = bytearray(b'\xaa' * reading.number(body[:2]))
@@ -63,7 +64,13 @@ def run(data):
         elif tag == '=':
             lines.append('= %d' % (state() == kept))
         elif tag == 'p' and length == SIZE + 2:
-            book, none, put = None, body[2], {}
+            book, none, put, spoilt = None, body[2], {}, None
+        elif tag == 'p' and reading.number(body[:2]) < asks.END:
+            at_place = reading.number(body[:2]) - asks.AT
+            places = spoilt or asks.image(book)
+            places = places[:at_place] + body[2:] + places[at_place + length - 2:]
+            found = asks.standing(book, places)
+            book.asks, spoilt = found or {}, places if found is None else None
         elif tag == 'p':
             for place, byte in enumerate(body[2:], reading.number(body[:2])):
                 put[place] = byte

@@ -5,7 +5,7 @@ import random_days
 import strip_days
 from cases import Days
 from reading import STREAM_BYTES, replay
-from records import (CLOSE, KEEP, OPEN, SETTLE, UNDO, bare, confirm, flat, guarantee, le, register, schedule, setup,
+from records import (CLOSE, KEEP, OPEN, SETTLE, UNDO, ask, bare, commit, confirm, flat, guarantee, le, register, schedule, setup,
                      stream, strip, table, withdraw)
 
 AMPLE = 10 ** 12
@@ -120,19 +120,21 @@ def verdicts():
     """Each number that a stream can show, in one day; 1 and 10 cannot be shown."""
     mixed = setup([10] * 24, [(10 ** 6, 0), (5, 0)], [(1, 1, 900, 900), (2, 2, 900, 900), (2, 1, 900, 900)],
                   [(1, 1, 1, 100, 0), (2, 2, 1, 0, 90), (2, 3, 1, 50, 50)])
-    items = [mixed, b'', b'\x01\x00', b'\x00\x00\x05', b'\x01\x80\x05', bare(0), bare(11), bare(12), b'\xff\x1f\x05', b'\x01\x00\x01',
-             strip(), strip(SELL, SELL), strip(register(4, 2, 1, 1, 1, 1, 1)),
+    items = [mixed, b'', b'\x01\x00', b'\x00\x00\x05', b'\x01\x80\x05', bare(0), bare(11), bare(12), bare(14),
+             b'\xff\x1f\x05', b'\x01\x00\x01', strip(), strip(SELL, SELL), strip(register(4, 2, 1, 1, 1, 1, 1)),
              OPEN + b'\x00', SELL[:-1], register(4, 2, 1, 1, 1, 1, 1), register(1, 2, 1, 1, 5, 4, 1), register(1, 1, 1, 1, 1, 1, 1),
              SETTLE + flat(24, 400001, 0), SETTLE + flat(24, 0, 0), schedule(1, 1, 1, 1, 1), KEEP, UNDO, OPEN, OPEN, CLOSE,
              register(1, 2, 1, 1, 1, 3, 500), register(1, 2, 1, 2, 1, 3, 5), withdraw(2, 1), confirm(1, 2, 1, 1, 1, 3, 500),
              confirm(2, 1, 1, 1, 1, 3, 500), confirm(2, 1, 1, 2, 1, 3, 500), register(1, 2, 1, 1, 3, 4, 401),
              register(2, 1, 1, 1, 1, 3, 167), register(2, 1, 1, 1, 1, 3, 166), guarantee(2, 4), guarantee(2, 6), withdraw(2, 2), UNDO,
-             register(2, 1, 1, 1, 1, 1, 501), register(2, 1, 1, 1, 1, 1, 500), confirm(1, 2, 1, 2, 1, 1, 500), CLOSE, UNDO]
+             commit(2, 1, 1, 1, 1, 1, 500), ask(2, 1, 1, 1, 1, 1, 501), ask(2, 1, 1, 1, 1, 1, 500), commit(2, 1, 1, 1, 1, 1, 501),
+             commit(2, 1, 1, 1, 1, 1, 500), withdraw(2, 1), register(2, 1, 1, 1, 1, 1, 501), register(2, 1, 1, 1, 1, 1, 500),
+             confirm(1, 2, 1, 2, 1, 1, 500), CLOSE, UNDO]
     items += [schedule(1 + place % 3 // 2, 1 + place % 2, 1 + place % 3, 2 + place % 2, place % 5) for place in range(257)]
     items += [SETTLE + flat(24, 3, 2), SETTLE + flat(24, 3, 2)]
     data = stream(*items)
     seen = {int(line.split()[1]) for line in replay(data).split('\n') if line and line[0].isdigit()}
-    assert seen >= {0, 2, 3, 4, 5, 6, 7, 11, 12, 13, 14, 16, 17, 18, 19, 20, 21, 22}, seen
+    assert seen >= {0, 2, 3, 4, 5, 6, 7, 11, 12, 13, 14, 16, 17, 18, 19, 20, 21, 22, 23}, seen
     add('every verdict of a day', data)
 
 
@@ -230,7 +232,7 @@ def strips():
     prices = first_hour(24, 6000, 5500)
     add('strips are not split',
         stream(ample, bare(11) + prices, b'\x03\x01\x0b' + prices, b'\x00\x00\x0b' + prices, b'\xff\x00\x0b' + prices,
-               two + prices, bare(11), strip(), two[:-1], bare(12) + two[3:]),
+               two + prices, bare(11), strip(), two[:-1], bare(14) + two[3:]),
         lines('0 0 0 0', '1 5 0 0', '2 4 0 2', '3 2 0 0', '4 4 0 7', '5 5 0 0', '6 5 0 0', '7 21 0 0', '8 5 0 0', '9 3 0 0'))
     add('a strip cut short', stream(ample, two)[:-1], lines('0 0 0 0', 'cut 1'))
     # every count from 0 to 30, with so many rows; then the greatest
@@ -260,6 +262,80 @@ def strips():
             text.append('%d %d %d %d' % (len(items), *want))
             items.append(record)
     add('a fault in every place of a strip', stream(*items), lines(*text))
+
+
+def asks():
+    """Asks and commits as items: the whole case, the record as a whole, what clears an ask, batches, and the last number."""
+    terms = (1, 2, 0, 1, 1, 1, 18000)
+    add('whole case, asked for and committed', stream(small(), ask(*terms), commit(*terms), *WHOLE[2:]),
+        lines('0 0 0 0', '1 0 1 0', '2 0 1 0', '3 0 1 0', '4 0 0 0', '5 0 1 0', '6 0 0 0', *WHOLE_TEXT.split('\n')[6:9], 't 82500000'))
+    more = (1, 2, 0, 1, 1, 1, 18001)
+    add('asking for 18,001 is 19',
+        stream(small(), commit(*terms), ask(*more), commit(*more), ask(*terms), ask(*more), commit(*terms), ask(*terms)),
+        lines('0 0 0 0', '1 23 0 0', '2 19 0 0', '3 23 0 0', '4 0 1 0', '5 19 0 0', '6 0 1 0', '7 14 0 0'))
+    ample = small(24, AMPLE, 100)
+    add('asking for 20,001 is 18',
+        stream(ample, ask(1, 2, 0, 1, 1, 24, 20001), ask(1, 2, 0, 1, 3, 24, 20000), commit(1, 2, 0, 1, 3, 24, 20000),
+               ask(1, 2, 1, 1, 1, 24, 1), ask(1, 2, 1, 1, 1, 2, 1), commit(1, 2, 1, 1, 1, 2, 1)),
+        lines('0 0 0 0', '1 18 1 0', '2 0 1 0', '3 0 1 0', '4 18 3 0', '5 0 2 0', '6 0 2 0'))
+    # an item whose third byte is 12 or 13 is a record as a whole, whatever its map says
+    prices = first_hour(24, 6000, 5500)
+    one = (1, 2, 5, 1, 1, 1, 1)
+    for make in (ask, commit):
+        kind = make(*one)[2:3]
+        add('kind %d is not split' % kind[0],
+            stream(ample, ask(*one), make(*one) + prices, b'\x01\x00' + kind + prices, b'\x00\x00' + kind + prices,
+                   b'\xff\x20' + kind + prices, b'\xff\x01' + kind + prices, b'\xff\x00' + kind, make(*one)[:-1],
+                   make(1, 2, 5, 1, 1, 25, 1), make(2, 2, 5, 1, 1, 1, 1), make(*one)),
+            lines('0 0 0 0', '1 0 1 0', '2 5 0 0', '3 4 7 0', '4 2 0 0', '5 2 0 0', '6 4 0 1', '7 5 0 0', '8 5 0 0', '9 6 6 0', '10 7 0 0',
+                  '11 0 1 0'))
+        add('kind %d cut short' % kind[0], stream(ample, make(*one))[:-1], lines('0 0 0 0', 'cut 1'))
+    # each accepted kind clears: the ask's number, the call and what it gives; the commit after it is 23
+    clearing = ((1, register(2, 1, 8, 2, 1, 1, 7), 1), (2, confirm(1, 2, 8, 1, 1, 1, 7), 1), (2, guarantee(2, 0), 0), (2, OPEN, 0),
+                (2, KEEP, 0), (2, OPEN, 0), (2, UNDO, 0), (2, strip(register(2, 1, 9, 2, 2, 2, 7), register(2, 1, 10, 2, 2, 2, 7)), 2),
+                (4, withdraw(2, 3), 0), (4, CLOSE, 0))
+    items, text = [ample], ['0 0 0 0']
+    for number, record, given in clearing:
+        at = len(items)
+        items += [ask(*one), record, commit(*one)]
+        text += ['%d 0 %d 0' % (at, number), '%d 0 %d 0' % (at + 1, given), '%d %d 0 0' % (at + 2, 11 if record == CLOSE else 23)]
+    add('every accepted kind clears asks', stream(*items), lines(*text))
+    # no refused kind does
+    refused = ((register(2, 1, 8, 2, 1, 1, 20001), '18 1'), (confirm(2, 1, 5, 2, 1, 1, 1), '16 0'), (withdraw(1, 99), '16 0'),
+               (guarantee(3, 0), '6 9'), (UNDO, '13 0'), (KEEP, '13 0'), (OPEN + b'\x00', '5 0'), (CLOSE + b'\x00', '5 0'),
+               (strip(), '21 0'), (schedule(1, 1, 1, 1, 1), '11 0'), (SETTLE + prices, '11 0'), (ask(1, 2, 6, 1, 1, 1, 20001), '18 1'),
+               (commit(1, 2, 6, 1, 1, 1, 1), '23 0'), (bare(14), '3 0'), (b'', '2 0'))
+    items, text = [ample], ['0 0 0 0']
+    for number, (record, given) in enumerate(refused, 1):
+        one = (1, 2, 100 + number, 1, 1, 1, 1)
+        text += ['%d 0 %d 0' % (len(items), number), '%d %s 0' % (len(items) + 1, given), '%d 0 %d 0' % (len(items) + 2, number)]
+        items += [ask(*one), record, commit(*one)]
+    add('no refused kind clears asks', stream(*items), lines(*text))
+    # both accounts are given the same number, and one commit clears the other's ask
+    one, two = (1, 2, 1, 1, 1, 1, 5), (2, 1, 1, 2, 1, 1, 5)
+    add('two accounts ask, one commits',
+        stream(ample, ask(*one), ask(*two), commit(*two), commit(*one), ask(*one), ask(2, 1, 2, 2, 1, 1, 5), commit(*one),
+               commit(2, 1, 2, 2, 1, 1, 5)),
+        lines('0 0 0 0', '1 0 1 0', '2 0 1 0', '3 0 1 0', '4 23 0 0', '5 0 2 0', '6 0 2 0', '7 0 2 0', '8 23 0 0'))
+    # an undone batch beside an empty kept one, and nothing in its place
+    one, two = (1, 2, 1, 1, 1, 1, 900), (1, 2, 2, 1, 1, 1, 900)
+    day = setup([10] * 24, [(10, 0), (10, 0)], [(1, 1, 900, 900), (2, 2, 900, 900)])
+    add('an undone batch clears asks, and its own have no weight',
+        stream(day, ask(*one), OPEN, commit(*one), ask(*two), commit(*two), ask(*one), UNDO, commit(*one), ask(*one), commit(*one)),
+        lines('0 0 0 0', '1 0 1 0', '2 0 0 0', '3 23 0 0', '4 0 1 0', '5 0 1 0', '6 18 1 0', '7 0 1 0', '8 23 0 0', '9 0 1 0', '10 0 1 0'))
+    add('an empty kept batch clears asks', stream(day, ask(*one), OPEN, KEEP, commit(*one), ask(*one), commit(*one)),
+        lines('0 0 0 0', '1 0 1 0', '2 0 0 0', '3 0 0 0', '4 23 0 0', '5 0 1 0', '6 0 1 0'))
+    add('without a batch the commit passes', stream(day, ask(*one), commit(*one), ask(*one), commit(*one)),
+        lines('0 0 0 0', '1 0 1 0', '2 0 1 0', '3 14 0 0', '4 23 0 0'))
+    # every row asked for and committed, up to the last
+    items, text = [ample], ['0 0 0 0']
+    for number in range(1, 257):
+        one = (1, 2, number, 1, 1, 1, 1)
+        text += ['%d 0 %d 0' % (len(items), number), '%d 0 %d 0' % (len(items) + 1, number)]
+        items += [ask(*one), commit(*one)]
+    one = (1, 2, 999, 1, 1, 1, 1)
+    add('row 256 is asked for, 257 is 15', stream(*items, ask(*one), commit(*one), withdraw(1, 9), ask(*one)),
+        lines(*text, '513 15 0 0', '514 23 0 0', '515 0 0 0', '516 15 0 0'))
 
 
 def full_day():
@@ -305,19 +381,22 @@ def long_day():
 
 
 def random_streams():
-    for seed in range(401, 413):
+    for seed in range(401, 407):
         opening, calls = random_days.random_day(Days(), seed)
         add('random day %d' % seed, stream(opening, *(call[0] + call[1] for call in calls)))
     for seed in range(413, 419):
         opening, calls = random_days.random_day(Days(), seed, True)
         add('random day %d, margins by hour' % seed, stream(opening, *(call[0] + call[1] for call in calls)))
-    for seed in range(419, 425):
+    for seed in range(419, 423):
         opening, calls = random_days.random_day(Days(), seed, seed % 2 == 0, 0.15)
         add('random day %d, many strips' % seed, stream(opening, *(call[0] + call[1] for call in calls)))
+    for seed in range(425, 430):
+        opening, calls = random_days.random_day(Days(), seed, seed % 2 == 0, asked=0.3)
+        add('random day %d, many asks' % seed, stream(opening, *(call[0] + call[1] for call in calls)))
     assert all(len(data) <= STREAM_BYTES for name, data, _ in STREAMS if name.startswith('random'))
 
 
-for part in (edges, forms, verdicts, undone, by_hour, strips, full_day, long_day, random_streams):
+for part in (edges, forms, verdicts, undone, by_hour, strips, asks, full_day, long_day, random_streams):
     part()
 
 

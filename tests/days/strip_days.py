@@ -45,7 +45,9 @@ def own_numbers(d):
         d.c(remapped(given, good), (4, 0, bin(given).count('1') - 1))
         d.c(remapped(given, strip()), (4, 0, bin(given).count('1') - 1))
     d.c(of_kind(11, row(1)), (4, 0, 7))
-    d.c(of_kind(12, good), 3)
+    d.c(of_kind(14, good), 3)
+    d.c(of_kind(12, good), (4, 7, 0))
+    d.c(of_kind(13, good), (4, 7, 0))
     # 5: cut short at every length, longer, and a count that is not that of the rows
     for length in range(len(good)):
         d.c(good[:length], 2 if length < 3 else 5)
@@ -87,7 +89,7 @@ def other_faults():
     """More of them."""
     yield from ((2, record) for record in (remapped(0x20FF, row(9)), remapped(0x40FF, row(9)), remapped(0x80FF, row(9)),
                                            bytes(20), b'\xff' * 20, remapped(0, of_kind(11, row(9)))))
-    yield from ((3, of_kind(kind, row(9))) for kind in (0, 3, 5, 10, 11, 12, 255))
+    yield from ((3, of_kind(kind, row(9))) for kind in (0, 3, 5, 10, 11, 12, 13, 14, 255))
     yield from ((3, record) for record in (withdraw(1, 1) + bytes(14), strip(bytes(16)), schedule(1, 1, 1, 1, 1) + bytes(6)))
     for bit in range(1, 13):
         yield (4, 1, 0) if bit < 8 else (4, 0, 1), remapped(0x00FF ^ 1 << bit, row(9))
