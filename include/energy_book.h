@@ -53,7 +53,11 @@ extern "C" {
 /* A strip is a call of several registers with one proposer, all or none. Its record is 01 00 (the map), 11, the count of its rows, 1 to
  * 24, and then the record of each register, 20 bytes each: row i, from 0 on, is at 4 + 20 * i, where energy_book_write can put it. All
  * rows get consecutive numbers, of which the first is given, or none is registered. Only energy_book_call takes a strip:
- * energy_book_read and energy_book_write are for single records, and refuse kind 11 by 3. */
+ * energy_book_read and energy_book_write are for single records, and refuse kind 11 by 3.
+ *
+ * An ask has the fields of a register and is answered as it would be, with the number that the row would get. An accepted ask stands for
+ * its account, in place of that account's earlier one, and changes nothing else; every accepted call but an ask clears all that stand. A
+ * commit with all fields of the ask that stands registers it, and is answered as the ask was. */
 enum energy_book_kind {
     ENERGY_BOOK_REGISTER = 1,
     ENERGY_BOOK_CONFIRM = 2,
@@ -65,19 +69,22 @@ enum energy_book_kind {
     ENERGY_BOOK_CLOSE_GATE = 8,
     ENERGY_BOOK_SCHEDULE = 9,
     ENERGY_BOOK_SETTLE = 10,
-    ENERGY_BOOK_STRIP = 11
+    ENERGY_BOOK_STRIP = 11,
+    ENERGY_BOOK_ASK = 12,
+    ENERGY_BOOK_COMMIT = 13
 };
 
 /* ---- verdicts, and the details that go with them */
 
-/* Of several that apply the lowest is given, but that 21 comes after 5 and before 6, and 22 after 14 and before 15. A strip meets its
- * own 2, 4, 5 and 21 first; then each number is looked for in all its rows before the next, and the first such row gives the details. */
+/* Of several that apply the lowest is given, but that 21 comes after 5 and before 6, 22 after 14 and before 15, and 23 after 13 and
+ * before 14. A strip meets its own 2, 4, 5 and 21 first; then each number is looked for in all its rows before the next, and the first
+ * such row gives the details. */
 enum energy_book_verdict_number {
-    ENERGY_BOOK_ACCEPTED = 0,         /* first: the row of register and confirm, the first row of a strip, the place of schedule, the
-                                         rows that undo struck */
+    ENERGY_BOOK_ACCEPTED = 0,         /* first: the row of register, confirm and commit, the row that an ask would get, the first row
+                                         of a strip, the place of schedule, the rows that undo struck */
     ENERGY_BOOK_NOT_A_BOOK = 1,       /* not a book, or not 49,152 bytes */
     ENERGY_BOOK_UNREADABLE = 2,       /* record under 3 bytes, no kind, or a bit past the fields */
-    ENERGY_BOOK_UNKNOWN_KIND = 3,     /* kind not 1 to 11; of a single record read or written not 1 to 10, of a row of a strip not 1 */
+    ENERGY_BOOK_UNKNOWN_KIND = 3,     /* kind not 1 to 13; of a single record read or written, 11 too; of a row of a strip, any but 1 */
     ENERGY_BOOK_WRONG_MAP = 4,        /* first: wanted fields that are missing; second: fields that stand unwanted */
     ENERGY_BOOK_WRONG_LENGTH = 5,     /* of the record, the price table or the fields */
     ENERGY_BOOK_OUT_OF_RANGE = 6,     /* first: the lowest bit at fault; 12 for the price table; 1 for another proposer in a strip */
@@ -96,7 +103,8 @@ enum energy_book_verdict_number {
     ENERGY_BOOK_UNCOVERED = 19,       /* exposure would be above what is available */
     ENERGY_BOOK_SCHEDULES_FULL = 20,  /* 256 schedules stand */
     ENERGY_BOOK_STRIP_COUNT = 21,     /* a strip has not 1 to 24 rows */
-    ENERGY_BOOK_STRIP_TWINS = 22      /* two rows of a strip are alike in counterparty and code */
+    ENERGY_BOOK_STRIP_TWINS = 22,     /* two rows of a strip are alike in counterparty and code */
+    ENERGY_BOOK_NO_STANDING_ASK = 23  /* no ask with the fields of this commit stands for its account */
 };
 
 /* The number of the verdict. */
@@ -211,8 +219,8 @@ static inline void energy_book_get_fields(const uint8_t fields[ENERGY_BOOK_FIELD
 
 /* The length of a single record of this kind; 0 for a strip, whose length goes by its rows, and for a number that is no kind. */
 static inline size_t energy_book_record_length(unsigned kind) {
-    static const uint8_t lengths[11] = {0, 20, 20, 6, 12, 3, 3, 3, 3, 14, 3};
-    return kind <= 10 ? lengths[kind] : 0;
+    static const uint8_t lengths[14] = {0, 20, 20, 6, 12, 3, 3, 3, 3, 14, 3, 0, 20, 20};
+    return kind <= 13 ? lengths[kind] : 0;
 }
 
 /* A request of any kind but settle and strip, on a book: written as a record and called. These two need energy_book_call. */

@@ -3,7 +3,7 @@
 use crate::line::{Line, Work};
 use crate::replay::Replay;
 use crate::state::State;
-use differential::made::{self, call, guarantee, mirror, prices, schedule, simple, strip, trade, withdrawal};
+use differential::made::{self, ask, call, commit, guarantee, mirror, prices, schedule, simple, strip, trade, withdrawal};
 use reference::days::Step;
 use reference::{kind, Request, Setup};
 
@@ -45,6 +45,7 @@ pub fn lines() -> Vec<Line> {
     }
     registers(&mut lines, &fresh, &half, &full);
     strips(&mut lines);
+    asks(&mut lines);
     confirms(&mut lines, &half, &full);
     gate_and_batches(&mut lines, &fresh, &half, &full);
     schedules(&mut lines);
@@ -103,6 +104,32 @@ fn strips(lines: &mut Vec<Line>) {
     let one = trade(3, 4, 1, (1, 25), 1_000_000, 999);
     lines.push(Line::new("strip, one row", "255 rows", &most, Work::Call(strip(&[one]), 0)));
     lines.push(line("register, that row", "255 rows", &most, &one, 0));
+}
+
+/// Asks beside the registers of their fields, commits, and checks of a book with no ask and with one of each account. A book of 256 rows
+/// can have no ask, so that there are 255.
+fn asks(lines: &mut Vec<Line>) {
+    let sale = trade(3, 4, 1, (1, 25), 1_000_000, 999);
+    let of_each: Vec<Request> =
+        (1..=32).map(|account| ask(&trade(account, account % 32 + 1, 1, (1, 25), 10, 5_000 + u64::from(account)))).collect();
+    let (none, all) = (after(&rows(255), &[]), after(&rows(255), &of_each));
+    let books = [("255 rows", &none), ("255 rows, 32 asks", &all)];
+    for (book, state) in books {
+        lines.push(Line::new("is_book", book, state, Work::IsBook));
+        lines.push(Line::new("net", book, state, Work::Net(32, 25)));
+    }
+    for (book, state) in books {
+        lines.push(line("ask", book, state, &ask(&sale), 0));
+        lines.push(line("register, of that ask", book, state, &sale, 0));
+    }
+    let last_hour = trade(3, 4, 1, (25, 25), 9_000_000, 1_000);
+    let (most_18, more) = (after(&rows(254), &[last_hour]), Request { quantity: 1_100_000, ..sale });
+    lines.push(line("ask, refused 18 (hour 25)", "255 rows", &most_18, &ask(&more), 18));
+    lines.push(line("register, refused 18, of that ask", "255 rows", &most_18, &more, 18));
+    let asked = after(&rows(255), &[ask(&sale)]);
+    lines.push(line("commit", "255 rows, its ask", &asked, &commit(&sale), 0));
+    lines.push(line("commit", "255 rows, 32 asks", &all, &commit(&of_each[31]), 0));
+    lines.push(line("commit, refused 23", "255 rows, 32 asks", &all, &commit(&sale), 23));
 }
 
 fn confirms(lines: &mut Vec<Line>, half: &State, full: &State) {

@@ -8,13 +8,13 @@ pub struct Counts {
     pub days: u64,
     pub calls: u64,
     /// By verdict, of openings and of calls.
-    pub openings: [u64; 23],
-    pub verdicts: [u64; 23],
+    pub openings: [u64; 24],
+    pub verdicts: [u64; 24],
     /// Readings of net and exposure.
     pub readings: u64,
-    /// Batches that were undone, and calls of the lists without them.
+    /// Batches that were undone, and calls of the lists with empty kept ones in their place.
     pub undone: u64,
-    pub without: u64,
+    pub matched: u64,
     /// Calls on bytes that are no book, and on those that still are one.
     pub damaged: u64,
     pub undamaged: u64,
@@ -35,6 +35,15 @@ pub struct Counts {
     pub in_turn: u64,
     /// Registers held against strips of that one row, and the other way round: accepted and refused.
     pub of_one: [u64; 2],
+    /// Asks and commits, accepted and refused.
+    pub asks: [u64; 2],
+    pub commits: [u64; 2],
+    /// Asks held against their registers, and accepted commits against their asks and registers.
+    pub asks_beside: u64,
+    pub commits_beside: u64,
+    /// Calls on books with other bytes in the place of an ask, which are held against the reference's: no book, and still one.
+    pub asks_broken: u64,
+    pub asks_kept: u64,
 }
 
 impl AddAssign<&Counts> for Counts {
@@ -47,7 +56,7 @@ impl AddAssign<&Counts> for Counts {
         }
         self.readings += more.readings;
         self.undone += more.undone;
-        self.without += more.without;
+        self.matched += more.matched;
         self.damaged += more.damaged;
         self.undamaged += more.undamaged;
         self.margins_broken += more.margins_broken;
@@ -61,7 +70,13 @@ impl AddAssign<&Counts> for Counts {
         for sort in 0..2 {
             self.strips[sort] += more.strips[sort];
             self.of_one[sort] += more.of_one[sort];
+            self.asks[sort] += more.asks[sort];
+            self.commits[sort] += more.commits[sort];
         }
+        self.asks_beside += more.asks_beside;
+        self.commits_beside += more.commits_beside;
+        self.asks_broken += more.asks_broken;
+        self.asks_kept += more.asks_kept;
         self.strip_rows += more.strip_rows;
         self.in_turn += more.in_turn;
     }

@@ -19,6 +19,15 @@ pub(crate) fn records() -> Day {
                 calls.push(Step { record: whole.record[..at].to_vec(), ..whole.clone() });
             }
         }
+        // Each commit after its ask, which most leave standing.
+        let asked = call(&ask(&trade(5, 6, 1, (1, 2), 10, 7)));
+        let committed = call(&commit(&trade(5, 6, 1, (1, 2), 10, 7)));
+        for at in 0..asked.record.len() {
+            for (ask, commit) in beside(&asked.record, at).into_iter().zip(beside(&committed.record, at)) {
+                calls.extend([of_record(ask), asked.clone(), of_record(commit)]);
+            }
+            calls.extend([&asked, &committed].map(|whole| of_record(whole.record[..at].to_vec())));
+        }
         if phase == 0 {
             calls.push(call(&simple(kind::KEEP)));
             calls.push(call(&simple(kind::CLOSE_GATE)));

@@ -1,7 +1,8 @@
 //! Days made by hand: the paper's case and its edges, margins by hour, a full book, batches, greatest numbers, hourly amounts, strips,
-//! and every byte of a set-up and of a record put to values beside its own.
+//! asks, and every byte of a set-up and of a record put to values beside its own.
 
 use crate::amounts;
+use crate::asked;
 use crate::damaged::{margins_beyond, records, setups};
 use crate::made::*;
 use crate::margins;
@@ -28,6 +29,7 @@ pub fn days() -> Vec<(String, Day)> {
     ];
     days.extend(amounts::days());
     days.extend(shaped::days());
+    days.extend(asked::days());
     let setups = (0..).zip(setups().into_iter().chain(margins_beyond()));
     days.extend(setups.map(|(number, setup)| {
         let calls = Vec::new();
@@ -187,8 +189,17 @@ fn phases() -> Day {
     let setup = largest_setup();
     let sale = trade(1, 2, 1, (1, 2), 10, 7);
     let table = prices(&setup, 1, 2);
-    let some =
-        [mirror(&sale), sale, withdrawal(1, 1), guarantee(1, 7), simple(kind::UNDO), simple(kind::KEEP), schedule(1, 1, 1, 5, 5)];
+    let mut some = vec![
+        mirror(&sale),
+        sale,
+        withdrawal(1, 1),
+        guarantee(1, 7),
+        simple(kind::UNDO),
+        simple(kind::KEEP),
+        schedule(1, 1, 1, 5, 5),
+    ];
+    let next = trade(3, 4, 1, (1, 2), 10, 8);
+    some.extend([ask(&next), commit(&next)]);
     let all = || some.iter().map(call);
     let mut calls: Vec<Step> = all().chain([settle(table.clone()), call(&simple(kind::OPEN_BATCH))]).collect();
     calls.extend(all().chain([kind::CLOSE_GATE, kind::UNDO, kind::CLOSE_GATE, kind::CLOSE_GATE].map(|kind| call(&simple(kind)))));

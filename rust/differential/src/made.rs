@@ -79,6 +79,16 @@ pub fn mirror(request: &Request) -> Request {
     Request { kind: kind::CONFIRM, account: request.other, other: request.account, side: 3 - request.side, ..*request }
 }
 
+/// The ask for what a request would register.
+pub fn ask(request: &Request) -> Request {
+    Request { kind: kind::ASK, ..*request }
+}
+
+/// The commit of what a request would register.
+pub fn commit(request: &Request) -> Request {
+    Request { kind: kind::COMMIT, ..*request }
+}
+
 /// A request that is its kind only.
 pub fn simple(kind: u8) -> Request {
     Request { kind, ..Request::default() }

@@ -106,7 +106,7 @@ fn report(counts: &Counts) {
     println!("openings by verdict:{}", by_verdict(&counts.openings));
     println!("calls by verdict:{}", by_verdict(&counts.verdicts));
     println!("readings: {}", counts.readings);
-    println!("batches undone: {}, calls of the lists without them: {}", counts.undone, counts.without);
+    println!("batches undone: {}, calls of the lists with empty kept ones in their place: {}", counts.undone, counts.matched);
     println!("calls on a changed byte: no book {}, still a book {}", counts.damaged, counts.undamaged);
     println!("calls on a changed margin: no book {}, still a book {}", counts.margins_broken, counts.margins_kept);
     println!("days settled: {}, balances held against the totals of hourly amounts: {}", counts.settled, counts.balances);
@@ -119,6 +119,13 @@ fn report(counts: &Counts) {
     let [accepted, refused] = counts.of_one;
     println!("strips of one row beside their registers: accepted {accepted}, refused {refused}");
     println!("accepted strips beside their registers in turn: {}", counts.in_turn);
+    let ([asks, asks_refused], [commits, commits_refused]) = (counts.asks, counts.commits);
+    println!("asks: accepted {asks}, refused {asks_refused}; commits: accepted {commits}, refused {commits_refused}");
+    println!(
+        "asks beside their registers: {}, accepted commits beside their asks: {}",
+        counts.asks_beside, counts.commits_beside
+    );
+    println!("calls on a changed ask: no book {}, still a book {}", counts.asks_broken, counts.asks_kept);
     println!("no difference");
 }
 

@@ -117,12 +117,18 @@ impl Ours {
     /// The call on this book with other bytes put at an offset: where the bytes are no book it is 1, as are the readings, and changes
     /// nothing; where they still are one, both forms agree. Says whether they are one.
     pub fn damaged(&self, call: &Step, at: usize, put: &[u8]) -> Result<bool, String> {
+        match self.with(call, at, put)? {
+            Some(mut other) => other.call(call).map(|_| true),
+            None => Ok(false),
+        }
+    }
+
+    /// This book with other bytes put at an offset. Where they are no book the call is 1, as are the readings, and changes nothing.
+    pub fn with(&self, call: &Step, at: usize, put: &[u8]) -> Result<Option<Self>, String> {
         let mut bytes = self.public.clone();
         bytes[at..at + put.len()].copy_from_slice(put);
         if let Ok(owned) = Book::from_bytes(&bytes) {
-            let mut other = Self { public: bytes, owned };
-            other.call(call)?;
-            return Ok(true);
+            return Ok(Some(Self { public: bytes, owned }));
         }
         let before = bytes.clone();
         let mut answer = Answer::lent(call);
@@ -132,7 +138,7 @@ impl Ours {
         if outcomes != [NO_BOOK; 3] || answer != Answer::lent(call) || bytes != before || figure != [UNWRITTEN; FIGURE_SIZE] {
             return Err(format!("{put:?} put at {at}: no book, but not refused by 1 with all as it was"));
         }
-        Ok(false)
+        Ok(None)
     }
 }
 

@@ -1,6 +1,7 @@
 //! A day, played on both implementations.
 
-use crate::made::{margin, margin_at, Margin};
+use crate::asks::{self, Asks};
+use crate::made::{self, margin, margin_at, Margin};
 use crate::ours::{self, Answer, Ours};
 use crate::{strips, Counts, Day};
 use reference::days::Step;
@@ -8,7 +9,7 @@ use reference::{kind, valuation, Book, Direction, PointKind, Request, Verdict, G
 use std::panic::{catch_unwind, AssertUnwindSafe};
 
 /// The bytes of a book that can be other than zero.
-const USED: usize = 26_888;
+const USED: usize = 27_464;
 
 /// Plays a day on both; says in what they differ.
 pub fn play(day: &Day) -> Result<Counts, String> {
@@ -30,6 +31,7 @@ fn both(day: &Day) -> Result<Counts, String> {
     };
     counts.openings[0] += 1;
     let mut undone = Undone::default();
+    let mut asks = Asks::default();
     for (number, call) in (1..).zip(&day.calls) {
         let at = |why: String| format!("call {number}: {why}");
         compare_records(call, number).map_err(at)?;
@@ -40,12 +42,17 @@ fn both(day: &Day) -> Result<Counts, String> {
         if number % 16 == 8 {
             compare_margin(&theirs, &ours, call, chosen, &mut counts).map_err(at)?;
         }
+        if number % 16 == 4 || number % 4 == 1 && theirs.asks().iter().any(Option::is_some) {
+            asks::compare_changed(&theirs, &ours, call, chosen, &mut counts).map_err(at)?;
+        }
         let was_open = theirs.batch_is_open();
         let beside = strips::Beside::before(&theirs, &ours, call, number);
+        asks.before(&theirs, &ours, call);
         let answer = compare_call(&mut theirs, &mut ours, call).map_err(at)?;
         counts.calls += 1;
         counts.verdicts[usize::from(answer.verdict.number)] += 1;
         beside.compare(&theirs, &ours, &answer, &mut counts).map_err(at)?;
+        asks.compare(&theirs, &ours, call, &answer, &mut counts).map_err(at)?;
         if answer.verdict.is_accepted() && call.record.get(2) == Some(&kind::SETTLE) {
             compare_amounts(&theirs, call, &answer, &mut counts).map_err(at)?;
         }
@@ -219,23 +226,31 @@ fn compare_exposure(theirs: &Book, ours: &Ours, operator: u8) -> Result<(), Stri
     Ok(())
 }
 
-/// The calls that no undo has cut out, with their answers.
+/// The calls with their answers, where an undone batch is an empty one that is kept: its open, and then a keep.
 #[derive(Default)]
 struct Undone<'a> {
-    left: Vec<(&'a Step, Answer)>,
-    /// Where the open batch began.
+    /// None is such a keep.
+    left: Vec<(Option<&'a Step>, Answer)>,
+    /// Where the calls of the open batch begin, after its open.
     batch: Option<usize>,
     batches: u64,
 }
 
+/// A call to keep, which is lent nothing.
+fn keep() -> Step {
+    made::call(&made::simple(kind::KEEP))
+}
+
 impl<'a> Undone<'a> {
     fn follow(&mut self, call: &'a Step, answer: Answer, was_open: bool, is_open: bool) {
-        self.left.push((call, answer));
+        self.left.push((Some(call), answer));
         match (was_open, is_open) {
-            (false, true) => self.batch = Some(self.left.len() - 1),
+            (false, true) => self.batch = Some(self.left.len()),
             (true, false) if call.record.get(2) == Some(&kind::UNDO) => {
                 if let Some(from) = self.batch.take() {
                     self.left.truncate(from);
+                    // Accepted, and nothing lent to it.
+                    self.left.push((None, Answer::lent(&keep())));
                     self.batches += 1;
                 }
             }
@@ -243,23 +258,25 @@ impl<'a> Undone<'a> {
         }
     }
 
-    /// Plays the list without the undone batches: every other call answers the same, and the last bytes are equal.
+    /// Plays the list with empty kept batches in the place of the undone ones: every other call answers the same, and the last bytes are
+    /// equal.
     fn compare(&self, day: &Day, whole: &Ours, counts: &mut Counts) -> Result<(), String> {
         if self.batches == 0 {
             return Ok(());
         }
-        let mut cut = Ours::open(&day.setup)?.map_err(|verdict: Verdict| format!("opened again: {verdict:?}"))?;
+        let mut matched = Ours::open(&day.setup)?.map_err(|verdict: Verdict| format!("opened again: {verdict:?}"))?;
+        let keep = keep();
         for (call, answer) in &self.left {
-            let again = cut.call(call)?;
+            let again = matched.call(call.unwrap_or(&keep))?;
             if again != *answer {
-                return Err(format!("without the undone batches {again:?}, with them {answer:?}"));
+                return Err(format!("with empty kept batches {again:?}, with the undone ones {answer:?}"));
             }
         }
-        if cut.bytes() != whole.bytes() {
+        if matched.bytes() != whole.bytes() {
             return Err(String::from("an undone batch left a trace in the book's bytes"));
         }
         counts.undone += self.batches;
-        counts.without += self.left.len() as u64;
+        counts.matched += self.left.len() as u64;
         Ok(())
     }
 }

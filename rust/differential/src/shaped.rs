@@ -166,7 +166,7 @@ fn shapes() -> Day {
 }
 
 /// What can be wrong in a row: bytes at an offset of it.
-const FAULTS: [(usize, &[u8]); 22] = [
+const FAULTS: [(usize, &[u8]); 24] = [
     (0, &[0xFE]),
     (1, &[0x20]),
     (1, &[0x80]),
@@ -174,6 +174,8 @@ const FAULTS: [(usize, &[u8]); 22] = [
     (2, &[2]),
     (2, &[11]),
     (2, &[12]),
+    (2, &[13]),
+    (2, &[14]),
     (0, &[1, 0, 10]),
     (0, &[0xF9]),
     (0, &[0x7F, 3]),

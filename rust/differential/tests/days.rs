@@ -51,6 +51,10 @@ fn days_of_some_seeds_show_no_difference() {
     assert!(counts.strips.iter().all(|&count| count > 300) && counts.strip_rows > 1_500);
     assert!(counts.of_one.iter().all(|&count| count > 300) && counts.in_turn == counts.strips[0]);
     assert!(counts.verdicts[21] > 5 && counts.verdicts[22] > 5);
+    assert!(counts.asks.iter().chain(&counts.commits).all(|&count| count > 400) && counts.verdicts[23] > 400);
+    assert_eq!(counts.asks_beside, counts.asks.iter().sum::<u64>());
+    assert_eq!(counts.commits_beside, counts.commits[0]);
+    assert!(counts.asks_broken > 500 && counts.asks_kept > 500 && counts.undone > 200);
 }
 
 #[test]
@@ -75,6 +79,30 @@ fn directed_days_of_strips_answer_what_they_are_made_for() {
         let counts = play(day).unwrap();
         let found = [15, 18, 19, 21, 22].map(|number: usize| counts.verdicts[number]);
         assert_eq!((counts.strips[0], found), (strips, numbers), "{name}");
+    }
+}
+
+#[test]
+fn directed_days_of_asks_answer_what_they_are_made_for() {
+    // Asks and commits, accepted and refused, and how often a call answers 11, 14, 15, 18, 19 and 23.
+    let expected = [
+        ("asks", [12, 5], [5, 10], [4, 2, 0, 0, 0, 6]),
+        ("asks-fields", [158, 13], [73, 183], [0, 12, 0, 0, 0, 181]),
+        ("asks-clearing", [82, 1], [19, 63], [5, 1, 0, 0, 1, 60]),
+        ("asks-batches", [37, 5], [10, 22], [0, 5, 0, 0, 0, 22]),
+        ("asks-limits", [182, 60], [70, 159], [0, 0, 0, 51, 10, 159]),
+        ("asks-all", [1024, 0], [32, 32], [0, 0, 0, 0, 0, 32]),
+        ("asks-rank", [50, 244], [0, 294], [106, 16, 60, 5, 5, 76]),
+        ("asks-254", [12, 8], [2, 8], [0, 1, 7, 0, 0, 8]),
+        ("asks-255", [6, 14], [1, 9], [0, 1, 13, 0, 0, 9]),
+        ("asks-256", [0, 20], [0, 10], [0, 1, 19, 0, 0, 10]),
+    ];
+    let days = directed::days();
+    for (name, asks, commits, numbers) in expected {
+        let (_, day) = days.iter().find(|(of, _)| of == name).unwrap();
+        let counts = play(day).unwrap();
+        let found = [11, 14, 15, 18, 19, 23].map(|number: usize| counts.verdicts[number]);
+        assert_eq!((counts.asks, counts.commits, found), (asks, commits, numbers), "{name}");
     }
 }
 

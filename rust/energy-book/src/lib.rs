@@ -1,8 +1,8 @@
 //! The energy account book: one flow day of forward energy accounts in 49,152 bytes.
 //!
-//! Trades are registered by one party, alone or in strips, and confirmed by the other, guarantees cover exposure, batches may be kept or
-//! undone, and after the gate schedules are taken and the day is settled. The work is done by a library whose every function is proved;
-//! this crate hands it slices, and turns its answers into types.
+//! Trades are registered by one party, alone or in strips, or asked for first and then committed, and confirmed by the other, guarantees
+//! cover exposure, batches may be kept or undone, and after the gate schedules are taken and the day is settled. The work is done by a
+//! library whose every function is proved; this crate hands it slices, and turns its answers into types.
 //!
 //! ```
 //! use energy_book::{Account, Book, Operator, Point, Refusal, Request, Setup, Side, Terms, Verdict};

@@ -2,8 +2,8 @@
 
 use crate::{raw, Refusal, FIELDS_SIZE, RECORD_MOST};
 
-/// The lengths of single records by kind. No kind is 0.
-const LENGTHS: [usize; 11] = [0, 20, 20, 6, 12, 3, 3, 3, 3, 14, 3];
+/// The lengths of single records by kind. No kind is 0, and a strip (11) is no single record.
+const LENGTHS: [usize; 14] = [0, 20, 20, 6, 12, 3, 3, 3, 3, 14, 3, 0, 20, 20];
 
 /// The side of a trade or a schedule.
 #[derive(Clone, Copy, Debug, PartialEq, Eq, Hash)]
@@ -127,7 +127,38 @@ impl Request {
         Request::of_kind(10)
     }
 
-    /// The record that says this request; refused by 3 where its kind is none. Fields that the kind has not are left out.
+    /// Kind 12: the account asks what a register would be answered, with the number that the row would get. An accepted ask stands for the
+    /// account, in place of its earlier one, until a call other than an ask is accepted; nothing else is changed.
+    pub fn ask(account: u8, other: u8, terms: Terms) -> Request {
+        Request::trade(12, account, other, terms)
+    }
+
+    /// Kind 13: the account proposes the trade of the ask that stands for it, with all its fields, and is answered as the ask was.
+    ///
+    /// ```
+    /// use energy_book::{Account, Book, Operator, Refusal, Request, Setup, Side, Terms, Verdict};
+    ///
+    /// let setup = Setup {
+    ///     estimates: vec![5_000; 24],
+    ///     operators: vec![Operator { guarantee: 1_000_000, maintenance: 0 }],
+    ///     accounts: vec![Account::same_all_day(1, 1, 20_000, 0, 24), Account::same_all_day(1, 2, 0, 20_000, 24)],
+    ///     points: vec![],
+    ///     zones: 1,
+    /// };
+    /// let mut book = Book::open(&setup.to_bytes())?;
+    /// let sale = |quantity| Terms { code: 1, side: Side::Sells, first: 9, last: 9, quantity };
+    ///
+    /// assert_eq!(book.submit(&Request::ask(1, 2, sale(20_001))), Verdict::Refused(Refusal::MarginBroken { hour: 9 }));
+    /// assert_eq!(book.submit(&Request::ask(1, 2, sale(20_000))), Verdict::Accepted { number: 1 });
+    /// assert_eq!(book.submit(&Request::commit(1, 2, sale(19_999))), Verdict::Refused(Refusal::NoStandingAsk));
+    /// assert_eq!(book.submit(&Request::commit(1, 2, sale(20_000))), Verdict::Accepted { number: 1 });
+    /// # Ok::<(), Refusal>(())
+    /// ```
+    pub fn commit(account: u8, other: u8, terms: Terms) -> Request {
+        Request::trade(13, account, other, terms)
+    }
+
+    /// The record that says this request; refused by 3 where its kind is none, or that of a strip. Fields that the kind has not are left out.
     ///
     /// ```
     /// use energy_book::Request;

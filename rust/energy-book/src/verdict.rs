@@ -7,22 +7,23 @@ use std::fmt;
 #[derive(Clone, Copy, Debug, PartialEq, Eq, Hash)]
 #[must_use]
 pub enum Verdict {
-    /// The number is the row of register and confirm, the first row of a strip, the place of schedule, the rows that undo struck; else
-    /// 0.
+    /// The number is the row of register, confirm and commit, the row that an ask would get, the first row of a strip, the place of
+    /// schedule, the rows that undo struck; else 0.
     Accepted { number: u16 },
     /// No lent byte was changed.
     Refused(Refusal),
 }
 
-/// Why a call was refused, in the order of the numbers 1 to 22. Of several that apply the lowest is given, but that
-/// [`Refusal::StripCount`] comes after 5 and before 6, and [`Refusal::StripTwins`] after 14 and before 15.
+/// Why a call was refused, in the order of the numbers 1 to 23. Of several that apply the lowest is given, but that
+/// [`Refusal::StripCount`] comes after 5 and before 6, [`Refusal::StripTwins`] after 14 and before 15, and
+/// [`Refusal::NoStandingAsk`] after 13 and before 14.
 #[derive(Clone, Copy, Debug, PartialEq, Eq, Hash)]
 pub enum Refusal {
     /// Not a book, or not 49,152 bytes.
     NotABook,
     /// A record under 3 bytes, with no kind, or with a bit past the fields.
     Unreadable,
-    /// The kind is not 1 to 11; of a single record that is read or written not 1 to 10, of a row of a strip not 1.
+    /// The kind is not 1 to 13; of a single record that is read or written, 11 too; of a row of a strip, any but 1.
     UnknownKind,
     /// How many wanted fields are missing, and how many stand unwanted.
     WrongMap { missing: u16, unwanted: u16 },
@@ -62,6 +63,8 @@ pub enum Refusal {
     StripCount,
     /// Two rows of a strip are alike in counterparty and code.
     StripTwins,
+    /// No ask with the fields of this commit stands for its account.
+    NoStandingAsk,
 }
 
 impl Refusal {
@@ -90,6 +93,7 @@ impl Refusal {
             Refusal::SchedulesFull => (20, 0, 0),
             Refusal::StripCount => (21, 0, 0),
             Refusal::StripTwins => (22, 0, 0),
+            Refusal::NoStandingAsk => (23, 0, 0),
         }
     }
 
@@ -117,6 +121,7 @@ impl Refusal {
             20 => Refusal::SchedulesFull,
             21 => Refusal::StripCount,
             22 => Refusal::StripTwins,
+            23 => Refusal::NoStandingAsk,
             _ => panic!("verdict {number} is unknown: the library is of another version"),
         }
     }
@@ -145,6 +150,7 @@ impl Refusal {
             Refusal::SchedulesFull => "no schedule is left",
             Refusal::StripCount => "strip has not 1 to 24 rows",
             Refusal::StripTwins => "two rows of the strip are alike",
+            Refusal::NoStandingAsk => "no ask with these fields stands",
         }
     }
 }

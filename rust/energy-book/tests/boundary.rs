@@ -106,6 +106,8 @@ fn requests_and_records_there_and_back() {
         Request::close_gate(),
         Request::schedule(5, Side::Buys, 6, 7, u32::MAX),
         Request::settle(),
+        Request::ask(1, 2, sale(u64::MAX, u32::MAX)),
+        Request::commit(255, 254, sale(1, 2).mirrored()),
     ];
     for request in requests {
         assert_eq!(Request::from_fields(&request.to_fields()), request);
@@ -122,7 +124,7 @@ fn small_request(numbers: &mut Numbers) -> Request {
     let (account, other, first) = (small(2), small(2), small(2));
     let side = if small(2) == 1 { Side::Sells } else { Side::Buys };
     let terms = Terms { code: small(2).into(), side, first, last: 2, quantity: small(2).into() };
-    match small(16) {
+    match small(18) {
         1..=4 => Request::register(account, other, terms),
         5..=8 => Request::confirm(account, other, terms),
         9 => Request::withdraw(account, small(8).into()),
@@ -132,7 +134,9 @@ fn small_request(numbers: &mut Numbers) -> Request {
         13 => Request::keep(),
         14 => [Request::close_gate(), Request::open_batch()][usize::from(small(8) > 1)],
         15 => Request::schedule(1, side, first, small(2).into(), 0),
-        _ => Request::settle(),
+        16 => Request::settle(),
+        17 => Request::ask(account, other, terms),
+        _ => Request::commit(account, other, terms),
     }
 }
 
@@ -168,9 +172,15 @@ fn some_record(numbers: &mut Numbers) -> Vec<u8> {
 fn any_record_leaves_a_book_and_a_refusal_leaves_all() {
     let mut numbers = Numbers(88_172_645_463_325_252);
     let mut book = traded().as_bytes().to_vec();
-    let mut accepted = [0; 12];
+    let mut accepted = [0; 14];
+    let mut last = Vec::new();
     for _ in 0..20_000 {
-        let record = some_record(&mut numbers);
+        let mut record = some_record(&mut numbers);
+        // What was asked last is committed, now and then.
+        if last.get(2) == Some(&12) && numbers.below(2) == 0 {
+            record = [&last[..2], &[13], &last[3..]].concat();
+        }
+        last = record.clone();
         let before = book.clone();
         let mut results = vec![MARK; numbers.below(300) as usize];
         let mut balances = vec![MARK; numbers.below(200) as usize];
@@ -210,6 +220,54 @@ fn a_damaged_book_is_refused_or_still_a_book() {
         refused += u32::from(!stands);
     }
     assert!(refused > 2_000);
+}
+
+/// Where the asks begin, and the bytes of each.
+const ASKS_AT: usize = 26_888;
+const ASK: usize = 18;
+
+#[test]
+fn a_book_has_only_asks_that_would_be_registered() {
+    // In hour 1 account 1 has sold 7 and proposed to sell 9 with code 2; it asks for 20 more.
+    let mut book = traded();
+    assert_eq!(book.submit(&Request::ask(1, 2, sale(3, 20))), Verdict::Accepted { number: 3 });
+    let whole = book.as_bytes().to_vec();
+    assert_eq!(whole[ASKS_AT..ASKS_AT + ASK], [1, 2, 3, 0, 0, 0, 0, 0, 0, 0, 1, 1, 1, 20, 0, 0, 0, 1]);
+    assert!(whole[ASKS_AT + ASK..].iter().all(|byte| *byte == 0));
+    let stands_with = |at: usize, put: &[u8]| {
+        let mut book = whole.clone();
+        book[ASKS_AT + at..ASKS_AT + at + put.len()].copy_from_slice(put);
+        raw::is_book(&book)
+    };
+    assert!(stands_with(0, &[0; ASK]));
+    // Another code, other hours, and as many kWh as the margin leaves.
+    assert!(stands_with(2, &[9]) && stands_with(11, &[24, 24]) && stands_with(13, &19_984u32.to_le_bytes()));
+    let faults: [(usize, &[u8]); 17] = [
+        (0, &[0]),
+        (0, &[2]),
+        (0, &[2, 1]),
+        (0, &[3]),
+        (1, &[0]),
+        (1, &[1]),
+        (1, &[3]),
+        (2, &[2]),
+        (10, &[0]),
+        (10, &[2]),
+        (11, &[2]),
+        (12, &[25]),
+        (13, &[0]),
+        (13, &[0x11, 0x4E]),
+        (17, &[0]),
+        (17, &[2]),
+        (17, &[3]),
+    ];
+    for (at, put) in faults {
+        assert!(!stands_with(at, put), "{put:?} at {at}");
+    }
+    // The same in another place, and anything in a place that no account has.
+    let row: Vec<u8> = whole[ASKS_AT..ASKS_AT + ASK].to_vec();
+    assert!((1..32).all(|place| !stands_with(ASK * place, &row)));
+    assert!((ASK..BOOK_SIZE - ASKS_AT).step_by(7).all(|at| !stands_with(at, &[1])));
 }
 
 /// Where the first lower margins of accounts 1 and 2 begin, after 5 counts, 24 estimates and 2 operators; the upper ones are 96 bytes on.

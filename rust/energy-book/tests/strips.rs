@@ -68,6 +68,8 @@ fn what_refuses_a_strip() {
     assert_eq!(refusal(AMPLE, &whole), None);
     assert_eq!(refusal_with(Request::confirm(1, 2, terms)), Some(Refusal::UnknownKind));
     assert_eq!(refusal_with(Request::withdraw(1, 1)), Some(Refusal::UnknownKind));
+    assert_eq!(refusal_with(Request::ask(1, 2, terms)), Some(Refusal::UnknownKind));
+    assert_eq!(refusal_with(Request::commit(1, 2, terms)), Some(Refusal::UnknownKind));
     assert_eq!(refusal_with(Request::register(2, 1, terms)), Some(Refusal::OutOfRange { bit: 1 }));
     assert_eq!(refusal_with(register(Terms { last: 25, quantity: 0, ..terms })), Some(Refusal::OutOfRange { bit: 6 }));
     assert_eq!(refusal_with(Request::register(1, 1, terms)), Some(Refusal::SameAccount));
@@ -99,7 +101,7 @@ fn counts_and_lengths() {
         let expected = if length < 3 { Refusal::Unreadable } else { Refusal::WrongLength };
         assert_eq!(book.call(&record, &[], &mut [], &mut []), Verdict::Refused(expected));
     }
-    assert_eq!(book.call(&[1, 0, 12], &[], &mut [], &mut []), Verdict::Refused(Refusal::UnknownKind));
+    assert_eq!(book.call(&[1, 0, 14], &[], &mut [], &mut []), Verdict::Refused(Refusal::UnknownKind));
     assert_eq!(book.call(&whole, &[], &mut [], &mut []), accepted(1));
 }
 

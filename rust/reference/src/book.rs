@@ -1,9 +1,11 @@
 //! The book of one flow day.
 
+mod asks;
 mod stands;
 mod strip;
 
 use crate::ledger::Ledger;
+use crate::request::is_trade;
 use crate::settlement::{self, Prices, Schedule, MOST_SCHEDULES};
 use crate::strip::is_strip;
 use crate::valuation::{self, Figures};
@@ -32,6 +34,8 @@ pub struct Book {
     saved: Option<Box<Ledger>>,
     /// By place, in order of receipt.
     schedules: Vec<Schedule>,
+    /// The ask that stands for each account, as the row that it would make.
+    asks: Vec<Option<Row>>,
 }
 
 impl Book {
@@ -40,6 +44,7 @@ impl Book {
         let setup = Setup::read(setup)?;
         Ok(Self {
             ledger: Ledger::new(&setup),
+            asks: vec![None; setup.accounts.len()],
             setup,
             phase: Phase::Registration,
             saved: None,
@@ -57,20 +62,31 @@ impl Book {
         results: &mut [u8],
         balances: &mut [u8],
     ) -> Verdict {
+        let verdict = self
+            .take(record, prices, results, balances)
+            .unwrap_or_else(|refused| refused);
+        // What was accepted has a kind.
+        if verdict.is_accepted() && record[2] != kind::ASK {
+            self.clear_asks();
+        }
+        verdict
+    }
+
+    /// Takes a request, and leaves the clearing of asks to `call`.
+    fn take(
+        &mut self,
+        record: &[u8],
+        prices: &[u8],
+        results: &mut [u8],
+        balances: &mut [u8],
+    ) -> Result<Verdict, Verdict> {
         if is_strip(record) {
-            return self.strip(record).unwrap_or_else(|refused| refused);
+            return self.strip(record);
         }
-        let request = match read(record) {
-            Ok(request) => request,
-            Err(verdict) => return verdict,
-        };
-        if let Err(verdict) = self.check_input(&request, prices, results, balances) {
-            return verdict;
-        }
-        if let Err(verdict) = self.check_stage(request.kind) {
-            return verdict;
-        }
-        match request.kind {
+        let request = read(record)?;
+        self.check_input(&request, prices, results, balances)?;
+        self.check_stage(request.kind)?;
+        Ok(match request.kind {
             kind::REGISTER => self.ledger.register(&self.setup, &request),
             kind::CONFIRM => self.ledger.confirm(&self.setup, &request),
             kind::WITHDRAW => self.ledger.withdraw(&self.setup, &request),
@@ -80,8 +96,10 @@ impl Book {
             kind::KEEP => self.keep(),
             kind::CLOSE_GATE => self.close_gate(),
             kind::SCHEDULE => self.schedule(&request),
+            kind::ASK => self.ask(&request),
+            kind::COMMIT => self.commit(&request),
             _ => self.settle(prices, results, balances),
-        }
+        })
     }
 
     /// The net position of an account in an hour, in kWh.
@@ -178,9 +196,7 @@ impl Book {
         if let Some(field) = self.field_at_fault(request) {
             return Err(out_of_range(field));
         }
-        if matches!(request.kind, kind::REGISTER | kind::CONFIRM)
-            && request.account == request.other
-        {
+        if is_trade(request.kind) && request.account == request.other {
             return Err(Verdict::refused(refusal::SAME_ACCOUNT));
         }
         Ok(())
@@ -235,8 +251,8 @@ impl Book {
     /// Whether a kind has its time now: 11 to 13.
     fn check_stage(&self, kind: u8) -> Result<(), Verdict> {
         let phase = match kind {
-            kind::REGISTER..=kind::CLOSE_GATE | kind::STRIP => Phase::Registration,
-            _ => Phase::Schedules,
+            kind::SCHEDULE | kind::SETTLE => Phase::Schedules,
+            _ => Phase::Registration,
         };
         if self.phase != phase {
             return Err(Verdict::refused(refusal::PHASE));

@@ -8,7 +8,7 @@
 
 #[cfg(test)]
 pub(crate) mod damages;
-mod stands;
+pub(crate) mod stands;
 mod strip;
 
 use crate::trade::Span;
@@ -89,6 +89,18 @@ impl Ledger {
     /// Adds a pending row.
     pub fn register(&mut self, setup: &Setup, request: &Request) -> Verdict {
         let row = Row::proposed(request);
+        let verdict = self.proposal(setup, &row);
+        if verdict.is_accepted() {
+            let propose = |p: Position| p.with_proposal(row.side, row.quantity as i32);
+            self.apply(setup, Span::of(&row, row.account), propose);
+            self.rows.push(row);
+        }
+        verdict
+    }
+
+    /// What the proposal of a row is answered, with the number that the row has
+    /// or would have.
+    pub fn proposal(&self, setup: &Setup, row: &Row) -> Verdict {
         if self
             .find_pending(row.account, row.counterparty, row.code)
             .is_some()
@@ -98,7 +110,7 @@ impl Ledger {
         if self.rows.len() == MOST_ROWS {
             return Verdict::refused(refusal::ROWS_FULL);
         }
-        let span = Span::of(&row, row.account);
+        let span = Span::of(row, row.account);
         let propose = |p: Position| p.with_proposal(row.side, row.quantity as i32);
         if let Some(hour) = self.broken_margin(setup, span, propose) {
             return Verdict::refused_with(refusal::MARGIN, hour, 0);
@@ -107,9 +119,7 @@ impl Ledger {
         if !self.bears(setup, setup.account(row.account).operator, rise) {
             return Verdict::refused(refusal::GUARANTEE);
         }
-        self.apply(setup, span, propose);
-        self.rows.push(row);
-        Verdict::accepted(self.rows.len() as u16)
+        Verdict::accepted(self.rows.len() as u16 + 1)
     }
 
     /// Confirms the pending row that the other party proposed.

@@ -3,7 +3,8 @@
 //! A [`Book`] holds one flow day: it is opened from set-up bytes and then
 //! takes requests, each a short record. Trades are registered by one account,
 //! alone or in a strip of several, all or none, and confirmed by its
-//! counterparty while the gate is open; schedules are taken after the gate
+//! counterparty while the gate is open; an account may first ask what a register
+//! would be answered, and then commit to it; schedules are taken after the gate
 //! closes; settlement judges the schedules and draws up
 //! each operator's balance. Every call answers with a [`Verdict`]. Calls trust
 //! what the book holds; [`Book::stands`] checks it, for one who does not.

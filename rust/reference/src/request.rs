@@ -31,6 +31,10 @@ pub mod kind {
     pub const SETTLE: u8 = 10;
     /// Propose several trades of one account, all or none.
     pub const STRIP: u8 = 11;
+    /// Ask what a proposal would be answered.
+    pub const ASK: u8 = 12;
+    /// Propose the trade that the account has asked about.
+    pub const COMMIT: u8 = 13;
 }
 
 /// The bits of the map, one for each field.
@@ -84,10 +88,18 @@ pub struct Request {
     pub price: u32,
 }
 
+/// Whether a kind has the fields of a trade: two accounts, a code and terms.
+pub(crate) const fn is_trade(kind: u8) -> bool {
+    matches!(
+        kind,
+        kind::REGISTER | kind::CONFIRM | kind::ASK | kind::COMMIT
+    )
+}
+
 /// The map and the length of a kind's record, if the kind has single records.
 pub const fn layout(kind: u8) -> Option<(u16, usize)> {
     match kind {
-        kind::REGISTER | kind::CONFIRM => Some((0x00FF, 20)),
+        _ if is_trade(kind) => Some((0x00FF, 20)),
         kind::WITHDRAW => Some((0x0103, 6)),
         kind::GUARANTEE => Some((0x0601, 12)),
         kind::OPEN_BATCH..=kind::CLOSE_GATE | kind::SETTLE => Some((0x0001, 3)),
@@ -133,7 +145,7 @@ pub fn read(record: &[u8]) -> Result<Request, Verdict> {
         ..Request::default()
     };
     match kind {
-        kind::REGISTER | kind::CONFIRM => {
+        _ if is_trade(kind) => {
             request.account = record[3];
             request.other = record[4];
             request.code = u64_at(record, 5);
@@ -175,7 +187,7 @@ pub fn write(request: &Request, buffer: &mut [u8]) -> Verdict {
     record[..2].copy_from_slice(&map.to_le_bytes());
     record[2] = request.kind;
     match request.kind {
-        kind::REGISTER | kind::CONFIRM => {
+        kind if is_trade(kind) => {
             record[3] = request.account;
             record[4] = request.other;
             record[5..13].copy_from_slice(&request.code.to_le_bytes());

@@ -6,8 +6,8 @@
 pub struct Verdict {
     /// 0 for acceptance, else one of the numbers in [`refusal`].
     pub number: u8,
-    /// The first detail: a row number (of a strip its first), place, hour, field
-    /// bit, offset or count.
+    /// The first detail: a row number (of a strip its first, of an ask the one
+    /// that its row would get), place, hour, field bit, offset or count.
     pub first: u16,
     /// The second detail: the count of unwanted fields, at [`refusal::MAP`].
     pub second: u16,
@@ -44,12 +44,13 @@ impl Verdict {
 }
 
 /// The numbers of the refusals. Of several that apply the lowest is given, but
-/// that 21 comes after 5 and before 6, and 22 after 14 and before 15.
+/// that 21 comes after 5 and before 6, 22 after 14 and before 15, and 23 after 13
+/// and before 14.
 pub mod refusal {
     /// Record under 3 bytes, without a kind, or with an unknown field.
     pub const RECORD: u8 = 2;
-    /// The kind is not 1 to 11; of a record read or written by itself, not 1 to
-    /// 10; of a row of a strip, not 1.
+    /// The kind is not 1 to 13; of a record read or written by itself, 11 too;
+    /// of a row of a strip, any but 1.
     pub const KIND: u8 = 3;
     /// The map is not the kind's: wanted fields missing, fields unwanted.
     pub const MAP: u8 = 4;
@@ -89,4 +90,6 @@ pub mod refusal {
     pub const STRIP_COUNT: u8 = 21;
     /// Two rows of a strip have the same counterparty and code.
     pub const STRIP_TWINS: u8 = 22;
+    /// No ask with these fields stands for the account.
+    pub const NO_ASK: u8 = 23;
 }

@@ -19,7 +19,7 @@ const UNWRITTEN: u8 = 0xA5;
 fn every_verdict_occurs() {
     let mut opened = BTreeMap::new();
     let mut called = BTreeMap::new();
-    let mut by_kind = [[0u32; 2]; 11];
+    let mut by_kind = [[0u32; 2]; 14];
     let mut results_seen = [0u32; 4];
     let mut confirms = BTreeMap::new();
     let mut at_limits = AtLimits::default();
@@ -65,11 +65,12 @@ fn every_verdict_occurs() {
     println!("{at_limits:?}");
     println!("schedule results 0 to 3: {results_seen:?}");
     assert_eq!(opened.keys().copied().collect::<Vec<_>>(), [0, 8, 9]);
-    let expected: Vec<u8> = [0].into_iter().chain(2..=7).chain(10..=22).collect();
+    let expected: Vec<u8> = [0].into_iter().chain(2..=7).chain(10..=23).collect();
     assert_eq!(called.keys().copied().collect::<Vec<_>>(), expected);
-    assert!(by_kind[1..]
-        .iter()
-        .all(|counts| counts.iter().all(|&n| n > 100)));
+    // A strip is no single record.
+    let is_seen = |counts: &[u32; 2]| counts.iter().all(|&n| n > 100);
+    let mut kinds = by_kind.iter().enumerate().skip(1);
+    assert!(kinds.all(|(kind, counts)| is_seen(counts) == (kind != kind::STRIP.into())));
     assert!(results_seen.iter().all(|&count| count > 100));
     assert!(at_limits.just_passed > 5_000 && at_limits.missed_by_one > 5_000);
 }
@@ -312,37 +313,58 @@ fn audit(book: &Book) {
 }
 
 #[test]
-fn an_undone_batch_leaves_no_trace() {
-    let mut undone = 0;
+fn an_undone_batch_is_as_an_empty_kept_one() {
+    let keep = Step {
+        record: vec![1, 0, kind::KEEP],
+        prices: Vec::new(),
+        results: 0,
+        balances: 0,
+    };
+    let kept_empty = (Verdict::accepted(0), Vec::new(), Vec::new());
+    let (mut undone, mut otherwise_without) = (0, 0);
     for seed in 20_000..20_400 {
         let (setup, steps) = day(seed);
         let Ok(mut book) = Book::open(&setup) else {
             continue;
         };
-        // Answers to the calls so far that no undo has cut out, and where the
-        // open batch began.
+        // Answers to the calls so far, but of an undone batch only those of its
+        // open and of a keep; and where the open batch began. Then the same
+        // with nothing in the place of such a batch.
         let mut kept = Vec::new();
         let mut batch = None;
+        let mut without = Vec::new();
+        let mut batch_without = None;
         for step in &steps {
             let was_open = book.batch_is_open();
             let answer = play(&mut book, step);
-            kept.push((step, answer));
+            kept.push((step, answer.clone()));
+            without.push((step, answer));
             match (was_open, book.batch_is_open()) {
-                (false, true) => batch = Some(kept.len() - 1),
+                (false, true) => {
+                    batch = Some(kept.len());
+                    batch_without = Some(without.len() - 1);
+                }
                 (true, false) if step.record[2] == kind::UNDO => {
                     kept.truncate(batch.take().unwrap());
+                    kept.push((&keep, kept_empty.clone()));
+                    without.truncate(batch_without.take().unwrap());
                     undone += 1;
                 }
                 _ => {}
             }
         }
-        let mut cut = Book::open(&setup).unwrap();
+        let mut matched = Book::open(&setup).unwrap();
         for (step, answer) in kept {
-            assert_eq!(play(&mut cut, step), answer);
+            assert_eq!(play(&mut matched, step), answer);
         }
-        assert_eq!(cut, book);
+        assert_eq!(matched, book);
+        // An ask that the open has cleared stands in the list without it.
+        let mut cut = Book::open(&setup).unwrap();
+        let is_otherwise = |(step, answer): (&Step, _)| play(&mut cut, step) != answer;
+        otherwise_without += u32::from(without.into_iter().any(is_otherwise));
     }
-    assert!(undone > 100);
+    println!("{undone} undone, {otherwise_without} days otherwise without them");
+    assert!(undone > 100 && otherwise_without > 5);
 }
 
 #[test]

@@ -118,7 +118,7 @@ fn with_one(step: &Step, row: usize, change: i32) -> Vec<u8> {
 fn strips_come_within_one_of_their_limits() {
     // Just accepted, and refused for one kWh: by a margin, by the guarantee.
     let (mut met, mut passed) = ([0; 2], [0; 2]);
-    each_step(5_000..7_000, |before, step, verdict, _| {
+    each_step(5_000..7_500, |before, step, verdict, _| {
         if !says_strip(step) || step.record.get(3).is_none_or(|&count| count < 2) {
             return;
         }

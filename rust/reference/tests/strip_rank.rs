@@ -5,8 +5,8 @@ use common::*;
 use reference::*;
 
 /// The order in which numbers are looked for; opening's two have no part in it.
-const RANK: [u8; 20] = [
-    1, 2, 3, 4, 5, 21, 6, 7, 10, 11, 12, 13, 14, 22, 15, 16, 17, 18, 19, 20,
+const RANK: [u8; 21] = [
+    1, 2, 3, 4, 5, 21, 6, 7, 10, 11, 12, 13, 23, 14, 22, 15, 16, 17, 18, 19, 20,
 ];
 
 fn rank(verdict: Verdict) -> usize {
@@ -42,9 +42,9 @@ fn a_strip_meets_its_own_numbers_first() {
         let [low, high] = map.to_le_bytes();
         assert_eq!(answer(&[low, high, 11, 0]), refused(2));
     }
-    // 2 before 3, and 12 is no kind.
-    assert_eq!(answer(&[0, 0, 12]), refused(2));
-    assert_eq!(answer(&[1, 0, 12]), refused(3));
+    // 2 before 3, and 14 is no kind.
+    assert_eq!(answer(&[0, 0, 14]), refused(2));
+    assert_eq!(answer(&[1, 0, 14]), refused(3));
     // 4 before 5: how many fields stand unwanted; none but the kind is wanted.
     for (map, unwanted) in [(3u16, 1), (0x00FF, 7), (0x1FFF, 12)] {
         let [low, high] = map.to_le_bytes();
@@ -80,14 +80,14 @@ fn the_length_comes_before_the_count() {
     let mut record = strip(25);
     record[4] = 0;
     assert_eq!(answer(&record), refused(21));
-    record[2] = 12;
+    record[2] = 14;
     assert_eq!(answer(&record), refused(3));
 }
 
 /// A fault of one row: bytes put at an offset of it, and what it gives alone.
 type Fault = (&'static str, usize, &'static [u8], Verdict);
 
-const FAULTS: [Fault; 18] = [
+const FAULTS: [Fault; 20] = [
     ("no kind", 0, &[0xFE], refused(2)),
     ("a bit past the fields", 1, &[0x20], refused(2)),
     ("the last bit", 1, &[0x80], refused(2)),
@@ -95,6 +95,8 @@ const FAULTS: [Fault; 18] = [
     ("kind 0", 2, &[0], refused(3)),
     ("kind 2", 2, &[2], refused(3)),
     ("kind 11", 2, &[11], refused(3)),
+    ("kind 12", 2, &[12], refused(3)),
+    ("kind 13", 2, &[13], refused(3)),
     ("a settle's map and kind", 0, &[1, 0, 10], refused(3)),
     ("two fields missing", 0, &[0xF9], with(4, 2, 0)),
     ("one missing, two unwanted", 0, &[0x7F, 3], with(4, 1, 2)),

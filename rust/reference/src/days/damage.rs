@@ -50,8 +50,8 @@ pub(crate) fn record(random: &mut Random, record: &mut Vec<u8>) {
             let flipped = random.within(0..=15);
             record[(flipped / 8) as usize] ^= 1 << (flipped % 8);
         }
-        4 => record[2] = random.pick(&[0, 12, 255]),
-        5 => record[2] = random.within(kind::REGISTER.into()..=kind::STRIP.into()) as u8,
+        4 => record[2] = random.pick(&[0, 14, 255]),
+        5 => record[2] = random.within(kind::REGISTER.into()..=kind::COMMIT.into()) as u8,
         6 => {
             let at = random.within(0..=record.len() as u64 - 1) as usize;
             record[at] = random.next() as u8;
@@ -62,7 +62,7 @@ pub(crate) fn record(random: &mut Random, record: &mut Vec<u8>) {
         }
         _ => {
             // Another kind with its own map, and a length that seldom fits.
-            let kind = random.within(kind::REGISTER.into()..=kind::STRIP.into()) as u8;
+            let kind = random.within(kind::REGISTER.into()..=kind::COMMIT.into()) as u8;
             let map = layout(kind).map_or(1, |(map, _)| map);
             record[..2].copy_from_slice(&map.to_le_bytes());
             record[2] = kind;

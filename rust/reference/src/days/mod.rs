@@ -4,6 +4,7 @@
 //! them, which takes a book that has followed the day so far: many just pass,
 //! and many are refused by one unit. The same seed makes the same day.
 
+mod asks;
 mod damage;
 mod random;
 mod schedules;
@@ -63,6 +64,7 @@ pub fn day(seed: u64) -> (Vec<u8>, Vec<Step>) {
         book,
         steps: Vec::new(),
         crowded,
+        asked: None,
     };
     maker.registration();
     maker.closing();
@@ -97,6 +99,8 @@ struct Maker {
     /// Whether the day is to have more trades and schedules than there is
     /// place for.
     crowded: bool,
+    /// The latest ask, be it refused or cleared.
+    asked: Option<Request>,
 }
 
 impl Maker {
@@ -124,14 +128,19 @@ impl Maker {
                 (ends, kind::KEEP),
                 (1, kind::SCHEDULE),
                 (1, kind::SETTLE),
-                (7, kind::STRIP),
+                (9, kind::STRIP),
+                (9, kind::ASK),
+                (5, kind::COMMIT),
             ]);
             let is_pending = |row: &Row| row.status == Status::Pending;
             let can_confirm = self.book.rows().iter().any(is_pending);
-            if kind == kind::CONFIRM && !can_confirm && self.random.chance(80) {
-                self.step(kind::REGISTER);
-            } else {
-                self.step(kind);
+            let can_commit = self.book.asks().iter().any(Option::is_some);
+            match kind {
+                kind::CONFIRM if !can_confirm && self.random.chance(80) => {
+                    self.step(kind::REGISTER);
+                }
+                kind::COMMIT if !can_commit && self.random.chance(70) => self.step(kind::ASK),
+                _ => self.step(kind),
             }
         }
     }
@@ -193,7 +202,7 @@ impl Maker {
 
     fn any_kind(&mut self) -> u8 {
         self.random
-            .within(kind::REGISTER.into()..=kind::STRIP.into()) as u8
+            .within(kind::REGISTER.into()..=kind::COMMIT.into()) as u8
     }
 
     /// Makes a call of a kind, at times damaged.
@@ -204,6 +213,49 @@ impl Maker {
         if kind == kind::STRIP && registered > 0 {
             self.end_some(rows);
         }
+        if kind == kind::ASK && self.book.phase() == Phase::Registration {
+            self.follow_ask();
+        }
+    }
+
+    /// More asks at times, often a commit, and now and then any other call before
+    /// it.
+    fn follow_ask(&mut self) {
+        while self.random.chance(35) {
+            self.step_alone(kind::ASK);
+        }
+        match self.random.within(0..=19) {
+            0..=2 => {
+                let kind = self.random.within(1..=7) as u8;
+                self.step_alone(kind);
+            }
+            3..=4 if !self.book.batch_is_open() => self.batch_between(),
+            _ => {}
+        }
+        let stands = self.book.asks().iter().any(Option::is_some);
+        if self.random.chance(if stands { 75 } else { 35 }) {
+            self.step_alone(kind::COMMIT);
+        }
+    }
+
+    /// A batch of a few calls, mostly undone, after which the latest ask is as it
+    /// was before.
+    fn batch_between(&mut self) {
+        let asked = self.asked;
+        self.step_alone(kind::OPEN_BATCH);
+        for _ in 0..self.random.within(0..=3) {
+            let kind = self.random.pick(&[
+                kind::REGISTER,
+                kind::CONFIRM,
+                kind::GUARANTEE,
+                kind::ASK,
+                kind::COMMIT,
+            ]);
+            self.step_alone(kind);
+        }
+        let end = self.random.pick(&[kind::UNDO, kind::UNDO, kind::KEEP]);
+        self.step_alone(end);
+        self.asked = asked;
     }
 
     /// Confirms or withdraws some of the rows after so many, now and then.
@@ -231,11 +283,16 @@ impl Maker {
             kind::WITHDRAW => trades::withdraw(random, book),
             kind::GUARANTEE => trades::guarantee(random, book),
             kind::SCHEDULE => schedules::schedule(random, book),
+            kind::ASK => asks::ask(random, book, self.crowded),
+            kind::COMMIT => asks::commit(random, book, self.asked),
             _ => Request {
                 kind,
                 ..Request::default()
             },
         };
+        if kind == kind::ASK {
+            self.asked = Some(request);
+        }
         if random.chance(3) {
             damage::out_of_range(random, book, &mut request);
         }

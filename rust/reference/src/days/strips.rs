@@ -135,7 +135,7 @@ fn fault(random: &mut Random, book: &Book, rows: &mut [Request]) {
     let row = &mut rows[at];
     match random.within(0..=7) {
         0 => row.other = row.account,
-        1 => row.kind = random.within(0..=kind::STRIP.into()) as u8,
+        1 => row.kind = random.within(0..=kind::COMMIT.into()) as u8,
         2 => row.account = random.one_of(book.setup().accounts.len()),
         3 => std::mem::swap(&mut row.account, &mut row.other),
         _ => {
@@ -155,7 +155,7 @@ fn damage_row(random: &mut Random, record: &mut [u8]) {
             let flipped = random.within(0..=15);
             row[(flipped / 8) as usize] ^= 1 << (flipped % 8);
         }
-        2 => row[2] = random.pick(&[0, 2, 3, 10, 11, 12, 255]),
+        2 => row[2] = random.pick(&[0, 2, 3, 10, 11, 12, 13, 14, 255]),
         _ => row[random.within(0..=19) as usize] = random.next() as u8,
     }
 }

@@ -76,7 +76,8 @@ impl Ledger {
     }
 }
 
-fn is_allowed(row: &Row, setup: &Setup) -> bool {
+/// Whether the fields of a row are in range, and its accounts two.
+pub(crate) fn is_allowed(row: &Row, setup: &Setup) -> bool {
     counts(row.account, setup.accounts.len())
         && counts(row.counterparty, setup.accounts.len())
         && row.account != row.counterparty

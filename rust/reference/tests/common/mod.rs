@@ -172,6 +172,22 @@ pub fn mirror(request: Request) -> Request {
     }
 }
 
+/// The ask for what a request would register.
+pub fn ask(request: Request) -> Request {
+    Request {
+        kind: kind::ASK,
+        ..request
+    }
+}
+
+/// The commit of what a request would register.
+pub fn commit(request: Request) -> Request {
+    Request {
+        kind: kind::COMMIT,
+        ..request
+    }
+}
+
 pub fn withdraw(account: u8, number: u16) -> Request {
     Request {
         account,

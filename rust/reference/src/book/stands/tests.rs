@@ -3,7 +3,7 @@
 use crate::days::{day, Step};
 use crate::ledger::{damages, Ledger};
 use crate::{kind, layout, write, Account, Book, Direction, Operator, Phase, Point, PointKind};
-use crate::{Request, Schedule, Setup};
+use crate::{Request, Row, Schedule, Setup, Status};
 
 /// Two operators with an account each, and a mixed point.
 fn setup() -> Setup {
@@ -292,6 +292,46 @@ fn a_schedule_out_of_range_is_found() {
     is_found("257 schedules", &closed(), |book| {
         book.schedules = vec![book.schedules[0]; 257];
     });
+}
+
+#[test]
+fn an_ask_that_cannot_stand_is_found() {
+    // A register would be accepted for each of these, after the batch too.
+    let good = Row::proposed(&sale((3, 4), 1_000, 9));
+    let (mut plain, mut batch) = (registration(), batch());
+    for book in [&mut plain, &mut batch] {
+        book.asks[0] = Some(good);
+        assert!(book.stands());
+        is_found("the other account's", book, |book| {
+            book.asks = vec![None, Some(good)];
+        });
+        is_found("confirmed", book, |book| {
+            book.asks[0] = Some(Row {
+                status: Status::Confirmed,
+                ..good
+            });
+        });
+        is_found("one place more", book, |book| book.asks.push(None));
+        is_found("one place fewer", book, |book| book.asks.truncate(1));
+    }
+    // Code 2 is pending, but no more in the batch; only the present part counts.
+    let alike = Row::proposed(&sale((3, 4), 1_000, 2));
+    is_found("alike", &plain, |book| book.asks[0] = Some(alike));
+    batch.asks[0] = Some(alike);
+    assert!(batch.stands());
+    // Code 5 is pending in the batch alone.
+    let later = Row::proposed(&sale((3, 4), 1_000, 5));
+    plain.asks[0] = Some(later);
+    assert!(plain.stands());
+    is_found("alike in the batch", &batch, |book| {
+        book.asks[0] = Some(later);
+    });
+    for phase in [Phase::Schedules, Phase::Settled] {
+        is_found("after the gate", &closed(), |book| {
+            book.phase = phase;
+            book.asks[0] = Some(good);
+        });
+    }
 }
 
 #[test]
