@@ -7,3 +7,7 @@ pub mod AskLaws
 pub mod CommitLaws
 -- StandingLaws: the asks tested one by one.
 pub mod StandingLaws
+-- TwinLaws: rows that are twins of asks.
+pub mod TwinLaws
+-- SharedLaws: the sums that the tests of all asks share.
+pub mod SharedLaws

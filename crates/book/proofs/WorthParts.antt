@@ -98,28 +98,28 @@ summed-done u sums n l t = record { whole = t .whole; sum = λ k h. t .sum k (om
 
 -- ---- the accounts' operators
 
--- the entries of the accounts below n are their operators
-pub record NamedTo (u : Setup) (operators : List ℕ) (n : ℕ) : Type 0 where
-  pub whole : length operators ≡ operatorsSize
-  pub operator : (a : ℕ) → 1 ≤ a → a < n → getD operators a 0 ≡ operatorOf u a
+-- the entries from 1 up to n are what f says
+pub record Listed (f : ℕ → ℕ) (size : ℕ) (xs : List ℕ) (n : ℕ) : Type 0 where
+  pub whole : length xs ≡ size
+  pub entry : (k : ℕ) → 1 ≤ k → k < n → getD xs k 0 ≡ f k
 
-pub named-first : (u : Setup) (operators : List ℕ) → length operators ≡ operatorsSize → NamedTo u operators 1
-named-first u operators e = record { whole = e; operator = λ a low high. absurd (omega arith) }
+module _ (f : ℕ → ℕ) (size : ℕ) (xs : List ℕ) where
+  pub listed-first : length xs ≡ size → Listed f size xs 1
+  listed-first e = record { whole = e; entry = λ k low high. absurd (omega arith) }
 
-pub named-next : (u : Setup) (operators : List ℕ) (a v : ℕ) → a ≤ mostAccounts → v ≡ operatorOf u a → NamedTo u operators a
-    → NamedTo u (set operators a v) (a + 1)
-named-next u operators a v high e t =
-    record {
-      whole = rw length-set (t .whole);
-      operator = λ k low l.
-          ⊎-elim
-          (λ (w : k < a). getD-set-other operators a k _ 0 (λ z. omega arith) ∙ t .operator k low w)
-          (λ (w : a ≤ k). let same : k ≡ a = omega arith in rw same (getD-set-same operators a v 0 (omega (arith, t .whole)) ∙ e))
-          (lt-or-ge k a);
-    }
+  pub listed-next : (n v : ℕ) → n < size → v ≡ f n → Listed f size xs n → Listed f size (set xs n v) (n + 1)
+  listed-next n v high e t =
+      record {
+        whole = rw length-set (t .whole);
+        entry = λ k low l.
+            ⊎-elim
+            (λ (w : k < n). getD-set-other xs n k _ 0 (λ z. omega arith) ∙ t .entry k low w)
+            (λ (w : n ≤ k). let same : k ≡ n = omega arith in rw same (getD-set-same xs n v 0 (omega (arith, t .whole)) ∙ e))
+            (lt-or-ge k n);
+      }
 
-pub named-done : (u : Setup) (operators : List ℕ) (n : ℕ) → accountCount u < n → NamedTo u operators n → AccountOperators u operators
-named-done u operators n l t = record { whole = t .whole; operator = λ a low high. t .operator a low (omega arith) }
+pub operators-listed : (u : Setup) (operators : List ℕ) (n : ℕ) → accountCount u < n → Listed (operatorOf u) operatorsSize operators n → AccountOperators u operators
+operators-listed u operators n l t = record { whole = t .whole; operator = λ a low high. t .entry a low (omega arith) }
 
 -- an account of a book has its entry
 pub operator-listed : (s operators : List ℕ) (a : ℕ) → isSound s ≡ true → AccountOperators (bookIn s .setup) operators → IsAccount (bookIn s) a

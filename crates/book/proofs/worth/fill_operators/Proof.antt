@@ -5,17 +5,18 @@ use native.Mathlib.Omega.{arith}
 use borrow.Author.Needs.{needs}
 use Rattle.rules.specs.declared.Counts.{Counts}
 use Rattle.rules.specs.Limits.{mostAccounts}
-use Rattle.rules.specs.Books.{accountCount}
+use Rattle.rules.specs.Books.{accountCount, operatorOf}
 use Rattle.image.specs.Valid.{bookIn}
+use Rattle.book.specs.Worth.{operatorsSize}
 use Rattle.book.proofs.StateLaws.{book-length, book-is-sound}
-use Rattle.book.proofs.WorthParts.{NamedTo, named-first, named-next, named-done, accounts-in}
+use Rattle.book.proofs.WorthParts.{Listed, listed-first, listed-next, operators-listed, accounts-in}
 use Rattle.book.proofs.worth.fill_operators.Statement.{statement}
 use Rattle.book.proofs.worth.fill_operators.Tie as tie
 
 abbrev Inv-loop : tie.InvT-loop
 Inv-loop operators₀ book n number₀ operators number =
     let u = bookIn book .setup in
-    (n .accounts ≡ accountCount u) × (n .accounts ≤ mostAccounts) × (1 ≤ number) × (number ≤ n .accounts + 1) × NamedTo u operators number
+    (n .accounts ≡ accountCount u) × (n .accounts ≤ mostAccounts) × (1 ≤ number) × (number ≤ n .accounts + 1) × Listed (operatorOf u) operatorsSize operators number
 
 abbrev μ-loop : tie.MeasureT-loop
 μ-loop operators₀ book n number₀ operators number = n .accounts + 1 - number
@@ -27,7 +28,7 @@ loop-holds : tie.Need-loop-holds Inv-loop μ-loop
 loop-holds c =
     let start = c .before .before .before in
     let accounts = ap (λ (n : Counts). n .accounts) (c .counts .ensures) ∙ accounts-in _ (start .pre .1) in
-    (accounts, omega (arith, accounts, book-is-sound _ (start .pre .1) .setup-sound .accounts-high), omega arith, omega arith, named-first _ _ (start .pre .0))
+    (accounts, omega (arith, accounts, book-is-sound _ (start .pre .1) .setup-sound .accounts-high), omega arith, omega arith, listed-first _ _ _ (start .pre .0))
 
 operator-of-requires : tie.Need-operator-of-requires Inv-loop μ-loop
 operator-of-requires c κs =
@@ -44,7 +45,7 @@ loop-again c =
       l .inv .1,
       omega arith,
       omega arith,
-      named-next _ _ _ _ (omega (arith, l .inv .1)) (c .operator-of .ensures .0) (l .inv .4),
+      listed-next _ _ _ _ _ (omega (arith, l .inv .1)) (c .operator-of .ensures .0) (l .inv .4),
     )
 
 same-length : tie.Need-same-length Inv-loop μ-loop
@@ -53,7 +54,7 @@ same-length c =
 
 returns : tie.Need-returns Inv-loop μ-loop
 returns c =
-    let l = c .before .before .loop in named-done _ _ (l .number) (omega (arith, l .inv .0)) (l .inv .4)
+    let l = c .before .before .loop in operators-listed _ _ (l .number) (omega (arith, l .inv .0)) (l .inv .4)
 
 pub fill-operators-spec : {M : Type 1} → statement M
 fill-operators-spec =
