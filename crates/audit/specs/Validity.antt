@@ -10,7 +10,7 @@ use Rattle.wire.specs.Numbers.{numberAt}
 use Rattle.wire.specs.Regions.{zerosFrom}
 use Rattle.rules.specs.declared.Row.{Row}
 use Rattle.rules.specs.Basics.{if_then_else_, anyPasses, every, allOf, upTo, within, Each}
-use Rattle.rules.specs.Limits.{mostGuarantee, thousand, mostOperators, mostAccounts, mostRows, mostSchedules, bookSize}
+use Rattle.rules.specs.Limits.{mostGuarantee, thousand, mostOperators, mostAccounts, mostRows, mostSchedules, mostHours, bookSize}
 use Rattle.rules.specs.Books.{Part, registrationPhase, settledPhase}
 use Rattle.rules.specs.Opening.{countsIn, operatorsOffset, setupLength, setupOf, guaranteeWidth}
 use Rattle.rules.specs.Registration.{pending}
@@ -108,12 +108,17 @@ sumsValid top s at rows = allOf (sumsValidTests top s at rows)
 unfoldable pub partValid : ℕ → List ℕ → ℕ → Bool
 partValid top s at = partOk (setupOf s) (partAt top (countsIn s .operators) s at) && partExact top (countsIn s .operators) s at
 
--- the saved part: zeros without a batch; with one a part, whose rows the present ones follow
-unfoldable pub savedValid : ℕ → List ℕ → Bool
-savedValid top s =
-    if eqb (getD s flagOffset 0) 0
-    then zerosFrom s (savedOffset top) (partSize top)
-    else (partValid top s (savedOffset top) && follows (rowsOf s (savedOffset top)) (rowsOf s presentOffset))
+-- the saved part by itself: zeros without a batch, a valid part with one
+unfoldable pub savedPartValid : ℕ → List ℕ → Bool
+savedPartValid top s = if eqb (getD s flagOffset 0) 0 then zerosFrom s (savedOffset top) (partSize top) else partValid top s (savedOffset top)
+
+-- with a batch the present rows follow the saved ones
+unfoldable pub savedFollowed : ℕ → List ℕ → Bool
+savedFollowed top s = eqb (getD s flagOffset 0) 0 || follows (rowsOf s (savedOffset top)) (rowsOf s presentOffset)
+
+-- with a batch there are no more saved rows than a part has room for
+abbrev pub SavedCounted : List ℕ → Type 0
+SavedCounted s = (getD s flagOffset 0 ≡ 0 → ⊥) → rowCount s (savedOffset mostHours) ≤ mostRows
 
 -- ---- schedules and phase
 

@@ -1,5 +1,6 @@
 // A part of a book, the present and the saved one alike: what its bytes have to be.
 ghost use mathlib.Core.Path.{_≡_};
+ghost use mathlib.Core.Bool.{true};
 ghost use Prim.Native.Nat.{_+_, _*_, _≤_};
 ghost use lib.ListN.{length};
 ghost use Rattle.rules.specs.Limits.{mostRows, mostOperators};
@@ -8,8 +9,8 @@ ghost use Rattle.rules.specs.Registration.{covered};
 ghost use Rattle.image.specs.Valid.{operatorsCovered};
 ghost use Rattle.image.specs.Cells.{rowsFrom};
 ghost use Rattle.image.specs.Layout.{partSize, rowCountOffset, rowsOffset, netsOffset, mostPeriods};
-ghost use Rattle.tables.specs.Sums.{SumTable, NoSums, ForRowsSummedIn};
-ghost use Rattle.audit.specs.Validity.{SetupKnown, GuaranteesKnown, PartKnown, partWith, guaranteesValid, rowsValid, sumsValid, partValid};
+ghost use Rattle.tables.specs.Sums.{SumTable, NoSums, SumsOf, ForRowsSummedIn};
+ghost use Rattle.audit.specs.Validity.{SetupKnown, GuaranteesKnown, PartKnown, rowsOf, partWith, guaranteesValid, rowsValid, sumsValid, partValid};
 use crate::checks::guarantees_ok;
 use crate::checks::rows_ok;
 use crate::twins::no_twins;
@@ -82,11 +83,12 @@ fn operators_covered(book: &[u8], at: usize, table: &[u32], top: usize) -> bool
 }
 
 // What follows of the sums of the rows: the nets are theirs, margins are kept, and every exposure is covered. The sums are made in the
-// table of no rows that is lent.
+// table of no rows that is lent, and stay there.
 fn sums_valid(book: &[u8], at: usize, top: usize, n: usize, table: &mut [u32]) -> bool
     requires { ⌜ SetupKnown top (now book) × PartKnown top (now book) at n ⌝ }
     requires { ⌜ NoSums top (now table) × (top ≤ mostPeriods) ⌝ }
-    ensures { λ r. ⌜ r ≡ sumsValid top (now (book .entry)) at (rowsFrom (now (book .entry)) (at + rowsOffset) n) ⌝ }
+    ensures meaning { λ r. ⌜ r ≡ sumsValid top (now (book .entry)) at (rowsFrom (now (book .entry)) (at + rowsOffset) n) ⌝ }
+    ensures sums { λ _. ⌜ SumsOf top (rowsFrom (now (book .entry)) (at + rowsOffset) n) (now (table .exit)) ⌝ }
 {
     fill(table, top, book, at + ROWS_OFFSET, n);
     nets_match(book, at + NETS_OFFSET, table, top)
@@ -94,11 +96,13 @@ fn sums_valid(book: &[u8], at: usize, top: usize, n: usize, table: &mut [u32]) -
         & operators_covered(book, at, table, top)
 }
 
-// The part that begins at `at` is valid, and its bytes say nothing else. It is lent a table of no rows.
+// The part that begins at `at` is valid, and its bytes say nothing else. It is lent a table of no rows; that of a valid part then holds the
+// sums of its rows.
 pub fn part_valid(book: &[u8], at: usize, top: usize, table: &mut [u32]) -> bool
     requires { ⌜ SetupKnown top (now book) × (at + partSize top ≤ length (now book)) ⌝ }
     requires { ⌜ NoSums top (now table) × (top ≤ mostPeriods) ⌝ }
-    ensures { λ r. ⌜ r ≡ partValid top (now (book .entry)) at ⌝ }
+    ensures meaning { λ r. ⌜ r ≡ partValid top (now (book .entry)) at ⌝ }
+    ensures sums { λ r. ⌜ (r ≡ true → SumsOf top (rowsOf (now (book .entry)) at) (now (table .exit))) ⌝ }
 {
     let c = counts(book);
     let rows = get_u16(book, at + ROW_COUNT_OFFSET) as usize;

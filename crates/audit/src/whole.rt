@@ -1,15 +1,16 @@
 // Whether bytes are those of a sound book: section by section, the set-up first.
 ghost use mathlib.Core.Path.{_≡_};
-ghost use mathlib.Core.Bool.{not};
+ghost use mathlib.Core.Bool.{true, not};
 ghost use Prim.Native.Nat.{_+_, _*_, _≤_};
 ghost use lib.ListN.{length};
 ghost use Rattle.rules.specs.Basics.{isSome};
 ghost use Rattle.rules.specs.Limits.{mostRows, bookSize, mostHours};
 ghost use Rattle.rules.specs.Opening.{setupRefusal, operatorEntry};
-ghost use Rattle.image.specs.Layout.{presentOffset, partSize};
+ghost use Rattle.image.specs.Layout.{presentOffset};
 ghost use Rattle.image.specs.Valid.{isSound};
+ghost use Rattle.tables.specs.Sums.{NoSums, SumsOf};
 ghost use Rattle.audit.specs.Exact.{noGuarantees};
-ghost use Rattle.audit.specs.Validity.{setupValid, SetupKnown, rowCount, partValid, savedValid, schedulesValid, phaseValid};
+ghost use Rattle.audit.specs.Validity.{setupValid, SetupKnown, SavedCounted, rowCount, rowsOf, savedPartValid, savedFollowed, schedulesValid, phaseValid};
 use crate::asks::asks_valid;
 use crate::checks::none_pending;
 use crate::checks::schedules_ok;
@@ -39,7 +40,7 @@ use setup::counts::counts;
 use setup::counts::length_of;
 use setup::counts::operators_offset;
 use setup::fault::fault;
-use tables::sums::zeros;
+use tables::sums::clear;
 use wire::numbers::get_u16;
 use wire::regions::all_zero;
 
@@ -122,25 +123,27 @@ fn phase_valid(book: &[u8]) -> bool
         & (first | (flag == 0))
 }
 
-// Whether a part begins at `at`, tested by a table of its own.
-fn is_part(book: &[u8], at: usize) -> bool
-    requires { ⌜ SetupKnown mostHours (now book) × (at + partSize mostHours ≤ length (now book)) ⌝ }
-    ensures { λ r. ⌜ r ≡ partValid mostHours (now (book .entry)) at ⌝ }
-{
-    let mut table = zeros();
-    part_valid(book, at, PERIODS, &mut table)
-}
-
-// Without a batch the saved part is zero; with one it is valid, and the present rows follow from its own.
-fn saved_valid(book: &[u8]) -> bool
-    requires { ⌜ SetupKnown mostHours (now book) × (rowCount (now book) presentOffset ≤ mostRows) ⌝ }
-    ensures { λ r. ⌜ r ≡ savedValid mostHours (now (book .entry)) ⌝ }
+// The saved part by itself: zero without a batch, a valid part with one. The table of no rows that is lent is one of no rows again.
+fn saved_part_valid(book: &[u8], table: &mut [u32]) -> bool
+    requires { ⌜ SetupKnown mostHours (now book) × NoSums mostHours (now table) ⌝ }
+    ensures meaning { λ r. ⌜ r ≡ savedPartValid mostHours (now (book .entry)) ⌝ }
+    ensures table { λ _. ⌜ NoSums mostHours (now (table .exit)) ⌝ }
 {
     if book[FLAG_OFFSET] == 0 {
         return all_zero(book, SAVED_OFFSET, PART_SIZE);
     }
-    if !is_part(book, SAVED_OFFSET) {
-        return false;
+    let valid = part_valid(book, SAVED_OFFSET, PERIODS, table);
+    clear(table);
+    valid
+}
+
+// With a batch the present rows follow from the saved ones.
+fn saved_followed(book: &[u8]) -> bool
+    requires { ⌜ (length (now book) ≡ bookSize) × SavedCounted (now book) × (rowCount (now book) presentOffset ≤ mostRows) ⌝ }
+    ensures { λ r. ⌜ r ≡ savedFollowed mostHours (now (book .entry)) ⌝ }
+{
+    if book[FLAG_OFFSET] == 0 {
+        return true;
     }
     let saved = get_u16(book, SAVED_OFFSET + ROW_COUNT_OFFSET) as usize;
     let rows = get_u16(book, PRESENT_OFFSET + ROW_COUNT_OFFSET) as usize;
@@ -153,9 +156,12 @@ fn saved_valid(book: &[u8]) -> bool
     )
 }
 
-// Whether bytes are the image of a sound book: every section passes its tests, whatever its asks need of the book.
-pub fn is_sound(book: &[u8]) -> bool
-    ensures { λ r. ⌜ r ≡ isSound (now (book .entry)) ⌝ }
+// Whether bytes are the image of a sound book: every section passes its tests, whatever its asks need of the book. It is lent a table of no
+// rows; that of a sound book then holds the sums of the book's rows.
+pub fn is_sound(book: &[u8], table: &mut [u32]) -> bool
+    requires { ⌜ NoSums mostHours (now table) ⌝ }
+    ensures meaning { λ r. ⌜ r ≡ isSound (now (book .entry)) ⌝ }
+    ensures sums { λ r. ⌜ (r ≡ true → SumsOf mostHours (rowsOf (now (book .entry)) presentOffset) (now (table .exit))) ⌝ }
 {
     if book.len() != BOOK_SIZE {
         return false;
@@ -163,10 +169,14 @@ pub fn is_sound(book: &[u8]) -> bool
     if !setup_valid(book) {
         return false;
     }
-    if !is_part(book, PRESENT_OFFSET) {
+    // One table serves both parts: the saved one first, so that the sums of the present one are left in it.
+    if !saved_part_valid(book, table) {
         return false;
     }
-    if !saved_valid(book) {
+    if !part_valid(book, PRESENT_OFFSET, PERIODS, table) {
+        return false;
+    }
+    if !saved_followed(book) {
         return false;
     }
     schedules_valid(book)

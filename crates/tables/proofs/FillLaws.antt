@@ -2,12 +2,15 @@
 use Prim.Native.Nat.{ℕ, zero, suc, _+_, _^_, _≤_, _<_}
 use mathlib.Core.Path.{_≡_, refl, ap, _∙_}
 use mathlib.Core.List.{List, [], _∷_}
+use mathlib.Core.Logic.{⊎-elim}
 use native.Mathlib.Omega.{arith}
-use lib.ListN.{length, getD, length-replicate, replicate}
+use lib.ListN.{length, getD, set, length-replicate, replicate, List·getD-eq-default}
+use lib.Seq.{getD-set-other, getD-set-same}
 use Rattle.rules.specs.declared.Row.{Row}
 use Rattle.rules.specs.Basics.{total}
 use Rattle.rules.specs.Limits.{mostEnergy}
 use Rattle.rules.specs.Registration.{moved, waiting}
+use Rattle.rules.proofs.Basics.Differences.{lt-or-ge}
 use Rattle.image.specs.Tables.{cellOf, InTable, Tabled, Room, tableSize}
 use Rattle.image.proofs.Tables.SumLaws.{zero-at}
 use Rattle.tables.specs.Sums.{SumsOf, NoSums, RowAdded, laneSum}
@@ -37,6 +40,24 @@ pub record Filling (top : ℕ) (all left : List Row) (table : List ℕ) (most : 
 
 pub none-of-zeros : (top n : ℕ) → tableSize top ≤ n → NoSums top (replicate n 0)
 none-of-zeros top n h = record { whole = omega (arith, length-replicate {A = ℕ} n 0); zeros = zero-at n }
+
+-- the cells below n hold nothing
+abbrev pub ClearedTo : List ℕ → ℕ → Type 0
+ClearedTo table n = (k : ℕ) → k < n → getD table k 0 ≡ 0
+
+pub cleared-next : (table : List ℕ) (n : ℕ) → n < length table → ClearedTo table n → ClearedTo (set table n 0) (n + 1)
+cleared-next table n inside t k l =
+    ⊎-elim
+    (λ (w : k < n). getD-set-other table n k _ 0 (λ z. omega arith) ∙ t k w)
+    (λ (w : n ≤ k). let same : k ≡ n = omega arith in rw same (getD-set-same table n 0 0 inside))
+    (lt-or-ge k n)
+
+pub cleared-none : (top : ℕ) (table : List ℕ) (n : ℕ) → tableSize top ≤ length table → length table ≤ n → ClearedTo table n → NoSums top table
+cleared-none top table n whole all t =
+    record {
+      whole = whole;
+      zeros = λ k. ⊎-elim (λ (w : k < n). t k w) (λ (w : n ≤ k). List·getD-eq-default table 0 (omega arith)) (lt-or-ge k n);
+    }
 
 pub filling-none : {top : ℕ} (table : List ℕ) (rows : List Row) (most : ℕ) → NoSums top table → Filling top rows rows table most
 filling-none {top} table rows most e =

@@ -1,14 +1,14 @@
 // The sums of all account hours in one pass over the rows, and what is read off them.
 ghost use mathlib.Core.Path.{_≡_};
 ghost use Prim.Native.Nat.{_+_, _-_, _*_, _≤_, _<_};
-ghost use lib.ListN.{getD};
+ghost use lib.ListN.{length, getD};
 ghost use Rattle.rules.specs.Basics.{every, upTo};
 ghost use Rattle.rules.specs.Limits.{mostAccounts, mostHours};
 ghost use Rattle.rules.specs.Registration.{accountHour};
 ghost use Rattle.rules.specs.Books.{pendingStatus, confirmedStatus};
 ghost use Rattle.image.specs.Layout.{mostPeriods};
 ghost use Rattle.image.specs.Cells.{rowsFrom};
-ghost use Rattle.image.specs.Tables.{slots, placeOf, cellOf, Inside, InTable, Tabled, Room};
+ghost use Rattle.image.specs.Tables.{slots, tableSize, placeOf, cellOf, Inside, InTable, Tabled, Room};
 ghost use Rattle.tables.specs.Sums.{SumTable, NoSums, SumsOf, ForRowsSummedIn, AccountInTable, RoomForRow, RowsTabled, HoursRaised, RowAdded, NetsInside, netStored, netsStored};
 use image::cells::add_range;
 use image::layout::LANE_SLOTS;
@@ -105,6 +105,19 @@ pub fn zeros() -> [u32; TABLE_SIZE]
     ensures { λ r. ⌜ NoSums mostHours r ⌝ }
 {
     [0u32; TABLE_SIZE]
+}
+
+// Makes a table one of no rows again.
+pub fn clear(table: &mut [u32])
+    requires { ⌜ tableSize mostHours ≤ length (now table) ⌝ }
+    ensures { λ _. ⌜ NoSums mostHours (now (table .exit)) ⌝ }
+{
+    let n = table.len();
+    let mut i = 0;
+    while i < n {
+        table[i] = 0;
+        i = i + 1;
+    }
 }
 
 // Adds the `n` rows from `at` on to a table of no rows.

@@ -4,12 +4,13 @@ use native.Mathlib.Omega.{arith}
 use borrow.Author.Tests.{not-true, not-false}
 use Rattle.rules.specs.declared.Counts.{Counts}
 use Rattle.audit.proofs.PartValidity.{too-many-rows, guarantees-fail, rows-fail, sums-decide, rows-tabled, guarantees-small}
+use Rattle.audit.proofs.ValidityLaws.{not-passed}
 use borrow.Author.Needs.{needs}
 use Rattle.audit.proofs.part.part_valid.Statement.{statement}
 use Rattle.audit.proofs.part.part_valid.Tie as tie
 
 returns : tie.Need-returns
-returns c = too-many-rows _ _ _ (omega (arith, c .before .get-u16 .ensures))
+returns c = (too-many-rows _ _ _ (omega (arith, c .before .get-u16 .ensures)), not-passed)
 
 guarantees-valid-requires : tie.Need-guarantees-valid-requires
 guarantees-valid-requires c κs =
@@ -21,8 +22,10 @@ returns-2 c =
     let tested = c .before in
     let read = tested .before .before .before in
     let counted = read .before in
+    let fails =
     guarantees-fail _ _ _ _ _ (counted .before .before .before .pre .0 .0) (read .get-u16 .ensures) (ap (λ (n : Counts). n .operators) (counted .counts .ensures)) (omega arith)
-    (sym (tested .guarantees-valid .ensures) ∙ not-true _ (c .if2 .taken))
+    (sym (tested .guarantees-valid .ensures) ∙ not-true _ (c .if2 .taken)) in
+    (fails, not-passed)
 
 returns-3 : tie.Need-returns-3
 returns-3 c =
@@ -31,8 +34,10 @@ returns-3 c =
     let tested = tested-rows .before in
     let read = tested .before .before .before in
     let counted = read .before in
+    let fails =
     rows-fail _ _ _ _ _ (counted .before .before .before .pre .0 .0) (read .get-u16 .ensures) (ap (λ (n : Counts). n .operators) (counted .counts .ensures)) (omega arith)
-    (sym (tested .guarantees-valid .ensures) ∙ not-false _ (tested-rows .if2 .left)) (sym (rows .rows-valid .ensures) ∙ not-true _ (c .if3 .taken))
+    (sym (tested .guarantees-valid .ensures) ∙ not-false _ (tested-rows .if2 .left)) (sym (rows .rows-valid .ensures) ∙ not-true _ (c .if3 .taken)) in
+    (fails, not-passed)
 
 sums-valid-requires : tie.Need-sums-valid-requires
 sums-valid-requires c κs =
@@ -69,9 +74,11 @@ returns-4 c =
     let tested = tested-rows .before in
     let read = tested .before .before .before in
     let counted = read .before in
-    done .sums-valid .ensures
+    let decided =
+    done .sums-valid .ensures .0
     ∙ sums-decide _ _ _ _ _ (counted .before .before .before .pre .0 .0) (read .get-u16 .ensures) (ap (λ (n : Counts). n .operators) (counted .counts .ensures)) (omega arith)
-    (sym (tested .guarantees-valid .ensures) ∙ not-false _ (tested-rows .if2 .left)) (sym (rows .rows-valid .ensures) ∙ not-false _ (sums .if3 .left))
+    (sym (tested .guarantees-valid .ensures) ∙ not-false _ (tested-rows .if2 .left)) (sym (rows .rows-valid .ensures) ∙ not-false _ (sums .if3 .left)) in
+    (decided, λ e. rw (← read .get-u16 .ensures) (done .sums-valid .ensures .1))
 
 pub part-valid-spec : {M : Type 1} → statement M
 part-valid-spec =

@@ -9,7 +9,7 @@ returns c =
     let margins = c .before .before in
     let nets = margins .before .before in
     let sums = nets .before .before .before .before .fill .ensures in
-    sums-valid _ _ _ _ _ sums (nets .nets-match .ensures) (margins .margins-kept .ensures _ sums) (c .operators-covered .ensures _ sums)
+    (sums-valid _ _ _ _ _ sums (nets .nets-match .ensures) (margins .margins-kept .ensures _ sums) (c .operators-covered .ensures _ sums), sums)
 
 pub sums-valid-spec : {M : Type 1} → statement M
 sums-valid-spec =
