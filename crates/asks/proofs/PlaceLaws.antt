@@ -26,7 +26,7 @@ use Rattle.image.proofs.Round.{ask-back, image-is-book}
 use Rattle.image.proofs.Keeping.KeepsChanges.{cleared-sound}
 use Rattle.image.proofs.Keeping.Keeps.{cleared-stands}
 use Rattle.book.proofs.StateLaws.{book-image, book-fits, book-is-sound}
-use Rattle.asks.specs.Places.{askedFor}
+use Rattle.image.specs.Image.{askedFor}
 
 module _ (s : List ℕ) (h : isSound s ≡ true) where
   abbrev here : Book

@@ -34,7 +34,7 @@ use Rattle.book.proofs.Answers.{in-wrong-phase}
 use Rattle.registration.specs.Proposing.{Proposing}
 use Rattle.registration.specs.Cover.{coveredWithRow}
 use Rattle.registration.proofs.RegisterLaws.{no-number-left, margin-breaks, row-uncovered, covered-with-row}
-use Rattle.asks.specs.Places.{askedFor}
+use Rattle.image.specs.Image.{askedFor}
 use Rattle.asks.specs.Standing.{someAsked}
 use Rattle.asks.proofs.PlaceLaws.{asked-pending, cleared-written}
 use Rattle.asks.proofs.TwinLaws.{none-twin}

@@ -23,7 +23,7 @@ use Rattle.rules.proofs.Rows.RowTests.{alike-true}
 use Rattle.image.specs.Valid.{isSound, bookIn}
 use Rattle.image.proofs.Sound.Soundness.{every-upTo}
 use Rattle.book.proofs.BookRows.{rows-tabled}
-use Rattle.asks.specs.Places.{askedFor}
+use Rattle.image.specs.Image.{askedFor}
 use Rattle.asks.specs.Standing.{twinOf, isAsked, someAsked}
 use Rattle.asks.proofs.PlaceLaws.{asked-pending}
 

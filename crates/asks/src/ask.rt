@@ -1,10 +1,9 @@
 // Ask: answered as the register of its fields would be. Accepted, it stands for its account and changes nothing else.
 ghost use mathlib.Core.Path.{_≡_};
 ghost use mathlib.Core.Bool.{true};
-ghost use Rattle.rules.specs.Requests.{register, ask};
+ghost use Rattle.rules.specs.Requests.{ask};
 ghost use Rattle.image.specs.Valid.{isSound, bookIn, bookBytes};
-ghost use Rattle.book.specs.Kinds.{outcomeOn, Ready};
-ghost use Rattle.asks.specs.Places.{bookAsked};
+ghost use Rattle.book.specs.Kinds.{outcomeOn, bookAfter, Ready};
 use crate::places::put_ask;
 use book::state::row_count;
 use registration::register::proposed_row;
@@ -18,8 +17,8 @@ use rules::Verdict;
 pub fn ask(book: &mut [u8], request: Request) -> Outcome
     requires { ⌜ isSound (now book) ≡ true ⌝ }
     requires { ⌜ Ready ask (bookIn (now book)) request ⌝ }
-    ensures answer { λ o. ⌜ o ≡ outcomeOn register (bookIn (now (book .entry))) request ⌝ }
-    ensures bytes { λ _. ⌜ now (book .exit) ≡ bookBytes (bookAsked (bookIn (now (book .entry))) request) ⌝ }
+    ensures answer { λ o. ⌜ o ≡ outcomeOn ask (bookIn (now (book .entry))) request ⌝ }
+    ensures bytes { λ _. ⌜ now (book .exit) ≡ bookBytes (bookAfter ask (bookIn (now (book .entry))) request) ⌝ }
     ensures still { λ _. ⌜ isSound (now (book .exit)) ≡ true ⌝ }
 {
     if let Checked::Fails(r) = register_fault(book, request) {

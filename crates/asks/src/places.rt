@@ -7,7 +7,7 @@ ghost use Rattle.rules.specs.Books.{withAsks, askAt, noAsks};
 ghost use Rattle.rules.specs.Registration.{standsWith};
 ghost use Rattle.rules.specs.Calls.{apply, standAsk};
 ghost use Rattle.image.specs.Valid.{isSound, isBook, bookIn, bookBytes, rowOk};
-ghost use Rattle.asks.specs.Places.{askedFor};
+ghost use Rattle.image.specs.Image.{askedFor};
 use image::layout::ASKS_OFFSET;
 use image::layout::ASKS_SIZE;
 use image::rows::ask_offset;

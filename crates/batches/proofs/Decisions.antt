@@ -67,4 +67,7 @@ phase-inside k m = of-two (λ i. phaseOf i ≡ 1) undo keep k m refl refl
 
 -- what undo and keep accept has a batch open
 pub ending-finds-batch : (k : Kind) (b : Book) (q : Request) → k oneOf (undo ∷ keep ∷ []) ≡ true → decided k b q ≡ none → isSome (b .saved) ≡ true
-ending-finds-batch k b q m d = let (p, e) = passed-13 b (q ∷ []) k m (decided-clear k b q d) in rw e
+ending-finds-batch k b q m =
+    of-two (λ i. decided i b q ≡ none → isSome (b .saved) ≡ true) undo keep k m
+    (λ d. let (p, e) = passed-13 b (q ∷ []) undo refl (decided-clear undo b q d) in rw e)
+    (λ d. let (p, e) = passed-13 b (q ∷ []) keep refl (decided-clear keep b q d) in rw e)

@@ -1,7 +1,7 @@
 -- What a call answers on the bytes of a sound book: a refusal leaves them as they are, the image of the same book, and an acceptance makes
 -- them the image of the changed one, which is sound.
 use Prim.Native.Nat.{ℕ}
-use mathlib.Core.Path.{_≡_}
+use mathlib.Core.Path.{_≡_, refl, _∙_}
 use mathlib.Core.List.{List, [], _∷_}
 use mathlib.Core.Option.{none, some}
 use mathlib.Core.Bool.{true}
@@ -14,8 +14,8 @@ use Rattle.rules.specs.declared.Refusal.the-variants.{WrongPhase}
 use Rattle.rules.specs.Limits.{mostHours, bookSize}
 use Rattle.rules.specs.Verdicts.{firstToApply, accepted, refused}
 use Rattle.rules.specs.Books.{Book}
-use Rattle.rules.specs.Requests.{Kind, requestOf}
-use Rattle.rules.specs.Calls.{phaseOf, stateChecks, changed, given}
+use Rattle.rules.specs.Requests.{Kind, register, confirm, withdraw, guarantee, openBatch, undo, keep, closeGate, schedule, settle, strip, ask, commit, requestOf}
+use Rattle.rules.specs.Calls.{phaseOf, checkedAs, stateChecks, changed, given}
 use Rattle.rules.proofs.Checks.Clearing.{Clear, clear}
 use Rattle.image.specs.Valid.{isSound, bookIn, bookBytes}
 use Rattle.image.proofs.Sound.SoundBooks.{SoundBook, book-sound}
@@ -24,14 +24,30 @@ use Rattle.book.specs.Kinds.{decided, outcomeOn, bookAfter}
 use Rattle.book.proofs.StateLaws.{book-image}
 
 -- where nothing is decided every check passed
-pub decided-clear : (k : Kind) (b : Book) (q : Request) → decided k b q ≡ none → Clear (stateChecks b k (q ∷ []))
+pub decided-clear : (k : Kind) (b : Book) (q : Request) → decided k b q ≡ none → Clear (stateChecks b (checkedAs k) (q ∷ []))
 unfolding decided
-decided-clear k b q e = clear (stateChecks b k (q ∷ [])) e
+decided-clear k b q e = clear (stateChecks b (checkedAs k) (q ∷ [])) e
+
+-- an ask and its register have one phase
+phase-checked : (k : Kind) → phaseOf (checkedAs k) ≡ phaseOf k
+phase-checked register = refl
+phase-checked confirm = refl
+phase-checked withdraw = refl
+phase-checked guarantee = refl
+phase-checked openBatch = refl
+phase-checked undo = refl
+phase-checked keep = refl
+phase-checked closeGate = refl
+phase-checked schedule = refl
+phase-checked settle = refl
+phase-checked strip = refl
+phase-checked ask = refl
+phase-checked commit = refl
 
 -- 11, of every kind
 pub in-wrong-phase : (b : Book) (q : Request) (k : Kind) → (b .phase ≡ phaseOf k → ⊥) → decided k b q ≡ some WrongPhase
 unfolding decided stateChecks firstToApply
-in-wrong-phase b q k n = rw (ne-eqb _ _ n)
+in-wrong-phase b q k n = rw (ne-eqb _ _ (λ e. n (e ∙ phase-checked k)))
 
 -- a call of that kind on a book's bytes s answers o and leaves the bytes t, of a sound book again
 abbrev pub Answered : Kind → List ℕ → Request → Outcome → List ℕ → Type 0

@@ -11,11 +11,11 @@ use Rattle.rules.specs.declared.Refusal.{Refusal}
 use Rattle.rules.specs.Verdicts.{firstToApply, outcomeOf}
 use Rattle.rules.specs.Books.{Book, countsOf}
 use Rattle.rules.specs.Requests.{Kind, kindNumber, faultyBit, sameAccounts, unlessRefused}
-use Rattle.rules.specs.Calls.{stateChecks, changed, given}
+use Rattle.rules.specs.Calls.{checkedAs, stateChecks, changed, given}
 
--- what the state refuses it for, if anything: 11 to 20, and 23
+-- what the state refuses it for, if anything: 11 to 20, and 23; an ask is checked as the register of its fields
 unfoldable pub decided : Kind → Book → Request → Option Refusal
-decided k b q = firstToApply (stateChecks b k (q ∷ []))
+decided k b q = firstToApply (stateChecks b (checkedAs k) (q ∷ []))
 
 -- the answer
 unfoldable pub outcomeOn : Kind → Book → Request → Outcome

@@ -16,15 +16,14 @@ use Rattle.rules.specs.declared.Outcome.{Outcome}
 use Rattle.rules.specs.declared.Refusal.{Refusal}
 use Rattle.rules.specs.declared.Refusal.the-variants.{WrongLength, OutOfRange, SameAccount, BufferShort}
 use Rattle.rules.specs.declared.Reading.the-variants.{Read, Unread}
-use Rattle.rules.specs.Basics.{if_then_else_, counting, Each, nil, cons}
+use Rattle.rules.specs.Basics.{if_then_else_}
 use Rattle.rules.specs.Limits.{mostHours, bookSize}
 use Rattle.rules.specs.Verdicts.{_⇒_, _⇒↑_, firstToApply, checked, refused}
 use Rattle.rules.specs.Books.{Book, countsOf}
 use Rattle.rules.specs.Opening.{countsIn}
-use Rattle.rules.specs.Requests.{Kind, register, confirm, withdraw, guarantee, openBatch, undo, keep, closeGate, schedule, settle, strip, ask, commit, isSingle, kindNumber, kindOf, fieldIn, requestOf, readChecks, readingOf, reading, isStrip, Fits, faultyBit, faultyBitAmong, sameAccounts, rangeChecks}
-use Rattle.rules.specs.Calls.{Call, Answer, refusedOn, callRequests, callKind, given, _oneOf_, checkedAs, bytesChecks, inputChecks, refusal}
+use Rattle.rules.specs.Requests.{Kind, register, settle, ask, isSingle, kindNumber, kindOf, fieldIn, requestOf, readChecks, readingOf, reading, isStrip, Fits, faultyBit, faultyBitAmong, sameAccounts, rangeChecks}
+use Rattle.rules.specs.Calls.{Call, Answer, refusedOn, callRequests, callKind, _oneOf_, checkedAs, bytesChecks, inputChecks, refusal}
 use Rattle.rules.proofs.Basics.Tests.{and-both}
-use Rattle.rules.proofs.Basics.Searches.{counted-has}
 use Rattle.rules.proofs.Checks.Clearing.{checked-same, clear, spared, spared↑}
 use Rattle.rules.proofs.Checks.Passed.{kind-number, single-requests}
 use Rattle.rules.proofs.Checks.KindTables.{kind-again, single-kind}
@@ -34,10 +33,8 @@ use Rattle.image.proofs.Round.{book-is-sound}
 use Rattle.book.specs.Kinds.{decided, outcomeOn, bookAfter, Ready}
 use Rattle.book.proofs.BookRows.{counts-in}
 use Rattle.book.proofs.Answers.{Answered as KindAnswered}
-use Rattle.asks.specs.Places.{bookAsked}
-use Rattle.asks.proofs.AskLaws.{AskAnswered}
 use Rattle.day.specs.Answers.{changeAnswer}
-use Rattle.day.specs.Plain.{isPlain, plainOutcome, plainBook}
+use Rattle.day.specs.Plain.{isPlain}
 use Rattle.rules.proofs.Checks.Stages.{input-refused, state-decides}
 use Rattle.day.proofs.Stages.{change-refused, change-decided}
 
@@ -99,23 +96,6 @@ others n plain =
     let k = plain-kind n plain in
     rw (kind-number n (k .0), k .1)
 
--- an ask gives the number of its register
-given-as : (k : Kind) (b : Book) (qs : List Request) → given (checkedAs k) b qs ≡ given k b qs
-unfolding given
-given-as register b qs = refl
-given-as confirm b qs = refl
-given-as withdraw b qs = refl
-given-as guarantee b qs = refl
-given-as openBatch b qs = refl
-given-as undo b qs = refl
-given-as keep b qs = refl
-given-as closeGate b qs = refl
-given-as schedule b qs = refl
-given-as settle b qs = refl
-given-as strip b qs = refl
-given-as ask b qs = refl
-given-as commit b qs = refl
-
 -- checked as another kind, one that is not settle is not settle
 checked-other : (k : Kind) → k oneOf (settle ∷ []) ≡ false → checkedAs k oneOf (settle ∷ []) ≡ false
 checked-other k e = go (k oneOf (ask ∷ []))
@@ -151,15 +131,15 @@ module _ (s : List ℕ) (c : Call) (h : isSound s ≡ true) (q : Request) (e : r
     plain-answered : firstToApply (rangeChecks (countsOf (bookIn s .setup)) q) ≡ none
         → changeAnswer s c
         ≡ record {
-          outcome = plainOutcome (bookIn s) q;
-          book = bookBytes (plainBook (bookIn s) q);
+          outcome = outcomeOn (kindOf (q .kind)) (bookIn s) q;
+          book = bookBytes (bookAfter (kindOf (q .kind)) (bookIn s) q);
           results = c .results;
           balances = c .balances;
         }
-    unfolding plainOutcome plainBook outcomeOn decided
+    unfolding outcomeOn bookAfter decided
     plain-answered f =
         change-decided s c other _ (state-decides (bookIn s) c read-clear (ranges ∙ f))
-        ∙ rw (says, of-kind, given-as (kindOf (q .kind)) (bookIn s) (q ∷ []))
+        ∙ rw (says, of-kind)
 
     -- either way both buffers are as they were
     pub buffers-stay : (changeAnswer s c .results ≡ c .results) × (changeAnswer s c .balances ≡ c .balances)
@@ -197,34 +177,10 @@ in-range-ready b q plain code e =
 
 -- ---- each kind
 
--- a plain request on a book's bytes s is answered o and leaves the bytes t, of a sound book
-abbrev pub PlainAnswered : List ℕ → Request → Outcome → List ℕ → Type 0
-PlainAnswered s q o t = (o ≡ plainOutcome (bookIn s) q) × ((t ≡ bookBytes (plainBook (bookIn s) q)) × (isSound t ≡ true))
-
-module _ (s : List ℕ) (q : Request) {o : Outcome} {t : List ℕ} where
-  -- one that is checked as its own kind
-  pub plain-by-kind : (k : Kind) → checkedAs k ≡ k → q .kind ≡ kindNumber k → KindAnswered k s q o t → PlainAnswered s q o t
-  unfolding plainOutcome plainBook outcomeOn bookAfter
-  plain-by-kind k itself e x =
-      let kind : kindOf (q .kind) ≡ k = ap kindOf e ∙ kind-again k in
-      rw (kind, itself) x
-
-  -- an ask, which is checked as a register
-  pub plain-ask : q .kind ≡ kindNumber ask → AskAnswered s q o t → PlainAnswered s q o t
-  unfolding plainOutcome plainBook bookAsked
-  plain-ask e x = let kind : kindOf (q .kind) ≡ ask = ap kindOf e in rw kind x
-
--- a kind of 5 to 8 is checked as its own
-batch-kinds : Each (λ n. checkedAs (kindOf n) ≡ kindOf n) (counting 4 5)
-unfolding counting
-batch-kinds = cons refl (cons refl (cons refl (cons refl nil)))
-
-pub plain-batch : (s : List ℕ) (q : Request) (n : ℕ) {o : Outcome} {t : List ℕ} → q .kind ≡ n → 5 ≤ n → n ≤ 8 → KindAnswered (kindOf n) s q o t
-    → PlainAnswered s q o t
-unfolding plainOutcome plainBook outcomeOn bookAfter
-plain-batch s q n e low high x =
-    let kind : kindOf (q .kind) ≡ kindOf n = ap kindOf e in
-    rw (kind, counted-has 4 5 n batch-kinds low (omega arith)) x
+-- a plain request is answered as one of its kind
+pub plain-by-kind : (s : List ℕ) (q : Request) {o : Outcome} {t : List ℕ} (k : Kind) → q .kind ≡ kindNumber k → KindAnswered k s q o t
+    → KindAnswered (kindOf (q .kind)) s q o t
+plain-by-kind s q k e x = rw (ap kindOf e ∙ kind-again k) x
 
 -- a number below 9 that is none of the first four is that of such a kind
 pub batch-range : (n : ℕ) → (n ≡ 1 → ⊥) → (n ≡ 2 → ⊥) → (n ≡ 3 → ⊥) → (n ≡ 4 → ⊥) → 1 ≤ n → n < 9 → (5 ≤ n) × (n ≤ 8)
@@ -266,7 +222,7 @@ module _ (q : Request) (s : List ℕ) (h : isSound s ≡ true) (plain : isPlain 
 
   -- in range: as its kind is answered
   pub plain-saying : firstToApply (rangeChecks (countsOf (bookIn s .setup)) q) ≡ none → (o : Outcome) (t : List ℕ)
-      → PlainAnswered s q o t → AnsweredSaying q s o t
+      → KindAnswered (kindOf (q .kind)) s q o t → AnsweredSaying q s o t
   plain-saying f o t k = (
     (λ c e. k .0 ∙ ap (λ (x : Answer (List ℕ)). x .outcome) (sym (plain-answered s c h q e plain f))),
     ((λ c e. k .1 .0 ∙ ap (λ (x : Answer (List ℕ)). x .book) (sym (plain-answered s c h q e plain f))), k .1 .1),

@@ -10,7 +10,7 @@ ghost use Rattle.rules.specs.Calls.{Call};
 ghost use Rattle.image.specs.Valid.{isSound, isBook, bookIn, bookBytes};
 ghost use Rattle.book.specs.Kinds.{outcomeOn, bookAfter, Ready};
 ghost use Rattle.day.specs.Answers.{changeAnswer};
-ghost use Rattle.day.specs.Plain.{isPlain, plainOutcome, plainBook};
+ghost use Rattle.day.specs.Plain.{isPlain};
 use asks::ask::ask;
 use asks::commit::commit;
 use batches::gate::close_gate;
@@ -70,8 +70,8 @@ fn batch_or_gate(book: &mut [u8], kind: u8) -> Outcome
 fn by_kind(book: &mut [u8], request: Request) -> Outcome
     requires { ⌜ isBook (now book) ≡ true ⌝ }
     requires { ⌜ (isPlain (request .kind) ≡ true) × Ready (kindOf (request .kind)) (bookIn (now book)) request ⌝ }
-    ensures answer { λ o. ⌜ o ≡ plainOutcome (bookIn (now (book .entry))) request ⌝ }
-    ensures bytes { λ _. ⌜ now (book .exit) ≡ bookBytes (plainBook (bookIn (now (book .entry))) request) ⌝ }
+    ensures answer { λ o. ⌜ o ≡ outcomeOn (kindOf (request .kind)) (bookIn (now (book .entry))) request ⌝ }
+    ensures bytes { λ _. ⌜ now (book .exit) ≡ bookBytes (bookAfter (kindOf (request .kind)) (bookIn (now (book .entry))) request) ⌝ }
     ensures still { λ _. ⌜ isSound (now (book .exit)) ≡ true ⌝ }
 {
     let kind = request.kind;

@@ -105,9 +105,13 @@ rowIn x =
       status = numberAt x 17 1;
     }
 
--- the ask in the bytes of its place: none where the status is 0
+-- the ask in a place with this row: none where the status is 0
+abbrev pub askedFor : Row → Option Row
+askedFor r = if eqb (r .status) 0 then none else some r
+
+-- the ask in the bytes of its place
 unfoldable pub askIn : List ℕ → Option Row
-askIn x = if eqb (rowIn x .status) 0 then none else some (rowIn x)
+askIn x = askedFor (rowIn x)
 
 unfoldable pub scheduleIn : List ℕ → Schedule
 scheduleIn x =

@@ -153,7 +153,7 @@ unfoldable pub isSoundOf : ℕ → ℕ → List ℕ → Bool
 isSoundOf top size s = eqb (length s) size && bookOk (decode top size s) && same (image top size (decode top size s)) s
 
 unfoldable pub isBookOf : ℕ → ℕ → List ℕ → Bool
-isBookOf top size s = eqb (length s) size && valid (decode top size s) && same (image top size (decode top size s)) s
+isBookOf top size s = isSoundOf top size s && asksStand (decode top size s)
 
 -- today's book: at most 25 hours, 49,152 bytes
 abbrev pub isBook : List ℕ → Bool

@@ -7,7 +7,16 @@ use lib.ListN.{getD, take, drop, replicate, getD-replicate, List·getD-eq-defaul
 use lib.Seq.{getD-take, getD-drop}
 use lib.Dec.{leb}
 use borrow.Author.Tests.{le-leb, leb-false}
-use Rattle.rules.specs.Requests.{maps, wantedMap, isKind}
+use Rattle.rules.specs.Requests.{maps, wantedMap, isKind, isSingle}
+use Rattle.rules.proofs.Basics.Tests.{and-both, within-true}
+
+-- a kind is no higher than the last
+pub kind-high : (k : ℕ) → isKind k ≡ true → k ≤ 13
+kind-high k e = within-true 1 k 13 .0 e .1
+
+-- the kind of a single record is one
+pub single-is-kind : (k : ℕ) → isSingle k ≡ true → isKind k ≡ true
+single-is-kind k e = and-both (isKind k) _ .0 e .0
 
 -- n kinds side by side that have the same map
 pub wanted-run : (from n m k : ℕ) → take n (drop from maps) ≡ replicate n m → from ≤ k → k < from + n → wantedMap k ≡ m

@@ -7,7 +7,7 @@ ghost use lib.ListN.{length};
 ghost use lib.Dec.{eqb};
 ghost use Rattle.wire.specs.Numbers.{numberAt};
 ghost use Rattle.rules.specs.Verdicts.{applies, checked};
-ghost use Rattle.rules.specs.Requests.{fieldCount, mapOf, offset, bits, fieldIn, requestOf, isSingle, unreadable, mapCheck, reading};
+ghost use Rattle.rules.specs.Requests.{fieldCount, mapOf, offset, bits, fieldIn, requestOf, isKind, isSingle, unreadable, mapCheck, reading};
 use crate::tables::FIELDS;
 use crate::tables::PAST_FIELDS;
 use crate::tables::fields_more;
@@ -108,7 +108,7 @@ pub fn is_of_kind(bytes: &[u8], kind: u8) -> bool
 
 // The check of the map against that of a kind: how many wanted fields are missing, and how many stand unwanted.
 pub fn map_fault(bytes: &[u8], kind: u8) -> Checked
-    requires { ⌜ (unreadable (now bytes) ≡ false) × (kind ≤ 13) ⌝ }
+    requires { ⌜ (unreadable (now bytes) ≡ false) × (isKind kind ≡ true) ⌝ }
     ensures { λ r. ⌜ r ≡ checked (applies (mapCheck kind (now (bytes .entry)))) ⌝ }
 {
     let given = get_u16(bytes, 0);

@@ -1,8 +1,9 @@
 // The tables of the kinds and of the thirteen fields, and what they say of a map.
 ghost use mathlib.Core.Path.{_≡_};
+ghost use mathlib.Core.Bool.{true};
 ghost use Prim.Native.Nat.{_≤_, _<_, _^_};
 ghost use Rattle.rules.specs.Basics.{bit};
-ghost use Rattle.rules.specs.Requests.{isSingle, wantedMap, wantedLength, fieldCount, widthOf, room, more};
+ghost use Rattle.rules.specs.Requests.{isKind, isSingle, wantedMap, wantedLength, fieldCount, widthOf, room, more};
 use rules::kinds::COMMIT;
 use rules::kinds::REGISTER;
 use rules::kinds::STRIP;
@@ -50,7 +51,7 @@ pub fn is_single(number: u8) -> bool
 
 // The map of a kind's records.
 pub fn wanted_map(kind: u8) -> u16
-    requires { ⌜ kind ≤ 13 ⌝ }
+    requires { ⌜ isKind kind ≡ true ⌝ }
     ensures { λ r. ⌜ r ≡ wantedMap kind ⌝ }
 {
     let k = kind as usize;
@@ -59,7 +60,7 @@ pub fn wanted_map(kind: u8) -> u16
 
 // The length of a kind's records.
 pub fn wanted_length(kind: u8) -> usize
-    requires { ⌜ kind ≤ 13 ⌝ }
+    requires { ⌜ isKind kind ≡ true ⌝ }
     ensures { λ r. ⌜ r ≡ wantedLength kind ⌝ }
 {
     let k = kind as usize;

@@ -20,7 +20,7 @@ use Rattle.rules.specs.Asks.{wouldRegister, askStands, asksStand}
 use Rattle.rules.proofs.Checks.Clearing.{Clear, clear-applies}
 use Rattle.rules.proofs.Checks.Passed.{Asked, cleared-either, single-requests, strip-requests, Passed, Kept, passed-asked, step-cases}
 use Rattle.rules.specs.Basics.{anyPasses, isSome, nth, put, nil, cons}
-use Rattle.rules.proofs.Basics.Searches.{each-map, each-image}
+use Rattle.rules.proofs.Basics.Searches.{put-place, each-map, each-image}
 use Rattle.rules.proofs.Lists.Batches.{the-kind}
 use Rattle.rules.proofs.Lists.Asks.{none-there}
 use Rattle.rules.proofs.Records.Fields.{field-in-fits}
@@ -76,14 +76,6 @@ unfolding wouldRegister stateChecks apply
 judged-alone b asks none = refl
 judged-alone b asks (some r) = refl
 
--- a place holds what was put there, or what it held
-put-or-old : (xs : List (Option Row)) (j i : ℕ) (x : Option Row) → (getD (set xs j x) i none ≡ x) ⊎ (getD (set xs j x) i none ≡ getD xs i none)
-put-or-old [] j i x = inr refl
-put-or-old (y ∷ xs) zero zero x = inl refl
-put-or-old (y ∷ xs) zero (suc i) x = inr refl
-put-or-old (y ∷ xs) (suc j) zero x = inr refl
-put-or-old (y ∷ xs) (suc j) (suc i) x = put-or-old xs j i x
-
 -- one more that register would accept stands beside the others
 pub stood-stands : (b : Book) (r : Row) → asksStand b ≡ true → wouldRegister b r ≡ true
     → asksStand (withAsks b (put (b .asks) (r .proposer) (some r))) ≡ true
@@ -94,9 +86,7 @@ stood-stands b r old new =
     ∙ place (r .proposer) a (every-upTo (λ a. askStands b (askAt b a)) mostAccounts old a low high))
   where
     place : (p a : ℕ) → askStands b (askAt b a) ≡ true → askStands b (nth (put (b .asks) p (some r)) a none) ≡ true
-    place zero a h = h
-    place (suc j) zero h = refl
-    place (suc j) (suc i) h = ⊎-elim (λ e. rw e new) (λ e. rw e h) (put-or-old (b .asks) j i (some r))
+    place p a h = ⊎-elim (λ w. rw (w .1) new) (λ w. rw (w .0) h) (put-place (b .asks) p a (some r) none)
 
 -- an accepted ask is one that register would accept
 ask-would-register : (b : Book) (qs : List Request) → Asked ask qs → Clear (stateChecks b register qs) → wouldRegister b (proposed (firstOf qs)) ≡ true

@@ -18,13 +18,13 @@ use Rattle.rules.specs.Books.{Setup, Part, Book, noAsks, withPhase, withPart, w
 use Rattle.rules.specs.Registration.{pending}
 use Rattle.rules.specs.Calls.{Change, addRows, setStatus, setGuarantee, savePart, restorePart, dropSaved, shutGate, addSchedule, endDay, standAsk, restored, apply}
 use Rattle.rules.proofs.Basics.Differences.{lt-or-ge}
-use Rattle.rules.proofs.Basics.Searches.{each-snoc}
+use Rattle.rules.proofs.Basics.Searches.{put-place, each-snoc}
 use Rattle.rules.proofs.Lists.Asks.{none-there}
 use Rattle.image.specs.Valid.{follows}
 use Rattle.image.proofs.Sound.Soundness.{SoundSchedule}
 use Rattle.image.proofs.Sound.SoundBooks.{SoundPart, SavedSound, AskRow, SoundAsk, SoundBook}
 use Rattle.image.proofs.Keeping.KeepsRows.{closed-none-pending, follows-refl, follows-added, follows-mark}
-use Rattle.image.proofs.Keeping.KeepsParts.{Addable, Endable, Coverable, part-added, part-ended, part-closed, part-guaranteed}
+use Rattle.image.proofs.Keeping.KeepsParts.{length-put, Addable, Endable, Coverable, part-added, part-ended, part-closed, part-guaranteed}
 
 -- a schedule that has its place
 pub record Placeable (b : Book) (x : Schedule) : Type 0 where
@@ -108,27 +108,13 @@ pub cleared-sound : (b : Book) → SoundBook b → SoundBook (withAsks b noAsks)
 cleared-sound b s = asked-sound b noAsks s refl (λ a low high. rw (none-there a) tt)
 
 -- one ask put among sound ones, in the place of its account
-put-sound : (u : Setup) (asks : List (Option Row)) (r : Row) (i j : ℕ) → j < length asks → AskRow u (suc j) r → SoundAsk u (suc i) (getD asks i none)
-    → SoundAsk u (suc i) (getD (set asks j (some r)) i none)
-put-sound u asks r i j inside own old = go (eqb i j) refl
-  where
-    go : (t : Bool) → eqb i j ≡ t → SoundAsk u (suc i) (getD (set asks j (some r)) i none)
-    go true h = rw (eqb-true i j h, getD-set-same asks j (some r) none inside) own
-    go false h = rw (getD-set-other asks j i (some r) none (eqb-false i j h)) old
-
 stood-sound : (b : Book) (r : Row) → SoundBook b → AskRow (b .setup) (r .proposer) r → SoundBook (withAsks b (put (b .asks) (r .proposer) (some r)))
-stood-sound b r s own = go (r .proposer) refl
-  where
-    go : (p : ℕ) → r .proposer ≡ p → SoundBook (withAsks b (put (b .asks) p (some r)))
-    go zero e = absurd (omega (arith, own .row-sound .proposer-low, e))
-    go (suc j) e =
-        let all = s .asks-all in
-        let inside : j < length (b .asks) = omega (arith, own .row-sound .proposer-high, e, s .setup-sound .accounts-high) in
-        asked-sound b (set (b .asks) j (some r)) s (length-set (b .asks) j (some r) ∙ all) (λ a low high. place a low high inside)
-      where
-        place : (a : ℕ) → 1 ≤ a → a ≤ mostAccounts → j < length (b .asks) → SoundAsk (b .setup) a (nth (set (b .asks) j (some r)) a none)
-        place zero low high inside = absurd (omega arith)
-        place (suc i) low high inside = put-sound (b .setup) (b .asks) r i j inside (record { own = e; waits = own .waits; row-sound = own .row-sound }) (s .asks-sound (suc i) low high)
+stood-sound b r s own =
+    asked-sound b (put (b .asks) (r .proposer) (some r)) s (length-put (b .asks) (r .proposer) (some r) ∙ s .asks-all) (λ a low high.
+    ⊎-elim
+    (λ w. rw (w .1) (record { own = w .0; waits = own .waits; row-sound = own .row-sound }))
+    (λ w. rw (w .0) (s .asks-sound a low high))
+    (put-place (b .asks) (r .proposer) a (some r) none))
 
 past-first : (b : Book) → SoundBook b → (b .phase ≡ 1 → ⊥) → 2 ≤ b .phase
 past-first b s later = ⊎-elim (λ (l : b .phase < 2). absurd (later (omega (arith, s .phase-low)))) (λ l. l) (lt-or-ge (b .phase) 2)

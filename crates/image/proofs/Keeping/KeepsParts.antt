@@ -2,12 +2,12 @@
 -- operator.
 use Prim.Native.Nat.{ℕ, zero, suc, _+_, _≤_, _<_}
 use mathlib.Core.Path.{_≡_, refl, sym, ap, _∙_}
+use mathlib.Core.Logic.{⊎-elim}
 use mathlib.Core.List.{List, _++_, map}
 use mathlib.Core.Option.{none}
 use mathlib.Core.Bool.{Bool, true, false, not}
 use native.Mathlib.Omega.{arith}
 use lib.ListN.{length, length-append, length-map, length-set}
-use lib.Seq.{getD-set-other}
 use lib.Dec.{eqb}
 use borrow.Author.Tests.{eqb-true, eqb-false, not-false}
 use Rattle.units.specs.declared.Cents.{Cents}
@@ -17,7 +17,7 @@ use Rattle.rules.specs.Basics.{anyPasses, nth, put, upTo, Each}
 use Rattle.rules.specs.Limits.{mostGuarantee, mostRows}
 use Rattle.rules.specs.Books.{Setup, Part, partGuarantees, partRows, noRow, operatorOf, periods, marginsAt}
 use Rattle.rules.specs.Registration.{pending, hasTwin, twins, mark, closed, proposed, accountHour, keepsMargins, brokenHour, available, covered}
-use Rattle.rules.proofs.Basics.Searches.{any-none, find-none, counted-has, each-append, each-map, each-image, each-nth}
+use Rattle.rules.proofs.Basics.Searches.{put-place, any-none, find-none, counted-has, each-append, each-map, each-image, each-nth}
 use Rattle.rules.proofs.Rows.RowChanges.{each-mark, each-closed, length-mark, length-closed}
 use Rattle.rules.proofs.Rows.AccountHours.{pending-inside}
 use Rattle.rules.proofs.Rows.Easing.{Eased, eased-margins, eased-covered}
@@ -61,14 +61,12 @@ module _ (u : Setup) (gs : List Cents) (rows later : List Row) (caller : ℕ)
 -- ---- a guarantee replaced
 
 module _ {A : Type 0} where
-  length-put : (l : List A) (n : ℕ) (x : A) → length (put l n x) ≡ length l
+  pub length-put : (l : List A) (n : ℕ) (x : A) → length (put l n x) ≡ length l
   length-put l zero x = refl
   length-put l (suc i) x = length-set l i x
 
   nth-put-other : (l : List A) (n k : ℕ) (x d : A) → (k ≡ n → ⊥) → nth (put l n x) k d ≡ nth l k d
-  nth-put-other l zero k x d w = refl
-  nth-put-other l (suc i) zero x d w = refl
-  nth-put-other l (suc i) (suc j) x d w = getD-set-other l i j x d (λ e. w (ap suc e))
+  nth-put-other l n k x d other = ⊎-elim (λ w. absurd (other (sym (w .0)))) (λ w. w .0) (put-place l n k x d)
 
 each-put : {A : Type 0} {P : A → Type 0} {xs : List A} {x : A} → Each P xs → (n : ℕ) → P x → Each P (put xs n x)
 each-put e zero p = e

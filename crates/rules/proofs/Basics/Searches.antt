@@ -1,13 +1,14 @@
 -- What a search over a list says of its elements, by recursion on the list and cases on the test of its first element.
 use Prim.Native.Nat.{ℕ, zero, suc, _+_, _-_, _≤_, _<_}
 use mathlib.Core.Path.{_≡_, refl, sym, ap, _∙_}
+use mathlib.Core.Logic.{_⊎_, inl, inr, ⊎-elim}
 use mathlib.Core.List.{List, [], _∷_, _++_, map}
 use mathlib.Core.Option.{Option, none, some}
 use mathlib.Core.Bool.{Bool, true, false, _||_}
 use native.Mathlib.Omega.{arith}
 use lib.ListN.{length, getD}
 use Rattle.rules.proofs.Basics.Tests.{and-both}
-use Rattle.rules.specs.Basics.{anyPasses, every, find, indexOf, isSome, nth, counting, Each, nil, cons}
+use Rattle.rules.specs.Basics.{anyPasses, every, find, indexOf, isSome, nth, put, counting, Each, nil, cons}
 
 -- an option that holds something
 pub some-of {ℓ} : {A : Type ℓ} (o : Option A) → isSome o ≡ true → (x : A) × (o ≡ some x)
@@ -56,6 +57,19 @@ each-nth-or d zero p e = p
 each-nth-or d (suc i) p nil = p
 each-nth-or d (suc zero) p (cons q e) = q
 each-nth-or d (suc (suc i)) p (cons q e) = each-nth-or d (suc i) p e
+
+-- a place holds what was put there, where it is the place and there is one; else it holds what it held
+pub put-place : {A : Type 0} (xs : List A) (p a : ℕ) (x d : A)
+    → ((p ≡ a) × (nth (put xs p x) a d ≡ x)) ⊎ ((nth (put xs p x) a d ≡ nth xs a d) × (p ≡ a → nth xs a d ≡ d))
+put-place xs zero zero x d = inr (refl, λ e. refl)
+put-place xs zero (suc i) x d = inr (refl, λ e. absurd (omega arith))
+put-place xs (suc j) zero x d = inr (refl, λ e. refl)
+put-place [] (suc j) (suc i) x d = inr (refl, λ e. refl)
+put-place (y ∷ xs) (suc zero) (suc zero) x d = inl (refl, refl)
+put-place (y ∷ xs) (suc zero) (suc (suc i)) x d = inr (refl, λ e. absurd (omega arith))
+put-place (y ∷ xs) (suc (suc j)) (suc zero) x d = inr (refl, λ e. absurd (omega arith))
+put-place (y ∷ xs) (suc (suc j)) (suc (suc i)) x d =
+    ⊎-elim (λ w. inl (ap suc (w .0), w .1)) (λ w. inr (w .0, λ e. w .1 (omega arith))) (put-place xs (suc j) (suc i) x d)
 
 -- one element more
 pub each-snoc {ℓ κ} : {A : Type ℓ} {P : A → Type κ} {xs : List A} {x : A} → Each P xs → P x → Each P (xs ++ x ∷ [])

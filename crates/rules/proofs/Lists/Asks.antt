@@ -2,7 +2,7 @@
 -- accepted call leaves none. A commit whose ask stands is refused for nothing more, and gives the number that its ask gave.
 use Prim.Native.Nat.{ℕ, zero, suc, _^_, _≤_, _<_}
 use mathlib.Core.Path.{_≡_, refl, sym, ap, _∙_}
-use mathlib.Core.Logic.{_⊎_, inl, inr}
+use mathlib.Core.Logic.{_⊎_, inl, inr, ⊎-elim}
 use mathlib.Core.List.{List, [], _∷_}
 use mathlib.Core.Option.{Option, none, some}
 use mathlib.Core.Bool.{Bool, true, false, not, _&&_, _||_, or-false}
@@ -28,7 +28,7 @@ use Rattle.rules.specs.Calls.{Call, Answer, callKind, callRequests, give
 use Rattle.rules.specs.Lists.{runs, after, accepts, acceptsAs}
 use Rattle.rules.specs.Asks.{wouldRegister, askStands, asksStand, asRegister, clearsAsks, callAccount, noAskOf, onlyAsks, AskCommitted, CommittedAsAsked}
 use Rattle.rules.proofs.Basics.Tests.{and-both, chain-holds, Holds, no-more, _and_}
-use Rattle.rules.proofs.Basics.Searches.{none-of, every-each, counted-has}
+use Rattle.rules.proofs.Basics.Searches.{none-of, put-place, every-each, counted-has}
 use Rattle.rules.proofs.Checks.Clearing.{Clear}
 use Rattle.rules.proofs.Checks.Passed.{single-requests, bytes-kind, Passed, passed, refused-keeps, passed-23}
 use Rattle.rules.proofs.Records.Fields.{offset-first, offset-step, offset-grows, field-in-absent, field-of-request, same-fields}
@@ -306,19 +306,6 @@ commit-decided b q stand counts = go (eqb (b .phase) registrationPhase) refl (st
 
 -- ---- between an ask and its commit
 
--- a place holds what was put there, or there is no such place
-put-there : (l : List (Option Row)) (a : ℕ) (r : Row) → (nth (put l a (some r)) a none ≡ some r) ⊎ (nth (put l a (some r)) a none ≡ none)
-put-there l zero r = inr refl
-put-there [] (suc i) r = inr refl
-put-there (o ∷ l) (suc zero) r = inl refl
-put-there (o ∷ l) (suc (suc i)) r = put-there l (suc i) r
-
--- another place holds what it held
-put-elsewhere : (l : List (Option Row)) (a other : ℕ) (o : Option Row) → eqb other a ≡ false → nth (put l other o) a none ≡ nth l a none
-put-elsewhere l zero other o e = refl
-put-elsewhere l (suc i) zero o e = refl
-put-elsewhere l (suc i) (suc j) o e = getD-set-other l j i o none (λ same. eqb-false (suc j) (suc i) e (ap suc (sym same)))
-
 -- no place holds an ask where none stands
 pub none-there : (a : ℕ) → nth noAsks a none ≡ none
 none-there zero = refl
@@ -349,7 +336,7 @@ leaves b a c h = go (accepts step b c) refl (callKind c oneOf (ask ∷ [])) refl
     go true e true f =
         let book = ask-stands b c e (the-kind (callKind c) ask f) in
         let apart : eqb (requestOf (c .bytes) .account) a ≡ false = rw (e, f) at h in
-        stays (ap (λ (x : Book). x .part) book) (ap (λ (x : Book). askAt x a) book ∙ put-elsewhere (b .asks) a _ _ apart) (rw (e, f))
+        stays (ap (λ (x : Book). x .part) book) (ap (λ (x : Book). askAt x a) book ∙ ⊎-elim (λ w. absurd (eqb-false _ a apart (w .0))) (λ w. w .0) (put-place (b .asks) _ a _ none)) (rw (e, f))
     go true e false f = clears (ap (λ (l : List (Option Row)). nth l a none) (others-clear b c e f) ∙ none-there a)
 
 -- the first call and the rest
@@ -429,7 +416,7 @@ module _ (b : Book) (asking : Call) (between : List Call) (committing : Call) (p
   unfolding after
   in-place =
       let here = ap (λ (x : Book). askAt x a) ask-left in
-      here ∙ the-one (put-there (b .asks) a row) (λ e. not-gone (still-none a (step b asking .book) between latest (here ∙ e)))
+      here ∙ the-one (⊎-elim (λ w. inl (w .1)) (λ w. inr (w .0 ∙ w .1 refl)) (put-place (b .asks) a a (some row) none)) (λ e. not-gone (still-none a (step b asking .book) between latest (here ∙ e)))
 
   stayed : Stays a (step b asking .book) between
   unfolding after

@@ -1,11 +1,10 @@
 -- Each kind is answered by the function that is named in its arm; no other number comes there.
 use Prim.Native.Nat.{_≤_}
-use mathlib.Core.Path.{refl}
 use mathlib.Core.Logic.{⊎-elim}
 use Rattle.rules.specs.Limits.{mostHours, bookSize}
 use Rattle.rules.specs.Requests.{register, confirm, withdraw, guarantee, schedule, ask, commit}
 use Rattle.image.proofs.Round.{book-is-sound}
-use Rattle.day.proofs.RequestLaws.{plain-by-kind, plain-ask, plain-batch, batch-range, none-left, none-first, ready-for}
+use Rattle.day.proofs.RequestLaws.{plain-by-kind, batch-range, none-left, none-first, ready-for}
 use borrow.Author.Needs.{needs}
 use Rattle.day.proofs.kinds.by_kind.Statement.{statement}
 use Rattle.day.proofs.kinds.by_kind.Tie as tie
@@ -45,31 +44,29 @@ batch-or-gate-requires c κs =
     (book-is-sound mostHours bookSize _ (c .before .before .before .before .before .pre .0), batch-numbers (c .before))
 
 returns : tie.Need-returns
-returns c = plain-by-kind _ _ register refl (c .before .before .before .before .match .keys1) (c .before .before .register .ensures)
+returns c = plain-by-kind _ _ register (c .before .before .before .before .match .keys1) (c .before .before .register .ensures)
 
 returns-2 : tie.Need-returns-2
-returns-2 c = plain-by-kind _ _ confirm refl (c .before .before .before .before .match .keys2) (c .before .before .confirm .ensures)
+returns-2 c = plain-by-kind _ _ confirm (c .before .before .before .before .match .keys2) (c .before .before .confirm .ensures)
 
 returns-3 : tie.Need-returns-3
-returns-3 c = plain-by-kind _ _ withdraw refl (c .before .before .before .before .match .keys3) (c .before .before .withdraw .ensures)
+returns-3 c = plain-by-kind _ _ withdraw (c .before .before .before .before .match .keys3) (c .before .before .withdraw .ensures)
 
 returns-4 : tie.Need-returns-4
-returns-4 c = plain-by-kind _ _ guarantee refl (c .before .before .before .before .match .keys4) (c .before .before .guarantee .ensures)
+returns-4 c = plain-by-kind _ _ guarantee (c .before .before .before .before .match .keys4) (c .before .before .guarantee .ensures)
 
 returns-5 : tie.Need-returns-5
-returns-5 c = plain-by-kind _ _ schedule refl (c .before .before .before .before .match .keys5) (c .before .before .schedule .ensures)
+returns-5 c = plain-by-kind _ _ schedule (c .before .before .before .before .match .keys5) (c .before .before .schedule .ensures)
 
 returns-6 : tie.Need-returns-6
-returns-6 c = plain-ask _ _ (c .before .before .before .before .match .keys6) (c .before .before .ask .ensures)
+returns-6 c = plain-by-kind _ _ ask (c .before .before .before .before .match .keys6) (c .before .before .ask .ensures)
 
 returns-7 : tie.Need-returns-7
-returns-7 c = plain-by-kind _ _ commit refl (c .before .before .before .before .match .keys7) (c .before .before .commit .ensures)
+returns-7 c = plain-by-kind _ _ commit (c .before .before .before .before .match .keys7) (c .before .before .commit .ensures)
 
 returns-8 : tie.Need-returns-8
 returns-8 c =
-    let e = c .before .before .batch-or-gate .ensures in
-    let range = batch-numbers (c .before .before .before .before) in
-    plain-batch _ _ _ refl (range .0) (range .1) (e .0 _, (e .1 .0 _, e .1 .1))
+    let e = c .before .before .batch-or-gate .ensures in (e .0 _, (e .1 .0 _, e .1 .1))
 
 returns-9 : tie.Need-returns-9
 returns-9 c =

@@ -5,15 +5,15 @@ use native.Mathlib.Omega.{arith}
 use Rattle.rules.specs.Verdicts.{applies}
 use Rattle.rules.specs.Requests.{mapCheck}
 use Rattle.rules.proofs.Checks.Clearing.{checked-same}
-use Rattle.rules.proofs.Checks.KindTables.{single-kind}
 use Rattle.rules.proofs.Records.RoundTrip.{Readable, reads, record-ends}
+use Rattle.records.proofs.KindLaws.{single-is-kind}
 use Rattle.records.proofs.ReadingLaws.{reads-other-map, reads-other-length, reads-on}
 use borrow.Author.Needs.{needs}
 use Rattle.records.proofs.reader.read_as.Statement.{statement}
 use Rattle.records.proofs.reader.read_as.Tie as tie
 
 map-fault-requires : tie.Need-map-fault-requires
-map-fault-requires c κs = let s = c .before in (s .pre .0, single-kind (s .args .kind) (s .pre .2) .1 .0)
+map-fault-requires c κs = let s = c .before in (s .pre .0, single-is-kind (s .args .kind) (s .pre .2))
 
 returns : tie.Need-returns
 returns c =
@@ -26,7 +26,7 @@ mapped : (c : tie.After-enum-told) → applies (mapCheck (c .before .before .bef
 mapped c = checked-same _ none (sym (c .before .before .map-fault .ensures) ∙ c .enum-told .given .1)
 
 wanted-length-requires : tie.Need-wanted-length-requires
-wanted-length-requires c κs = let s = c .before .before .before .before in single-kind (s .args .kind) (s .pre .2) .1 .0
+wanted-length-requires c κs = let s = c .before .before .before .before in single-is-kind (s .args .kind) (s .pre .2)
 
 returns-2 : tie.Need-returns-2
 returns-2 c =

@@ -1,14 +1,15 @@
 -- The record is its map and, where that ends, its fields.
 use native.Mathlib.Omega.{arith}
 use Rattle.rules.specs.Requests.{offset}
-use Rattle.rules.proofs.Checks.KindTables.{single-kind, tables-agree}
+use Rattle.rules.proofs.Checks.KindTables.{tables-agree}
+use Rattle.records.proofs.KindLaws.{single-is-kind}
 use Rattle.records.proofs.WritingLaws.{record-put}
 use borrow.Author.Needs.{needs}
 use Rattle.records.proofs.writer.put_record.Statement.{statement}
 use Rattle.records.proofs.writer.put_record.Tie as tie
 
 wanted-map-requires : tie.Need-wanted-map-requires
-wanted-map-requires c κs = single-kind (c .before .args .q .kind) (c .before .pre .0) .1 .0
+wanted-map-requires c κs = single-is-kind (c .before .args .q .kind) (c .before .pre .0)
 
 put-u16-requires : tie.Need-put-u16-requires
 unfolding offset

@@ -2,7 +2,7 @@
 use mathlib.Core.Path.{_∙_, sym}
 use native.Mathlib.Omega.{arith}
 use borrow.Author.Tests.{not-true, not-false}
-use Rattle.rules.proofs.Checks.KindTables.{single-kind}
+use Rattle.records.proofs.KindLaws.{single-is-kind}
 use Rattle.records.proofs.WritingLaws.{writes-no-kind, writes-no-room, writes-record}
 use borrow.Author.Needs.{needs}
 use Rattle.records.proofs.writer.write.Statement.{statement}
@@ -16,7 +16,7 @@ returns c =
 wanted-length-requires : tie.Need-wanted-length-requires
 wanted-length-requires c κs =
     let single = sym (c .before .is-single .ensures) ∙ not-false (c .before .is-single .result) (c .if1 .left) in
-    single-kind (c .before .before .before .args .request .kind) single .1 .0
+    single-is-kind (c .before .before .before .args .request .kind) single
 
 returns-2 : tie.Need-returns-2
 returns-2 c =

@@ -1,11 +1,11 @@
 -- Each pass is its own check.
-use native.Mathlib.Omega.{arith}
+use mathlib.Core.Path.{refl}
 use borrow.Author.Needs.{needs}
 use Rattle.strip_rows.proofs.record.row_fault.Statement.{statement}
 use Rattle.strip_rows.proofs.record.row_fault.Tie as tie
 
 map-fault-requires : tie.Need-map-fault-requires
-map-fault-requires c κs = let start = c .before .before .before in (rw (c .enum-told3 .given .1) at (start .pre .1), omega arith)
+map-fault-requires c κs = let start = c .before .before .before in (rw (c .enum-told3 .given .1) at (start .pre .1), refl)
 
 returns : tie.Need-returns
 returns c = rw (c .before .before .enum-told .given .1, ← c .before .is-unreadable .ensures) (c .fails-if .ensures)
