@@ -1,5 +1,4 @@
 // An outcome as one number.
-ghost use mathlib.Core.Path.{_≡_};
 ghost use Rattle.rules.specs.Verdicts.{numbers};
 ghost use Rattle.abi.specs.Packing.{Packs};
 use rules::Outcome;

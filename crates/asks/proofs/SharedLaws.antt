@@ -1,6 +1,6 @@
 -- What the tests of all asks share: the sums of account hours fit their bits with a row more, a margin is tested by these sums, and the
 -- exposure with a pending row in is the operator's and what the row adds as a sale.
-use Prim.Native.Nat.{ℕ, _+_, _*_, _^_, _≤_, _<_}
+use Prim.Native.Nat.{ℕ, _+_, _*_, _≤_, _<_}
 use mathlib.Core.Path.{_≡_, refl}
 use mathlib.Core.List.{List, [], _∷_}
 use mathlib.Core.Bool.{Bool, true, not}

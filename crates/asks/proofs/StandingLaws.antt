@@ -22,7 +22,7 @@ use Rattle.rules.specs.Registration.{withStatus, proposed, registerOf, alike, b
 use Rattle.rules.specs.Asks.{wouldRegister, askStands, asksStand}
 use Rattle.rules.proofs.Basics.Searches.{some-of, none-of}
 use Rattle.image.specs.Layout.{asksOffset, asksSize}
-use Rattle.image.specs.Valid.{rowOk, isSound, bookIn, bookBytes}
+use Rattle.image.specs.Valid.{rowOk, isSound, bookIn}
 use Rattle.image.proofs.Sound.Soundness.{row-sound}
 use Rattle.image.proofs.Sound.SoundBooks.{AskRow, book-sound}
 use Rattle.image.proofs.Round.{one-book}

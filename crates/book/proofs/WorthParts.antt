@@ -15,7 +15,7 @@ use Rattle.units.specs.Units.{centsPerMwh}
 use Rattle.rules.specs.declared.Counts.{Counts}
 use Rattle.rules.specs.declared.Row.{Row}
 use Rattle.rules.specs.Basics.{if_then_else_, total, nth, counting, upTo, within, Each}
-use Rattle.rules.specs.Limits.{mostEnergy, mostPrice, mostHours, mostAccounts}
+use Rattle.rules.specs.Limits.{mostEnergy, mostPrice, mostHours}
 use Rattle.rules.specs.Books.{Setup, noRow, estimateAt, operatorOf, accountCount, periods}
 use Rattle.rules.specs.Opening.{countsIn, estimatesIn, setupOf}
 use Rattle.rules.specs.Registration.{pending, exposure, exposureWith}

@@ -1,7 +1,6 @@
 -- What opening and the two readings answer, on any bytes (document 01, "Opening", "Registration").
 use Prim.Native.Nat.{ℕ}
 use mathlib.Core.List.{List}
-use mathlib.Core.Bool.{Bool, true, false}
 use Rattle.rules.specs.declared.NetReading.{NetReading}
 use Rattle.rules.specs.declared.ExposureReading.{ExposureReading}
 use Rattle.rules.specs.declared.Refusal.the-variants.{NotABook}

@@ -21,7 +21,7 @@ use Rattle.rules.specs.Limits.{mostHours, bookSize}
 use Rattle.rules.specs.Verdicts.{_⇒_, _⇒↑_, firstToApply, checked, refused}
 use Rattle.rules.specs.Books.{Book, countsOf}
 use Rattle.rules.specs.Opening.{countsIn}
-use Rattle.rules.specs.Requests.{Kind, register, settle, ask, isSingle, kindNumber, kindOf, fieldIn, requestOf, readChecks, readingOf, reading, isStrip, Fits, faultyBit, faultyBitAmong, sameAccounts, rangeChecks}
+use Rattle.rules.specs.Requests.{Kind, register, settle, strip, ask, isSingle, kindNumber, kindOf, fieldIn, requestOf, readChecks, readingOf, reading, isStrip, Fits, faultyBit, faultyBitAmong, sameAccounts, rangeChecks}
 use Rattle.rules.specs.Calls.{Call, Answer, refusedOn, callRequests, callKind, _oneOf_, checkedAs, bytesChecks, inputChecks, refusal}
 use Rattle.rules.proofs.Basics.Tests.{and-both}
 use Rattle.rules.proofs.Checks.Clearing.{checked-same, clear, spared, spared↑}

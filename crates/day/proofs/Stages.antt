@@ -1,6 +1,6 @@
 -- What a call on the bytes of a sound book answers before asks are cleared, by what the rules refuse it for on that book.
 use Prim.Native.Nat.{ℕ}
-use mathlib.Core.Path.{_≡_, refl, _∙_}
+use mathlib.Core.Path.{_≡_}
 use mathlib.Core.List.{List, [], _∷_}
 use mathlib.Core.Option.{Option, none, some}
 use mathlib.Core.Bool.{true, false}

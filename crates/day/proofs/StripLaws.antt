@@ -2,12 +2,12 @@
 -- would leave.
 use Prim.Native.Nat.{ℕ}
 use mathlib.Core.Path.{_≡_, refl, sym, ap, _∙_}
-use mathlib.Core.List.{List, map}
+use mathlib.Core.List.{List}
 use mathlib.Core.Bool.{Bool, true, false}
 use lib.ListN.{length, getD}
 use Rattle.wire.specs.Numbers.{Bytes}
 use Rattle.rules.specs.Limits.{mostHours, bookSize}
-use Rattle.rules.specs.Requests.{kindNumber, register, rowLength, isStrip, stripRows}
+use Rattle.rules.specs.Requests.{kindNumber, register, rowLength, isStrip}
 use Rattle.rules.specs.Calls.{Call, Answer, carried}
 use Rattle.rules.specs.Lists.{after, accepts, isAcceptance}
 use Rattle.rules.specs.Strips.{withBytes, stripOfOne, registersOf}

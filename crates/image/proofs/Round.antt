@@ -24,7 +24,7 @@ use Rattle.rules.specs.Limits.{mostOperators, mostAccounts, mostRows, mostSched
 use Rattle.rules.specs.Books.{Setup, Part, Book, askAt, operatorCount}
 use Rattle.rules.specs.Opening.{guaranteeWidth}
 use Rattle.rules.specs.Asks.{asksStand}
-use Rattle.rules.proofs.Basics.Tests.{test-same, and-both}
+use Rattle.rules.proofs.Basics.Tests.{and-both}
 use Rattle.rules.proofs.Basics.Searches.{each-map, at-each}
 use Rattle.image.specs.Layout.{rowWidths, rowWidth, scheduleWidths, scheduleWidth, partWidths, usedSize, bookWidths}
 use Rattle.image.specs.Image.{rowValues, rowBytes, scheduleValues, scheduleBytes, partSections, partBytes, askBytes, flag, savedBytes, sectionsWith, sections, image, rowIn, askIn, scheduleIn, partOf, partIn, savedIn, bookOf, decode}

@@ -3,13 +3,12 @@ use Prim.Native.Nat.{ℕ, suc, _≤_}
 use mathlib.Core.Path.{_≡_, refl, sym, ap, _∙_}
 use mathlib.Core.List.{List, _++_, append-assoc, append-nil}
 use mathlib.Core.Bool.{Bool, true, false, _&&_}
-use lib.ListN.{length, take}
+use lib.ListN.{length}
 use lib.Seq.{length-take-le}
 use Rattle.io.specs.Counts.{Counts}
 use Rattle.rules.specs.Replay.{replay, text}
 use Rattle.rules.proofs.Basics.Tests.{and-spared}
-use Rattle.replaying.specs.declared.Gathered.{Gathered}
-use Rattle.replaying.specs.Gathering.{Progress, Follows, soFar, firstGathered, allGathered, linesIn, toCome, wholeText}
+use Rattle.replaying.specs.Gathering.{Progress, Follows, firstGathered, allGathered, linesIn, toCome, wholeText}
 use Rattle.printing.specs.Rounds.{Replayed, emptied, firstRound, afterRounds, linesOfRounds}
 
 -- some rounds lead from one to the other; their lines and the text to come make the whole

@@ -1,6 +1,5 @@
 // A replay on standard output: opens the book of a stream's set-up, answers each item, and writes the lines that they print.
 ghost use mathlib.Core.Path.{_≡_};
-ghost use mathlib.Core.Bool.{true};
 ghost use Prim.Native.Nat.{_+_, _≤_};
 ghost use lib.ListN.{length};
 ghost use Rattle.rules.specs.Limits.{bookSize, longestStream};

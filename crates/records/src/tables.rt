@@ -1,7 +1,7 @@
 // The tables of the kinds and of the thirteen fields, and what they say of a map.
 ghost use mathlib.Core.Path.{_≡_};
 ghost use mathlib.Core.Bool.{true};
-ghost use Prim.Native.Nat.{_≤_, _<_, _^_};
+ghost use Prim.Native.Nat.{_<_, _^_};
 ghost use Rattle.rules.specs.Basics.{bit};
 ghost use Rattle.rules.specs.Requests.{isKind, isSingle, wantedMap, wantedLength, fieldCount, widthOf, room, more};
 use rules::kinds::COMMIT;

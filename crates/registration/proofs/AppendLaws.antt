@@ -1,5 +1,5 @@
 -- Rows put one after the other behind those that stand, and counted, make the image of the book with them in.
-use Prim.Native.Nat.{ℕ, suc, _+_, _≤_}
+use Prim.Native.Nat.{ℕ, _+_, _≤_}
 use mathlib.Core.Path.{_≡_, refl, sym, ap, _∙_}
 use mathlib.Core.List.{List, [], _∷_, _++_, append-assoc, append-nil}
 use mathlib.Core.Bool.{true}
@@ -15,7 +15,7 @@ use Rattle.image.specs.Layout.{presentOffset, rowOffset}
 use Rattle.image.specs.Image.{image}
 use Rattle.image.proofs.Writing.Sizes.{Fits}
 use Rattle.image.proofs.Writing.BookWrites.{write-row}
-use Rattle.registration.specs.Proposing.{rowAppended, rowsAppended}
+use Rattle.registration.specs.Proposing.{rowsAppended}
 
 fits-more : (b : Book) (r : Row) → Fits b → length (b .part .rows) + 1 ≤ mostRows → Fits (withRows b (b .part .rows ++ r ∷ []))
 fits-more b r f few =

@@ -3,7 +3,7 @@ use Prim.Native.Nat.{ℕ, _-_}
 use mathlib.Core.List.{List, [], _∷_}
 use mathlib.Core.Bool.{Bool}
 use Rattle.rules.specs.declared.Row.{Row}
-use Rattle.rules.specs.Books.{Setup, Book, guaranteeAt, confirmedStatus}
+use Rattle.rules.specs.Books.{Book, guaranteeAt, confirmedStatus}
 use Rattle.rules.specs.Registration.{withStatus, exposure, exposureWith, coveredBy}
 use Rattle.book.specs.Worth.{saleWorth}
 

@@ -9,20 +9,18 @@ use native.Mathlib.Omega.{arith}
 use lib.ListN.{length, getD, length-map, List·getD-eq-default}
 use lib.Seq.{getD-take, length-take-le}
 use lib.Dec.{eqb}
-use borrow.Author.Tests.{eqb-true}
 use Rattle.wire.proofs.NumberLaws.{number-at-one}
 use Rattle.rules.specs.declared.Outcome.{Outcome}
 use Rattle.rules.specs.declared.Refusal.{Refusal}
-use Rattle.rules.specs.Basics.{if_then_else_, Each, upTo}
+use Rattle.rules.specs.Basics.{Each, upTo}
 use Rattle.rules.specs.Verdicts.{Numbers, numbers}
 use Rattle.rules.specs.Books.{Book, operatorCount}
-use Rattle.rules.specs.Requests.{Kind, register, confirm, withdraw, guarantee, openBatch, undo, keep, closeGate, schedule, settle, strip, kindNumber, kindOf, fieldIn, unreadable, readChecks, isStrip, stripChecks}
+use Rattle.rules.specs.Requests.{Kind, settle, kindNumber}
 use Rattle.rules.specs.Settlement.{results, figuresIn}
-use Rattle.rules.specs.Calls.{Call, callKind, bytesChecks, settles, refusal, answer, resultsAfter, _oneOf_, step, workedOut, settlement}
+use Rattle.rules.specs.Calls.{Call, callKind, settles, refusal, answer, resultsAfter, _oneOf_, step, workedOut, settlement}
 use Rattle.rules.specs.Lists.{isAcceptance, accepts, acceptsAs}
 use Rattle.rules.specs.Replay.{callOf, answered, answerLines, settledLines, lineText, text}
 use Rattle.rules.proofs.Basics.Searches.{each-map, counting-length}
-use Rattle.rules.proofs.Checks.Clearing.{Clear}
 use Rattle.rules.proofs.Checks.Passed.{Passed, bytes-kind, readable}
 use Rattle.rules.proofs.Lists.CallLists.{accepts-passed}
 use Rattle.records.proofs.ReadingLaws.{kind-third}

@@ -3,23 +3,19 @@ use Prim.Native.Nat.{ℕ}
 use mathlib.Core.Path.{_≡_, refl, sym, ap, _∙_}
 use mathlib.Core.List.{List, [], _∷_, _++_, map}
 use mathlib.Core.Option.{Option, none, some}
-use mathlib.Core.Bool.{Bool, true, false}
+use mathlib.Core.Bool.{true, false}
 use native.Mathlib.Omega.{arith}
 use borrow.Author.Tests.{eqb-true}
-use Rattle.rules.specs.declared.Checked.{Checked}
-use Rattle.rules.specs.declared.Checked.the-variants.{Clear, Fails}
-use Rattle.rules.specs.declared.Counts.{Counts}
 use Rattle.rules.specs.declared.Outcome.{Outcome}
 use Rattle.rules.specs.declared.Request.{Request}
 use Rattle.rules.specs.declared.Refusal.{Refusal}
 use Rattle.rules.specs.declared.Refusal.the-variants.{WrongLength, OutOfRange, BufferShort}
-use Rattle.rules.specs.Basics.{Each}
-use Rattle.rules.specs.Verdicts.{Check, _⇒_, applies, firstToApply, checked, refused, accepted}
+use Rattle.rules.specs.Verdicts.{Check, _⇒_, firstToApply, refused, accepted}
 use Rattle.rules.specs.Books.{Book, countsOf}
-use Rattle.rules.specs.Requests.{strip, kindNumber, kindOf, fieldIn, headLength, rowLength, isStrip, stripCount, stripRows, stripChecks, requestsOf, firstOf}
+use Rattle.rules.specs.Requests.{strip, kindNumber, kindOf, fieldIn, isStrip, stripCount, stripRows, stripChecks, requestsOf, firstOf}
 use Rattle.rules.specs.Calls.{Call, callKind, callRequests, bytesChecks, inputChecks, stateChecks, refusal, changed, given, step, uncleared, checkedAs}
 use Rattle.rules.proofs.Basics.Searches.{each-map}
-use Rattle.rules.proofs.Checks.Clearing.{checked-same, clear, clear-split, clear-each, spared, spared↑, applies-first, applies-later}
+use Rattle.rules.proofs.Checks.Clearing.{clear, clear-split, clear-each, spared, spared↑, applies-first, applies-later}
 use Rattle.rules.proofs.Checks.Passed.{among-in-range, strip-requests, strip-sized, passed-21, strip-rows-read}
 use Rattle.rules.proofs.Checks.Stages.{bytes-refused, input-refused, state-decides, step-decided, change-decided}
 use Rattle.image.specs.Valid.{isSound, bookIn, bookBytes}

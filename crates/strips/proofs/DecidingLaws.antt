@@ -6,14 +6,13 @@ use mathlib.Core.Option.{Option, none, some}
 use mathlib.Core.Bool.{Bool, true, false}
 use lib.ListN.{length}
 use Rattle.rules.specs.declared.Checked.the-variants.{Clear, Fails}
-use Rattle.rules.specs.declared.Row.{Row}
 use Rattle.rules.specs.declared.Request.{Request}
 use Rattle.rules.specs.declared.Refusal.{Refusal}
 use Rattle.rules.specs.declared.Refusal.the-variants.{WrongPhase, AlreadyPending, StripTwins, RowsFull, MarginBroken, Uncovered}
 use Rattle.rules.specs.Basics.{anyPasses}
 use Rattle.rules.specs.Limits.{mostRows}
 use Rattle.rules.specs.Verdicts.{firstToApply, checked}
-use Rattle.rules.specs.Books.{Setup, Book, operatorOf}
+use Rattle.rules.specs.Books.{Book, operatorOf}
 use Rattle.rules.specs.Requests.{register, strip, firstOf}
 use Rattle.rules.specs.Registration.{proposed, hasTwin, twins, brokenBy}
 use Rattle.rules.specs.Calls.{stateChecks}

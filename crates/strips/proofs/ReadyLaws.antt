@@ -1,19 +1,17 @@
 -- The rows of a strip that is ready are rows of the book, pending, and of one proposer; so are those that are left from any place on.
-use Prim.Native.Nat.{ℕ, _+_, _^_, _≤_, _<_}
+use Prim.Native.Nat.{ℕ}
 use mathlib.Core.Path.{_≡_, refl, ap}
-use mathlib.Core.List.{List, [], _∷_, map}
+use mathlib.Core.List.{List, [], map}
 use mathlib.Core.Bool.{true}
 use native.Mathlib.Omega.{arith}
 use lib.ListN.{length, drop, length-map}
 use Rattle.wire.specs.Numbers.{Bytes}
-use Rattle.wire.specs.Parts.{chunks}
 use Rattle.wire.proofs.NumberLaws.{bytes-drop}
 use Rattle.wire.proofs.SlotLaws.{length-chunks}
-use Rattle.rules.specs.declared.Row.{Row}
 use Rattle.rules.specs.declared.Request.{Request}
-use Rattle.rules.specs.Basics.{Each, nil, cons}
+use Rattle.rules.specs.Basics.{Each}
 use Rattle.rules.specs.Books.{Setup, Book}
-use Rattle.rules.specs.Requests.{wantedMap, headLength, rowLength, requestOf, firstOf}
+use Rattle.rules.specs.Requests.{wantedMap, headLength, rowLength, requestOf}
 use Rattle.rules.specs.Registration.{pending, proposed}
 use Rattle.rules.proofs.Basics.Searches.{each-map, each-both, each-image, each-any, each-nth}
 use Rattle.rules.proofs.Checks.Passed.{TradeFields}
@@ -22,8 +20,8 @@ use Rattle.rules.proofs.Records.StripRows.{chunks-bytes}
 use Rattle.image.proofs.Sound.Soundness.{SoundRow}
 use Rattle.image.proofs.Keeping.KeepsKinds.{CodesFit, each-proposed-sound}
 use Rattle.book.specs.Members.{IsAccount}
-use Rattle.strip_rows.specs.Rows.{rowsFrom, requestsFrom, IsRegister, RegisterRows, StripOf}
-use Rattle.strips.specs.Ready.{stripRequests, proposedRows, proposer, ReadyStrip}
+use Rattle.strip_rows.specs.Rows.{rowsFrom, requestsFrom, IsRegister}
+use Rattle.strips.specs.Ready.{stripRequests, proposer, ReadyStrip}
 
 -- as many requests as rows
 pub requests-length : (s : List ℕ) (at n : ℕ) → length (requestsFrom s at n) ≡ n

@@ -1,8 +1,8 @@
 -- Regions of a list of bytes: replaced, copied over another, all zero.
 use Prim.Native.Nat.{ℕ, zero, suc, _+_, _≤_}
 use mathlib.Core.Logic.{_⊎_}
-use mathlib.Core.Bool.{Bool, true, false, _&&_}
-use mathlib.Core.List.{List, [], _∷_}
+use mathlib.Core.Bool.{Bool, true, _&&_}
+use mathlib.Core.List.{List}
 use lib.ListN.{length, getD}
 use lib.Seq.{paste}
 use lib.Dec.{eqb}

@@ -1,19 +1,18 @@
 -- Every call leaves a valid book valid: a refused one leaves the book, an accepted one passed the checks of its kind.
-use Prim.Native.Nat.{ℕ, zero, suc, _^_, _<_}
+use Prim.Native.Nat.{ℕ, _^_, _<_}
 use mathlib.Core.Path.{_≡_, refl, ap, _∙_}
 use mathlib.Core.Logic.{_⊎_, inl, inr, ⊎-elim}
 use mathlib.Core.List.{List, [], _∷_}
 use mathlib.Core.Option.{Option, none, some}
 use mathlib.Core.Bool.{Bool, true, false, not}
 use native.Mathlib.Omega.{arith}
-use lib.ListN.{getD, set}
 use Rattle.wire.specs.Numbers.{Bytes}
 use Rattle.rules.specs.declared.Row.{Row}
 use Rattle.rules.specs.declared.Request.{Request}
 use Rattle.rules.specs.declared.Refusal.{Refusal}
 use Rattle.rules.specs.Limits.{mostAccounts}
 use Rattle.rules.specs.Books.{Part, Book, withAsks, askAt, noAsks}
-use Rattle.rules.specs.Requests.{Kind, register, confirm, withdraw, guarantee, openBatch, undo, keep, closeGate, schedule, settle, strip, ask, commit, isStrip, stripRows, requestOf, requestsOf, firstOf}
+use Rattle.rules.specs.Requests.{Kind, register, confirm, withdraw, guarantee, openBatch, undo, keep, closeGate, schedule, settle, strip, ask, commit, isStrip, requestOf, requestsOf, firstOf}
 use Rattle.rules.specs.Registration.{proposed, twins}
 use Rattle.rules.specs.Calls.{Call, callRequests, callKind, change, changed, next, _oneOf_, checkedAs, inputChecks, stateChecks, step, apply}
 use Rattle.rules.specs.Asks.{wouldRegister, askStands, asksStand}

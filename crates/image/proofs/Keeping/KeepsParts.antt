@@ -1,6 +1,6 @@
 -- What a change makes of a sound part is sound, where it brings what it needs: each account is eased, or is the caller's, which was checked anew; so is each
 -- operator.
-use Prim.Native.Nat.{ℕ, zero, suc, _+_, _≤_, _<_}
+use Prim.Native.Nat.{ℕ, zero, suc, _+_, _≤_}
 use mathlib.Core.Path.{_≡_, refl, sym, ap, _∙_}
 use mathlib.Core.Logic.{⊎-elim}
 use mathlib.Core.List.{List, _++_, map}

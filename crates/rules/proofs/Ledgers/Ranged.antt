@@ -11,7 +11,7 @@ use Rattle.rules.specs.declared.Counts.{Counts}
 use Rattle.rules.specs.declared.Row.{Row}
 use Rattle.rules.specs.declared.Schedule.{Schedule}
 use Rattle.rules.specs.declared.Request.{Request}
-use Rattle.rules.specs.Basics.{bit, Each, nil, cons}
+use Rattle.rules.specs.Basics.{bit, Each, nil}
 use Rattle.rules.specs.Books.{Part, Book, accountCount, pointCount, countsOf}
 use Rattle.rules.specs.Opening.{opened}
 use Rattle.rules.specs.Requests.{Kind, register, confirm, withdraw, guarantee, openBatch, undo, keep, closeGate, schedule, settle, strip, ask, commit, kindNumber, wantedMap, inRange, faultyBit, firstOf}

@@ -1,7 +1,6 @@
 -- The rows of a strip are bytes where the strip is.
 use Prim.Native.Nat.{ℕ, zero, suc}
 use mathlib.Core.List.{List}
-use lib.ListN.{take, drop}
 use Rattle.wire.specs.Numbers.{Bytes}
 use Rattle.wire.specs.Parts.{chunks}
 use Rattle.wire.proofs.NumberLaws.{bytes-take, bytes-drop}

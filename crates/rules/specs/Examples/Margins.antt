@@ -6,7 +6,7 @@ use Rattle.units.specs.Units.{cents}
 use Rattle.rules.specs.Books.{Account}
 use Rattle.rules.specs.Opening.{setupBytes}
 use Rattle.rules.specs.Streams.{forHours, account, injector, withdrawer, plant, setupWith, trade}
-use Rattle.rules.specs.Cases.{Case, Prints}
+use Rattle.rules.specs.Cases.{Prints}
 use Rattle.rules.specs.Everything.{everything}
 
 -- the whole case's set-up with other accounts, and ample guarantees

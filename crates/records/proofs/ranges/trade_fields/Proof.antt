@@ -1,5 +1,4 @@
 -- The fields of a trade, and then its accounts.
-use mathlib.Core.Path.{sym, _∙_}
 use borrow.Author.Needs.{needs}
 use Rattle.rules.specs.Basics.{bit}
 use Rattle.rules.specs.Requests.{sameAccounts}

@@ -1,6 +1,6 @@
 -- Each test of the code is that of a check, in the order of the checks.
 use Prim.Native.Nat.{_+_, _*_, _≤_}
-use mathlib.Core.Path.{_≡_, sym, ap, _∙_}
+use mathlib.Core.Path.{_≡_, refl, sym, ap, _∙_}
 use mathlib.Core.Option.{none, some}
 use mathlib.Core.Bool.{false}
 use native.Mathlib.Omega.{arith}
@@ -75,7 +75,7 @@ strip-fault-spec =
     (tie.spec
     (λ c κs. search needs)
     returns
-    (λ c κs. (fine c, omega arith))
+    (λ c κs. (fine c, refl))
     (λ c. search needs)
     returns-2
     (λ c. search needs)

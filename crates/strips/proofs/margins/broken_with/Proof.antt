@@ -13,7 +13,6 @@ use Rattle.rules.specs.Limits.{mostHours}
 use Rattle.rules.specs.Books.{periods}
 use Rattle.rules.specs.Registration.{pending, brokenBy}
 use Rattle.image.specs.Valid.{bookIn}
-use Rattle.book.specs.Members.{IsHour}
 use Rattle.book.specs.Waits.{WaitsOf}
 use Rattle.book.proofs.StateLaws.{book-length}
 use Rattle.book.proofs.BookRows.{setup-tabled, counts-in, margins-read, accounts-read, hours-few}

@@ -1,5 +1,5 @@
 -- The margins are tested first and then the exposure, both with every row in, as the refusals are ranked.
-use mathlib.Core.Path.{_≡_, sym, ap, _∙_}
+use mathlib.Core.Path.{_≡_, sym, _∙_}
 use denote.Ref.{now}
 use Rattle.rules.specs.Registration.{brokenBy}
 use Rattle.image.specs.Valid.{bookIn}
