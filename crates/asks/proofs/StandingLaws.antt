@@ -35,7 +35,7 @@ use Rattle.registration.specs.Proposing.{Proposing}
 use Rattle.registration.specs.Cover.{coveredWithRow}
 use Rattle.registration.proofs.RegisterLaws.{no-number-left, margin-breaks, row-uncovered, covered-with-row}
 use Rattle.image.specs.Image.{askedFor}
-use Rattle.asks.specs.Standing.{someAsked}
+use Rattle.asks.specs.Standing.{someAskTwin}
 use Rattle.asks.proofs.PlaceLaws.{asked-pending, cleared-written}
 use Rattle.asks.proofs.TwinLaws.{none-twin}
 
@@ -94,7 +94,7 @@ module _ (s : List ℕ) (h : isSound s ≡ true) where
       pub later-falls : (bookIn s .phase ≡ 1 → ⊥) → false ≡ askStands (bookIn s) (askAt (bookIn s) a)
       later-falls n = falls _ (in-wrong-phase (bookIn s) (registerOf r) register n)
 
-      module _ (alone : someAsked (bookIn s) ≡ false) (first : bookIn s .phase ≡ 1) where
+      module _ (alone : someAskTwin (bookIn s) ≡ false) (first : bookIn s .phase ≡ 1) where
         no-twin : anyPasses (alike (r .proposer) (r .counterparty) (r .code)) (bookIn s .part .rows) ≡ false
         no-twin = none-twin (bookIn s) alone r (ap (askAt (bookIn s)) (ask-row .own) ∙ there)
 

@@ -23,18 +23,18 @@ use Rattle.image.specs.Valid.{isSound, bookIn}
 use Rattle.image.proofs.Sound.Soundness.{every-upTo}
 use Rattle.book.proofs.BookRows.{rows-tabled}
 use Rattle.image.specs.Image.{askedFor}
-use Rattle.asks.specs.Standing.{twinOf, isAsked, someAsked}
+use Rattle.asks.specs.Standing.{twinOf, isAskTwin, someAskTwin}
 use Rattle.asks.proofs.PlaceLaws.{asked-pending}
 
 -- a row beside what is in its proposer's place
-pub asked-tested : (s : List ℕ) → isSound s ≡ true → (r x : Row) → 1 ≤ r .proposer → r .proposer ≤ mostAccounts
+pub twin-tested : (s : List ℕ) → isSound s ≡ true → (r x : Row) → 1 ≤ r .proposer → r .proposer ≤ mostAccounts
     → askAt (bookIn s) (r .proposer) ≡ askedFor x
-    → (pending x && pending r && eqb (r .counterparty) (x .counterparty) && eqb (r .code) (x .code)) ≡ isAsked (bookIn s) r
-unfolding isAsked alike
-asked-tested s h r x low high e = go (eqb (x .status) 0) refl
+    → (pending x && pending r && eqb (r .counterparty) (x .counterparty) && eqb (r .code) (x .code)) ≡ isAskTwin (bookIn s) r
+unfolding isAskTwin alike
+twin-tested s h r x low high e = go (eqb (x .status) 0) refl
   where
     go : (t : Bool) → eqb (x .status) 0 ≡ t
-        → (pending x && pending r && eqb (r .counterparty) (x .counterparty) && eqb (r .code) (x .code)) ≡ isAsked (bookIn s) r
+        → (pending x && pending r && eqb (r .counterparty) (x .counterparty) && eqb (r .code) (x .code)) ≡ isAskTwin (bookIn s) r
     go true z = rw (e, z, eqb-true (x .status) 0 z)
     go false z =
         let there : askAt (bookIn s) (r .proposer) ≡ some x = e ∙ rw z in
@@ -48,17 +48,17 @@ asked-tested s h r x low high e = go (eqb (x .status) 0) refl
 
 module _ (b : Book) where
   -- where no row is a twin of its proposer's ask, an ask has none
-  pub none-twin : someAsked b ≡ false → (x : Row) → askAt b (x .proposer) ≡ some x
+  pub none-twin : someAskTwin b ≡ false → (x : Row) → askAt b (x .proposer) ≡ some x
       → anyPasses (alike (x .proposer) (x .counterparty) (x .code)) (b .part .rows) ≡ false
-  unfolding isAsked
+  unfolding isAskTwin
   none-twin e x held = none-any _ (each-map (λ r f. go r (alike (x .proposer) (x .counterparty) (x .code) r) refl f) (any-none _ _ e))
     where
-      go : (r : Row) (t : Bool) → alike (x .proposer) (x .counterparty) (x .code) r ≡ t → isAsked b r ≡ false
+      go : (r : Row) (t : Bool) → alike (x .proposer) (x .counterparty) (x .code) r ≡ t → isAskTwin b r ≡ false
           → alike (x .proposer) (x .counterparty) (x .code) r ≡ false
       go r false g f = g
       go r true g f =
           let own = alike-true (x .proposer) (x .counterparty) (x .code) r g .proposer in
-          let same : isAsked b r ≡ alike (x .proposer) (x .counterparty) (x .code) r = ap (λ (o : Option Row). twinOf o r) (ap (askAt b) own ∙ held) in
+          let same : isAskTwin b r ≡ alike (x .proposer) (x .counterparty) (x .code) r = ap (λ (o : Option Row). twinOf o r) (ap (askAt b) own ∙ held) in
           let z : true ≡ false = sym g ∙ sym same ∙ f in cc
 
   -- where every ask stands, none has one
@@ -70,25 +70,25 @@ module _ (b : Book) where
         let accepts : wouldRegister b x ≡ true = ap (askStands b) (sym e) ∙ every-upTo (λ a. askStands b (askAt b a)) mostAccounts stand a low high in
         passed-14 b (registerOf x ∷ []) register refl (clear _ (none-of _ (not-true _ accepts)))
 
-    not-asked : (r : Row) → 1 ≤ r .proposer → r .proposer ≤ mostAccounts → (i : ℕ) → r ≡ getD (b .part .rows) i noRow → i < length (b .part .rows)
-        → isAsked b r ≡ false
-    unfolding isAsked
-    not-asked r low high i e inside = go (askAt b (r .proposer)) refl
+    not-twin : (r : Row) → 1 ≤ r .proposer → r .proposer ≤ mostAccounts → (i : ℕ) → r ≡ getD (b .part .rows) i noRow → i < length (b .part .rows)
+        → isAskTwin b r ≡ false
+    unfolding isAskTwin
+    not-twin r low high i e inside = go (askAt b (r .proposer)) refl
       where
-        go : (o : Option Row) → askAt b (r .proposer) ≡ o → isAsked b r ≡ false
+        go : (o : Option Row) → askAt b (r .proposer) ≡ o → isAskTwin b r ≡ false
         go none held = rw held
         go (some x) held =
             let alone = first-and-rest (any-none _ _ (free-of-twins (r .proposer) x low high held)) .0 in
             rw held (rw e (each-at noRow i (any-none _ (b .part .rows) alone) inside))
 
-    pub none-asked : Each (λ r. (1 ≤ r .proposer) × (r .proposer ≤ mostAccounts)) (b .part .rows) → someAsked b ≡ false
-    none-asked known =
-        none-any (isAsked b)
-        (at-each noRow (b .part .rows) (λ i inside. let k = each-at noRow i known inside in not-asked _ (k .0) (k .1) i refl inside))
+    pub none-twins : Each (λ r. (1 ≤ r .proposer) × (r .proposer ≤ mostAccounts)) (b .part .rows) → someAskTwin b ≡ false
+    none-twins known =
+        none-any (isAskTwin b)
+        (at-each noRow (b .part .rows) (λ i inside. let k = each-at noRow i known inside in not-twin _ (k .0) (k .1) i refl inside))
 
 -- so where a row is a twin of an ask, not every ask stands
-pub twin-falls : (s : List ℕ) → isSound s ≡ true → someAsked (bookIn s) ≡ true → asksStand (bookIn s) ≡ false
+pub twin-falls : (s : List ℕ) → isSound s ≡ true → someAskTwin (bookIn s) ≡ true → asksStand (bookIn s) ≡ false
 twin-falls s h e =
-    test-fails (asksStand (bookIn s)) (not (someAsked (bookIn s)))
-    (λ stand. rw (none-asked (bookIn s) stand (each-map (λ r t. (t .proposer-low, t .proposer-high)) (rows-tabled s h))))
+    test-fails (asksStand (bookIn s)) (not (someAskTwin (bookIn s)))
+    (λ stand. rw (none-twins (bookIn s) stand (each-map (λ r t. (t .proposer-low, t .proposer-high)) (rows-tabled s h))))
     (rw e)

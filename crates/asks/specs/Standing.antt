@@ -20,12 +20,12 @@ twinOf none r = false
 twinOf (some x) r = alike (x .proposer) (x .counterparty) (x .code) r
 
 -- the row is a twin of its proposer's ask
-unfoldable pub isAsked : Book → Row → Bool
-isAsked b r = twinOf (askAt b (r .proposer)) r
+unfoldable pub isAskTwin : Book → Row → Bool
+isAskTwin b r = twinOf (askAt b (r .proposer)) r
 
 -- some row of the book is
-abbrev pub someAsked : Book → Bool
-someAsked b = anyPasses (isAsked b) (b .part .rows)
+abbrev pub someAskTwin : Book → Bool
+someAskTwin b = anyPasses (isAskTwin b) (b .part .rows)
 
 -- how many exposures there are: one for each operator that a book can have, and one for no operator
 abbrev pub exposuresSize : ℕ

@@ -12,10 +12,10 @@ ghost use Rattle.image.specs.Valid.{isSound, bookIn, rowOk};
 ghost use Rattle.tables.specs.Sums.{SumsOf};
 ghost use Rattle.book.specs.Worth.{SaleInputs};
 ghost use Rattle.registration.specs.Cover.{coveredWithRow};
-ghost use Rattle.asks.specs.Standing.{OperatorExposures, AskInputs, someAsked};
+ghost use Rattle.asks.specs.Standing.{OperatorExposures, AskInputs, someAskTwin};
 use crate::exposures::operator_exposures;
 use crate::places::asked_row;
-use crate::twins::any_is_asked;
+use crate::twins::any_ask_twin;
 use book::state::operator_of;
 use book::state::phase;
 use book::state::row_count;
@@ -81,7 +81,7 @@ fn ask_stands(
     number: u8,
 ) -> bool
     requires { ⌜ AskInputs (now book) (now table) (now exposures) (now sums) (now operators) ⌝ }
-    requires { ⌜ (someAsked (bookIn (now book)) ≡ false) × (1 ≤ number) × (number ≤ mostAccounts) ⌝ }
+    requires { ⌜ (someAskTwin (bookIn (now book)) ≡ false) × (1 ≤ number) × (number ≤ mostAccounts) ⌝ }
     ensures { λ r. ⌜ (let b = bookIn (now (book .entry)) in r ≡ askStands b (askAt b number)) ⌝ }
 {
     let row = asked_row(book, number);
@@ -102,7 +102,7 @@ fn ask_stands(
 
 // Whether register would accept every ask that stands. No row is a twin of an ask.
 fn each_stands(book: &[u8], table: &[u32]) -> bool
-    requires { ⌜ (isSound (now book) ≡ true) × (someAsked (bookIn (now book)) ≡ false) ⌝ }
+    requires { ⌜ (isSound (now book) ≡ true) × (someAskTwin (bookIn (now book)) ≡ false) ⌝ }
     requires { ⌜ SumsOf mostHours (bookIn (now book) .part .rows) (now table) ⌝ }
     ensures { λ r. ⌜ r ≡ asksStand (bookIn (now (book .entry))) ⌝ }
 {
@@ -129,7 +129,7 @@ pub fn asks_stand(book: &[u8], table: &[u32]) -> bool
     if all_zero(book, ASKS_OFFSET, ASKS_SIZE) {
         return true;
     }
-    if any_is_asked(book) {
+    if any_ask_twin(book) {
         return false;
     }
     each_stands(book, table)

@@ -19,12 +19,12 @@ returns c =
 returns-2 : tie.Need-returns-2
 returns-2 c =
     let pre = c .before .before .before .before .before .before .pre in
-    sym (twin-falls _ (pre .0) (sym (c .before .any-is-asked .ensures) ∙ c .if2 .taken))
+    sym (twin-falls _ (pre .0) (sym (c .before .any-ask-twin .ensures) ∙ c .if2 .taken))
 
 each-stands-requires : tie.Need-each-stands-requires
 each-stands-requires c κs =
     let pre = c .before .before .before .before .before .before .pre in
-    ((pre .0, sym (c .before .any-is-asked .ensures) ∙ c .if2 .left), pre .1)
+    ((pre .0, sym (c .before .any-ask-twin .ensures) ∙ c .if2 .left), pre .1)
 
 pub asks-stand-spec : {M : Type 1} → statement M
 asks-stand-spec =

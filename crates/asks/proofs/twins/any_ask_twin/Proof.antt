@@ -9,9 +9,9 @@ use Rattle.rules.specs.Basics.{anyPasses}
 use Rattle.rules.specs.Limits.{mostRows}
 use Rattle.image.specs.Valid.{bookIn}
 use Rattle.book.proofs.WaitLaws.{told-next, told-last}
-use Rattle.asks.specs.Standing.{isAsked, someAsked}
-use Rattle.asks.proofs.twins.any_is_asked.Statement.{statement}
-use Rattle.asks.proofs.twins.any_is_asked.Tie as tie
+use Rattle.asks.specs.Standing.{isAskTwin, someAskTwin}
+use Rattle.asks.proofs.twins.any_ask_twin.Statement.{statement}
+use Rattle.asks.proofs.twins.any_ask_twin.Tie as tie
 
 abbrev Inv-loop : tie.InvT-loop
 Inv-loop book count found₀ number₀ found number =
@@ -20,7 +20,7 @@ Inv-loop book count found₀ number₀ found number =
     × (count ≤ mostRows)
     × (1 ≤ number)
     × (number ≤ count + 1)
-    × (found || anyPasses (isAsked b) (drop (number - 1) (b .part .rows)) ≡ someAsked b)
+    × (found || anyPasses (isAskTwin b) (drop (number - 1) (b .part .rows)) ≡ someAskTwin b)
 
 abbrev μ-loop : tie.MeasureT-loop
 μ-loop book count found₀ number₀ found number = count + 1 - number
@@ -28,8 +28,8 @@ abbrev μ-loop : tie.MeasureT-loop
 loop-holds : tie.Need-loop-holds Inv-loop μ-loop
 loop-holds c = (c .row-count .ensures .0, c .row-count .ensures .1, search needs, search needs, refl)
 
-is-asked-requires : tie.Need-is-asked-requires Inv-loop μ-loop
-is-asked-requires c κs =
+is-ask-twin-requires : tie.Need-is-ask-twin-requires Inv-loop μ-loop
+is-ask-twin-requires c κs =
     let l = c .before .loop in (c .before .before .before .before .pre, (l .inv .2, omega (arith, l .inv .0)))
 
 loop-again : tie.Need-loop-again Inv-loop μ-loop
@@ -39,22 +39,22 @@ loop-again c =
       l .inv .1,
       search needs,
       search needs,
-      told-next _ _ (l .number) (l .found) (c .is-asked .result) (l .inv .2) (omega (arith, l .inv .0)) (c .is-asked .ensures) (l .inv .4),
+      told-next _ _ (l .number) (l .found) (c .is-ask-twin .result) (l .inv .2) (omega (arith, l .inv .0)) (c .is-ask-twin .ensures) (l .inv .4),
     )
 
 returns : tie.Need-returns Inv-loop μ-loop
 returns c =
     let l = c .before .loop in told-last _ _ (l .number - 1) _ (omega (arith, l .inv .0)) (l .inv .4)
 
-pub any-is-asked-spec : {M : Type 1} → statement M
-any-is-asked-spec =
+pub any-ask-twin-spec : {M : Type 1} → statement M
+any-ask-twin-spec =
     tie.close
     (tie.spec
     Inv-loop
     μ-loop
     (λ c κs. search needs)
     loop-holds
-    is-asked-requires
+    is-ask-twin-requires
     (λ c. search needs)
     (λ c. search needs)
     loop-again

@@ -3,9 +3,9 @@ use mathlib.Core.Path.{_∙_}
 use native.Mathlib.Omega.{arith}
 use Rattle.book.proofs.StateLaws.{book-length, row-count-high, numbered-row-stands}
 use Rattle.book.proofs.BookRows.{numbered-tabled}
-use Rattle.asks.proofs.TwinLaws.{asked-tested}
-use Rattle.asks.proofs.twins.is_asked.Statement.{statement}
-use Rattle.asks.proofs.twins.is_asked.Tie as tie
+use Rattle.asks.proofs.TwinLaws.{twin-tested}
+use Rattle.asks.proofs.twins.is_ask_twin.Statement.{statement}
+use Rattle.asks.proofs.twins.is_ask_twin.Tie as tie
 
 row-offset-requires : tie.Need-row-offset-requires
 row-offset-requires c κs = let pre = c .before .pre in omega (arith, pre .1, row-count-high _ (pre .0))
@@ -32,7 +32,7 @@ returns c =
     let pre = start .pre in
     let row = read .row-at .ensures ∙ numbered-row-stands _ (pre .0) (start .args .number) _ (pre .1) (place .row-offset .ensures) in
     let k = numbered-tabled _ (pre .0) (start .args .number) (pre .1) in
-    asked-tested _ (pre .0) (read .row-at .result) (asked .asked-row .result) (rw row (k .proposer-low)) (rw row (k .proposer-high)) (asked .asked-row .ensures) ∙ rw row
+    twin-tested _ (pre .0) (read .row-at .result) (asked .asked-row .result) (rw row (k .proposer-low)) (rw row (k .proposer-high)) (asked .asked-row .ensures) ∙ rw row
 
-pub is-asked-spec : {M : Type 1} → statement M
-is-asked-spec = tie.close (tie.spec row-offset-requires row-at-requires asked-row-requires returns)
+pub is-ask-twin-spec : {M : Type 1} → statement M
+is-ask-twin-spec = tie.close (tie.spec row-offset-requires row-at-requires asked-row-requires returns)
