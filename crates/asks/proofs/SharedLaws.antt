@@ -24,7 +24,7 @@ use Rattle.book.specs.Worth.{saleWorth}
 use Rattle.book.proofs.StateLaws.{book-is-sound}
 use Rattle.book.proofs.WorthLaws.{exposure-more}
 use Rattle.book.proofs.WorthParts.{Listed}
-use Rattle.registration.proofs.MarginLaws.{breaks}
+use Rattle.registration.proofs.MarginLaws.{breaksWith}
 use Rattle.registration.proofs.CoverLaws.{exposure-available, guarantee-stands}
 use Rattle.asks.specs.Standing.{OperatorExposures, exposuresSize}
 
@@ -73,6 +73,6 @@ module _ (s : List ℕ) (h : isSound s ≡ true) where
 -- the test of an hour as code makes it
 pub breaks-summed : (u : Setup) (rows : List Row) (trade : Row) (a h : ℕ) (margins : Margins) (held after : AccountHour) (t : Bool)
     → margins ≡ marginsAt u a h → held ≡ accountHour rows a h → after ≡ afterTrade a h held trade → t ≡ keepsMargins margins after
-    → breaks u rows trade a h ≡ not t
-unfolding breaks
+    → breaksWith u rows (trade ∷ []) a h ≡ not t
+unfolding breaksWith
 breaks-summed u rows trade a h margins held after t eo eh ea et = rw (← eo, ← eh, ← ea, ← et)

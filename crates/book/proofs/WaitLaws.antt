@@ -4,6 +4,7 @@ use mathlib.Core.Path.{_≡_, refl, sym, ap, _∙_}
 use mathlib.Core.List.{List, [], _∷_, _++_}
 use mathlib.Core.Bool.{Bool, true, false, _&&_, _||_, and-true, and-false, or-assoc, or-false}
 use native.Mathlib.Nat.{add-zero}
+use native.Mathlib.Numerals.{add-one}
 use native.Mathlib.Omega.{arith}
 use lib.ListN.{length, getD, drop, length-replicate}
 use lib.Seq.{drop-cons, drop-length}
@@ -95,38 +96,7 @@ unfolding noWaits
 waiting-first a rows table most e =
     rw e (record { sums = λ side h i. omega (arith, zero-at waitsSize (waitCell side h)); bounded = λ k. omega (arith, zero-at waitsSize k) })
 
-pub waiting-next : (a : ℕ) (rows : List Row) (n : ℕ) (before after : List ℕ) → 1 ≤ n → n ≤ length rows → WaitAdded before after (nth rows n noRow) a
-    → Waiting a rows (drop (n - 1) rows) before ((n - 1) * mostEnergy) → Waiting a rows (drop (n + 1 - 1) rows) after ((n + 1 - 1) * mostEnergy)
-waiting-next a rows zero before after low high w f = absurd (omega arith)
-waiting-next a rows (suc i) before after low high w f =
-    let here : suc i - 1 ≡ i = omega arith in
-    let next : suc i + 1 - 1 ≡ suc i = omega arith in
-    let left : Waiting a rows (getD rows i noRow ∷ drop (suc i) rows) before (i * mostEnergy) = rw (here, drop-cons rows i noRow (omega arith)) at f in
-    rw next (record {
-      sums = λ side h j.
-          omega (arith, w .share side h j, left .sums side h j, waiting-step side a h (getD rows i noRow) (drop (suc i) rows));
-      bounded = λ k. omega (arith, w .grown k, left .bounded k);
-    })
-
-pub waiting-last : (a : ℕ) (rows : List Row) (k : ℕ) (table : List ℕ) → k ≡ length rows → length table ≡ waitsSize
-    → Waiting a rows (drop k rows) table (k * mostEnergy) → WaitsOf rows a table
-waiting-last a rows k table e n f =
-    let all : Waiting a rows [] table (length rows * mostEnergy) = rw (e, drop-length rows) at f in
-    record {
-      whole = n;
-      waits-at = λ side h i. omega (arith, all .sums side h i, waiting-done side a h);
-      bounded = λ j. omega (arith, all .bounded j);
-    }
-
--- ---- rows more, behind those that the table holds
-
-pub waits-with : (a : ℕ) (rows added : List Row) (table : List ℕ) → WaitsOf rows a table → Waiting a (rows ++ added) added table (length rows * mostEnergy)
-waits-with a rows added table w =
-    record {
-      sums = λ side h i. omega (arith, w .waits-at side h i, waiting-append side rows added a h);
-      bounded = λ k. omega (arith, w .bounded k);
-    }
-
+-- one row less is left
 pub waits-next : (a : ℕ) (all left : List Row) (r : Row) (before after : List ℕ) (n : ℕ) → WaitAdded before after r a
     → Waiting a all (r ∷ left) before (n * mostEnergy) → Waiting a all left after ((n + 1) * mostEnergy)
 waits-next a all left r before after n w f =
@@ -135,12 +105,36 @@ waits-next a all left r before after n w f =
       bounded = λ k. omega (arith, w .grown k, f .bounded k);
     }
 
+-- none is left
 pub waits-all : (a : ℕ) (all : List Row) (table : List ℕ) → length table ≡ waitsSize → Waiting a all [] table (length all * mostEnergy) → WaitsOf all a table
 waits-all a all table n f =
     record {
       whole = n;
       waits-at = λ side h i. omega (arith, f .sums side h i, waiting-done side a h);
       bounded = λ k. omega (arith, f .bounded k);
+    }
+
+-- the same by the number of the row
+pub waiting-next : (a : ℕ) (rows : List Row) (n : ℕ) (before after : List ℕ) → 1 ≤ n → n ≤ length rows → WaitAdded before after (nth rows n noRow) a
+    → Waiting a rows (drop (n - 1) rows) before ((n - 1) * mostEnergy) → Waiting a rows (drop (n + 1 - 1) rows) after ((n + 1 - 1) * mostEnergy)
+waiting-next a rows zero before after low high w f = absurd (omega arith)
+waiting-next a rows (suc i) before after low high w f =
+    let here : suc i - 1 ≡ i = omega arith in
+    let next : suc i + 1 - 1 ≡ suc i = omega arith in
+    let left : Waiting a rows (getD rows i noRow ∷ drop (suc i) rows) before (i * mostEnergy) = rw (here, drop-cons rows i noRow (omega arith)) at f in
+    rw next (rw (add-one i) at (waits-next a rows (drop (suc i) rows) (getD rows i noRow) before after i w left))
+
+pub waiting-last : (a : ℕ) (rows : List Row) (k : ℕ) (table : List ℕ) → k ≡ length rows → length table ≡ waitsSize
+    → Waiting a rows (drop k rows) table (k * mostEnergy) → WaitsOf rows a table
+waiting-last a rows k table e n f = waits-all a rows table n (rw (e, drop-length rows) at f)
+
+-- ---- rows more, behind those that the table holds
+
+pub waits-with : (a : ℕ) (rows added : List Row) (table : List ℕ) → WaitsOf rows a table → Waiting a (rows ++ added) added table (length rows * mostEnergy)
+waits-with a rows added table w =
+    record {
+      sums = λ side h i. omega (arith, w .waits-at side h i, waiting-append side rows added a h);
+      bounded = λ k. omega (arith, w .bounded k);
     }
 
 -- ---- a book

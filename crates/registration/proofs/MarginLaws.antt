@@ -119,10 +119,6 @@ breaks-with-tested s b added a h table margins held t waits w i eo eh et =
     (side-hour s b 1 h (omega arith) (omega arith) i) (side-hour s b 2 h (omega arith) (omega arith) i)))
     ∙ rw (← eo, ← eh, ← et)
 
--- the account breaks a margin in the hour after the trade
-unfoldable pub breaks : Setup → List Row → Row → ℕ → ℕ → Bool
-breaks u rows trade a h = not (keepsMargins (marginsAt u a h) (afterTrade a h (accountHour rows a h) trade))
-
 -- a trade does not change an hour that is not one of its own
 takes-elsewhere : (rows : List Row) (trade : Row) (a h : ℕ) → includesHour h trade ≡ false → afterTrade a h (accountHour rows a h) trade ≡ accountHour rows a h
 unfolding afterTrade
@@ -139,24 +135,24 @@ takes-elsewhere rows trade a h e =
 
 module _ (s : List ℕ) (h : isSound s ≡ true) (trade : Row) (a : ℕ) (t : AccountTrade (bookIn s) a trade) where
   -- so it breaks no margin there: in a book none is broken
-  kept-elsewhere : (k : ℕ) → 1 ≤ k → k ≤ periods (bookIn s .setup) → includesHour k trade ≡ false → breaks (bookIn s .setup) (bookIn s .part .rows) trade a k ≡ false
-  unfolding breaks
+  kept-elsewhere : (k : ℕ) → 1 ≤ k → k ≤ periods (bookIn s .setup) → includesHour k trade ≡ false → breaksWith (bookIn s .setup) (bookIn s .part .rows) (trade ∷ []) a k ≡ false
+  unfolding breaksWith
   kept-elsewhere k l m e = rw (takes-elsewhere (bookIn s .part .rows) trade a k e, book-is-sound s h .part-sound .keeps-margins a k (t .account-known .0) (t .account-known .1) l m)
 
   -- the lowest broken hour is one of the trade's
   pub broken-by-span : brokenBy (bookIn s .setup) (bookIn s .part .rows) (trade ∷ []) a
-      ≡ find (breaks (bookIn s .setup) (bookIn s .part .rows) trade a) (counting (trade .last + 1 - trade .first) (trade .first))
-  unfolding brokenBy breaks
+      ≡ find (breaksWith (bookIn s .setup) (bookIn s .part .rows) (trade ∷ []) a) (counting (trade .last + 1 - trade .first) (trade .first))
+  unfolding brokenBy breaksWith
   broken-by-span =
-      find-span (breaks (bookIn s .setup) (bookIn s .part .rows) trade a) (periods (bookIn s .setup)) (trade .first) (trade .last) (t .first-low) (t .in-order) (t .last-high)
+      find-span (breaksWith (bookIn s .setup) (bookIn s .part .rows) (trade ∷ []) a) (periods (bookIn s .setup)) (trade .first) (trade .last) (t .first-low) (t .in-order) (t .last-high)
       (λ k m n. kept-elsewhere k m (omega (arith, t .in-order, t .last-high)) (rw (lt-leb (trade .first) k n)))
       (λ k m n. kept-elsewhere k (omega (arith, t .first-low, t .in-order)) n (rw (lt-leb k (trade .last) m, and-false (leb (trade .first) k))))
 
 -- the test as code makes it
 pub breaks-tested : (u : Setup) (rows : List Row) (trade : Row) (a h : ℕ) (margins : Margins) (held after : AccountHour) (t : Bool)
     → margins ≡ marginsAt u a h → held ≡ nettedHour rows a h → after ≡ afterTrade a h held trade → t ≡ keepsMargins margins after
-    → breaks u rows trade a h ≡ not t
-unfolding breaks
+    → breaksWith u rows (trade ∷ []) a h ≡ not t
+unfolding breaksWith
 breaks-tested u rows trade a h margins held after t eo eh ea et =
     ap not (sym (keeps-netted (marginsAt u a h) rows trade a h)) ∙ rw (← eo, ← eh, ← ea, ← et)
 

@@ -1,8 +1,15 @@
--- Strips beside registers (document 02, note 3): the strip of one record, and the registers that a strip's rows would be as calls.
+-- Strips beside registers (document 02, note 3): a row that is the record of one, the strip of one record, and the registers that a strip's
+-- rows would be as calls.
 use Prim.Native.Nat.{ℕ}
+use mathlib.Core.Path.{_≡_}
 use mathlib.Core.List.{List, _∷_, map}
-use Rattle.rules.specs.Requests.{stripRows}
+use Rattle.rules.specs.Requests.{register, kindNumber, wantedMap, mapOf, fieldIn, stripRows}
 use Rattle.rules.specs.Calls.{Call}
+
+-- the row is the record of a register, by its kind and its map
+pub record IsRegister (row : List ℕ) : Type 0 where
+  pub of-kind : fieldIn row 0 ≡ kindNumber register
+  pub mapped : mapOf row ≡ wantedMap (kindNumber register)
 
 -- the call with these bytes and the same table and buffers
 abbrev pub withBytes : Call → List ℕ → Call

@@ -6,7 +6,8 @@ use native.Mathlib.Omega.{arith}
 use lib.ListN.{length, take, drop}
 use Rattle.rules.specs.declared.Request.{Request}
 use Rattle.rules.specs.Requests.{kindNumber, register, rowLength, requestOf, firstOf}
-use Rattle.strip_rows.specs.Rows.{requestsFrom, IsRegister, RegisterRows}
+use Rattle.rules.specs.Strips.{IsRegister}
+use Rattle.strip_rows.specs.Rows.{requestsFrom, RegisterRows}
 use Rattle.strip_rows.proofs.RowsFrom.{rows-done, rows-step, rows-split, row-length, part-row}
 
 -- the row that stands at `at`, as the code lends it

@@ -1,13 +1,13 @@
 -- The rows of a strip from a place in its bytes on, and the requests that they say (document 02, note 3).
 use Prim.Native.Nat.{ℕ, _+_, _*_, _≤_}
-use mathlib.Core.Path.{_≡_}
 use mathlib.Core.List.{List, map}
 use lib.ListN.{length, drop}
 use Rattle.wire.specs.Parts.{chunks}
 use Rattle.rules.specs.declared.Request.{Request}
 use Rattle.rules.specs.Basics.{Each}
 use Rattle.rules.specs.Limits.{mostStrip}
-use Rattle.rules.specs.Requests.{kindNumber, register, headLength, rowLength, wantedMap, mapOf, fieldIn, requestOf}
+use Rattle.rules.specs.Requests.{headLength, rowLength, requestOf}
+use Rattle.rules.specs.Strips.{IsRegister}
 
 -- the n rows from `at` on
 unfoldable pub rowsFrom : List ℕ → ℕ → ℕ → List (List ℕ)
@@ -16,11 +16,6 @@ rowsFrom s at n = chunks rowLength n (drop at s)
 -- the requests that they say
 abbrev pub requestsFrom : List ℕ → ℕ → ℕ → List Request
 requestsFrom s at n = map requestOf (rowsFrom s at n)
-
--- the row is the record of a register, by its kind and its map
-pub record IsRegister (row : List ℕ) : Type 0 where
-  pub of-kind : fieldIn row 0 ≡ kindNumber register
-  pub mapped : mapOf row ≡ wantedMap (kindNumber register)
 
 -- n rows from `at` on lie in the bytes, each the record of a register
 pub record RegisterRows (s : List ℕ) (at n : ℕ) : Type 0 where

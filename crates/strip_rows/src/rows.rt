@@ -4,7 +4,7 @@ ghost use mathlib.Core.Bool.{not};
 ghost use lib.ListN.{length};
 ghost use lib.Dec.{eqb};
 ghost use Rattle.rules.specs.Requests.{kindNumber, register, rowLength, fieldIn, requestOf, unreadable};
-ghost use Rattle.strip_rows.specs.Rows.{IsRegister};
+ghost use Rattle.rules.specs.Strips.{IsRegister};
 use records::reader::no_map;
 pub use records::tables::HEAD_LENGTH;
 pub use records::tables::ROW_LENGTH;

@@ -36,7 +36,7 @@ read-strip s n e h =
     rw e (record {
       rows = record {
         inside = omega (arith, strip-sized s w);
-        registers = each-map (λ r x. record { of-kind = x .known; mapped = x .mapped }) (strip-rows-read s w);
+        registers = strip-rows-read s w;
       };
       some-rows = passed-21 s w .0;
       few-rows = passed-21 s w .1;

@@ -20,7 +20,8 @@ use Rattle.rules.proofs.Records.StripRows.{chunks-bytes}
 use Rattle.image.proofs.Sound.Soundness.{SoundRow}
 use Rattle.image.proofs.Keeping.KeepsKinds.{CodesFit, each-proposed-sound}
 use Rattle.book.specs.Members.{IsAccount}
-use Rattle.strip_rows.specs.Rows.{rowsFrom, requestsFrom, IsRegister}
+use Rattle.rules.specs.Strips.{IsRegister}
+use Rattle.strip_rows.specs.Rows.{rowsFrom, requestsFrom}
 use Rattle.strips.specs.Ready.{stripRequests, proposer, ReadyStrip}
 
 -- as many requests as rows

@@ -22,6 +22,7 @@ use Rattle.rules.specs.Books.{Part, Book, withAsks, noRow, askAt, noAsks
 use Rattle.rules.specs.Requests.{Kind, register, confirm, withdraw, guarantee, openBatch, undo, keep, closeGate, schedule, settle, strip, ask, commit, kindNumber, kindOf, isSingle, wantedMap, wantedLength, mapOf, fieldIn, requestOf, unreadable, mapCheck, readChecks, isStrip, headLength, rowLength, stripCount, stripRows, rowChecks, stripChecks, requestsOf, firstOf, fieldCount, bits, inRange, faultyField, faultyBit, faultyBitAmong, sameAccounts}
 use Rattle.rules.specs.Registration.{proposed, standsWith, hasTwin, twins, confirms, withdraws, mirrors, brokenHour, covered}
 use Rattle.rules.specs.Settlement.{priceCount, pricesIn}
+use Rattle.rules.specs.Strips.{IsRegister}
 use Rattle.rules.specs.Calls.{Call, callKind, callRequests, changed, clearedBy, next, given, confirmedNumber, _oneOf_, adding, checkedAs, phaseOf, exposedOperator, bytesChecks, inputChecks, stateChecks, checks, refusal, answer, step}
 use Rattle.rules.proofs.Basics.Tests.{within-true, or-neither, and-spared}
 use Rattle.rules.proofs.Basics.Searches.{some-of, none-of, every-each, counted-has, find-none, each-nth, each-map, each-both, each-image}
@@ -59,11 +60,6 @@ kind-number n h =
 
 -- ---- 2 to 5 and 21, of a strip, and 2 to 4 of its rows
 
--- a row of a strip that was not refused
-pub record RowRead (s : List ℕ) : Type 0 where
-  pub known : fieldIn s 0 ≡ kindNumber register
-  pub mapped : mapOf s ≡ wantedMap (kindNumber register)
-
 module _ (s : List ℕ) (h : Clear (stripChecks s)) where
   pub strip-readable : unreadable s ≡ false
   unfolding stripChecks
@@ -85,14 +81,14 @@ module _ (s : List ℕ) (h : Clear (stripChecks s)) where
   unfolding stripChecks
   rows-clear = h .1 .1 .1 .1
 
-  pub strip-rows-read : Each RowRead (stripRows s)
+  pub strip-rows-read : Each IsRegister (stripRows s)
   unfolding rowChecks
   strip-rows-read =
       let kinds : List Check = map (λ r. not (eqb (fieldIn r 0) (kindNumber register)) ⇒ UnknownKind) (stripRows s) in
       let maps : List Check = map (mapCheck (kindNumber register)) (stripRows s) in
       let w = clear-split (map (λ r. unreadable r ⇒ Unreadable) (stripRows s) ++ kinds) maps rows-clear in
       let v = clear-split (map (λ r. unreadable r ⇒ Unreadable) (stripRows s)) kinds (w .0) in
-      each-both (λ r e f. record { known = eqb-true _ _ (not-false _ (spared _ _ e)); mapped = eqb-true _ _ (not-false _ (spared _ _ f)) })
+      each-both (λ r e f. record { of-kind = eqb-true _ _ (not-false _ (spared _ _ e)); mapped = eqb-true _ _ (not-false _ (spared _ _ f)) })
       (clear-each _ (stripRows s) (v .1)) (clear-each _ (stripRows s) (w .1))
 
   pub strip-rows-length : length (stripRows s) ≡ stripCount s
@@ -167,7 +163,7 @@ unfolding requestOf
 strip-asked s e h =
     let n : length (map requestOf (stripRows s)) ≡ stripCount s = length-map (stripRows s) requestOf ∙ strip-rows-length s h in
     rw (strip-requests s e, eqb-true (fieldIn s 0) (kindNumber strip) e)
-    (record { several = omega (arith, n, passed-21 s h .0); kinds = each-image requestOf (each-map (λ r w. w .known) (strip-rows-read s h)); alone = λ never. cc })
+    (record { several = omega (arith, n, passed-21 s h .0); kinds = each-image requestOf (each-map (λ r w. w .of-kind) (strip-rows-read s h)); alone = λ never. cc })
 
 -- bytes that are not refused bring requests of their kind
 pub bytes-asked : (s : List ℕ) → Clear (bytesChecks s) → Asked (kindOf (fieldIn s 0)) (requestsOf s)

@@ -26,9 +26,9 @@ use Rattle.rules.specs.Requests.{Kind, register, strip, kindNumber, kind
 use Rattle.rules.specs.Calls.{Call, callKind, callRequests, checkedAs, bytesChecks, inputChecks, stateChecks, checks, refusal, apply, given, settles, answer, step}
 use Rattle.rules.specs.Lists.{runs, after, accepts, wasAccepted}
 use Rattle.rules.specs.Ledger.{Ledger, feed, feedEach, fed, fedAll}
-use Rattle.rules.specs.Strips.{withBytes, stripOfOne, registersOf}
+use Rattle.rules.specs.Strips.{IsRegister, withBytes, stripOfOne, registersOf}
 use Rattle.rules.proofs.Checks.Clearing.{Clear, clear-join, clear-applies}
-use Rattle.rules.proofs.Checks.Passed.{RowRead, strip-sized, passed-21, strip-rows-read, strip-rows-length, Passed, passed, passed-6, passed-6-proposer, passed-7, passed-11, passed-14, passed-15, passed-18, passed-19, passed-22, single-requests, strip-requests}
+use Rattle.rules.proofs.Checks.Passed.{strip-sized, passed-21, strip-rows-read, strip-rows-length, Passed, passed, passed-6, passed-6-proposer, passed-7, passed-11, passed-14, passed-15, passed-18, passed-19, passed-22, single-requests, strip-requests}
 use Rattle.rules.proofs.Basics.Searches.{first-and-rest, any-none, none-any, each-both, each-image, each-any}
 use Rattle.rules.proofs.Rows.RowTests.{twins-none, twin-snoc}
 use Rattle.rules.proofs.Rows.Easing.{Eased, eased-unbroken, eased-covered, fewer-ease}
@@ -249,7 +249,7 @@ module _ (b : Book) (p : ℕ) (q : Request) (qs : List Request) (f : Fit b p (q 
 
 -- a row of a strip that was not refused, and its length
 record ReadRow (s : List ℕ) : Type 0 where
-  pub read : RowRead s
+  pub read : IsRegister s
   pub sized : length s ≡ rowLength
 
 uniform-each : (w : ℕ) (cs : List (List ℕ)) → Uniform w cs → Each (λ s. length s ≡ w) cs
@@ -265,24 +265,24 @@ rows-read s h =
 -- its bytes are not refused
 row-clear : (s : List ℕ) → ReadRow s → Clear (bytesChecks s)
 unfolding readChecks unreadable bit
-row-clear s r = rw (r .read .known, r .read .mapped, r .sized) (refl, (refl, (refl, (refl, tt))))
+row-clear s r = rw (r .read .of-kind, r .read .mapped, r .sized) (refl, (refl, (refl, (refl, tt))))
 
 -- as a call on a book that it fits, it is accepted and adds its row
 module _ (b : Book) (c : Call) (p : ℕ) (qs : List Request) (r : ReadRow (c .bytes)) (f : Fit b p (requestOf (c .bytes) ∷ qs)) where
   alone : callRequests c ≡ requestOf (c .bytes) ∷ []
-  alone = single-requests (c .bytes) (rw (r .read .known))
+  alone = single-requests (c .bytes) (rw (r .read .of-kind))
 
   row-passes : Passed b c
   unfolding refusal checks
   row-passes =
-      let input : Clear (inputChecks b c (checkedAs (callKind c)) (callRequests c)) = rw (r .read .known, alone) (idle-clear (first-input b p (requestOf (c .bytes)) qs f c)) in
-      let state : Clear (stateChecks b (checkedAs (callKind c)) (callRequests c)) = rw (r .read .known, alone) (idle-clear (first-state b p (requestOf (c .bytes)) qs f)) in
+      let input : Clear (inputChecks b c (checkedAs (callKind c)) (callRequests c)) = rw (r .read .of-kind, alone) (idle-clear (first-input b p (requestOf (c .bytes)) qs f c)) in
+      let state : Clear (stateChecks b (checkedAs (callKind c)) (callRequests c)) = rw (r .read .of-kind, alone) (idle-clear (first-state b p (requestOf (c .bytes)) qs f)) in
       let before = clear-join (bytesChecks (c .bytes)) _ (row-clear (c .bytes) r) input in
       passed b c (clear-applies (checks b c) (clear-join (bytesChecks (c .bytes) ++ inputChecks b c (checkedAs (callKind c)) (callRequests c)) _ before state))
 
   row-adds : step b c .book ≡ withOne b (requestOf (c .bytes))
   unfolding apply
-  row-adds = row-passes .book ∙ rw (r .read .known, alone)
+  row-adds = row-passes .book ∙ rw (r .read .of-kind, alone)
 
 -- rows that fit a book, as registers in turn: all are accepted, and all rows are added
 module _ (c : Call) (p : ℕ) where
@@ -312,7 +312,7 @@ unfolding feedEach fed fedAll
 one-by-one c l [] nil = refl
 one-by-one c l (s ∷ rows) (cons r e) =
     one-by-one c (feed (kindOf (requestOf s .kind)) (requestOf s) l) rows e
-    ∙ ap (λ (qs : List Request). fedAll (feedEach qs l) (map (λ (r : Call). (r .bytes, true)) (map (withBytes c) rows))) (sym (single-requests s (rw (r .read .known))))
+    ∙ ap (λ (qs : List Request). fedAll (feedEach qs l) (map (λ (r : Call). (r .bytes, true)) (map (withBytes c) rows))) (sym (single-requests s (rw (r .read .of-kind))))
 
 module _ (b : Book) (c : Call) (strips : isStrip (c .bytes) ≡ true) (passes : accepts step b c ≡ true) where
   it-passed : Passed b c

@@ -13,7 +13,7 @@ use Rattle.image.specs.Valid.{bookIn}
 use Rattle.image.proofs.Sound.Soundness.{sound-row}
 use Rattle.book.proofs.BookRows.{setup-tabled, counts-in, margins-read, accounts-read, hours-few}
 use Rattle.registration.proofs.SearchLaws.{find-done, find-here, find-next}
-use Rattle.registration.proofs.MarginLaws.{breaks, broken-by-span, sound-account-trade}
+use Rattle.registration.proofs.MarginLaws.{breaksWith, broken-by-span, sound-account-trade}
 use Rattle.asks.proofs.SharedLaws.{hour-fits, breaks-summed}
 use Rattle.asks.proofs.standing.keeps_margins_with.Statement.{statement}
 use Rattle.asks.proofs.standing.keeps_margins_with.Tie as tie
@@ -25,7 +25,7 @@ Inv-loop book table row account hour₀ hour =
     × (hour ≤ row .last + 1)
     × (row .last ≤ mostHours)
     × (brokenBy (b .setup) (b .part .rows) (row ∷ []) (row .proposer)
-    ≡ find (breaks (b .setup) (b .part .rows) row (row .proposer)) (counting (row .last + 1 - hour) hour))
+    ≡ find (breaksWith (b .setup) (b .part .rows) (row ∷ []) (row .proposer)) (counting (row .last + 1 - hour) hour))
 
 abbrev μ-loop : tie.MeasureT-loop
 μ-loop book table row account hour₀ hour = row .last + 1 - hour

@@ -16,7 +16,7 @@ use Rattle.book.proofs.BookRows.{setup-tabled, counts-in, margins-read, account
 use Rattle.book.proofs.WaitLaws.{tabled-netted}
 use Rattle.registration.specs.Margins.{broken}
 use Rattle.registration.proofs.SearchLaws.{find-done, find-here, find-next}
-use Rattle.registration.proofs.MarginLaws.{hour-room, breaks, broken-by-span, breaks-tested}
+use Rattle.registration.proofs.MarginLaws.{hour-room, breaksWith, broken-by-span, breaks-tested}
 use Rattle.registration.proofs.margins.first_broken.Statement.{statement}
 use Rattle.registration.proofs.margins.first_broken.Tie as tie
 
@@ -27,7 +27,7 @@ Inv-loop book waits trade number hour₀ hour =
     × (hour ≤ trade .last + 1)
     × (trade .last ≤ mostHours)
     × (brokenBy (b .setup) (b .part .rows) (trade ∷ []) number
-    ≡ find (breaks (b .setup) (b .part .rows) trade number) (counting (trade .last + 1 - hour) hour))
+    ≡ find (breaksWith (b .setup) (b .part .rows) (trade ∷ []) number) (counting (trade .last + 1 - hour) hour))
 
 abbrev μ-loop : tie.MeasureT-loop
 μ-loop book waits trade number hour₀ hour = trade .last + 1 - hour
