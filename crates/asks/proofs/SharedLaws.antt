@@ -6,33 +6,24 @@ use mathlib.Core.List.{List, [], _∷_}
 use mathlib.Core.Bool.{Bool, true, not}
 use native.Mathlib.Nat.{mul-le-mul, sub-le}
 use native.Mathlib.Omega.{arith}
-use lib.ListN.{length}
 use Rattle.rules.specs.declared.Margins.{Margins}
 use Rattle.rules.specs.declared.AccountHour.{AccountHour}
 use Rattle.rules.specs.declared.Row.{Row}
-use Rattle.rules.specs.Basics.{total, Each, nil, cons}
-use Rattle.rules.specs.Limits.{mostEnergy, mostGuarantee, thousand, mostRows}
+use Rattle.rules.specs.Basics.{total, nil, cons}
+use Rattle.rules.specs.Limits.{mostEnergy, mostGuarantee, thousand}
 use Rattle.rules.specs.Widths.{HourFits}
 use Rattle.rules.specs.Books.{Setup, marginsAt, maintenanceAt, operatorCount}
-use Rattle.rules.specs.Registration.{pending, pendingOf, waiting, buyer, seller, accountHour, afterTrade, keepsMargins, exposure, exposureWith}
-use Rattle.rules.proofs.Basics.Searches.{each-map}
+use Rattle.rules.specs.Registration.{pending, buyer, seller, accountHour, afterTrade, keepsMargins, exposure, exposureWith}
 use Rattle.image.specs.Valid.{isSound, bookIn}
 use Rattle.image.proofs.Sound.Soundness.{SoundRow}
-use Rattle.image.proofs.Tables.MoneyLaws.{total-most, moved-most}
+use Rattle.image.proofs.Tables.MoneyLaws.{moved-most, waiting-most}
 use Rattle.book.specs.Members.{IsOperator}
 use Rattle.book.specs.Worth.{saleWorth}
 use Rattle.book.proofs.StateLaws.{book-is-sound}
-use Rattle.book.proofs.WorthLaws.{exposure-more}
 use Rattle.book.proofs.WorthParts.{Listed}
 use Rattle.registration.proofs.MarginLaws.{breaksWith}
-use Rattle.registration.proofs.CoverLaws.{exposure-available, guarantee-stands}
+use Rattle.registration.proofs.CoverLaws.{exposure-available, guarantee-stands, exposure-with-pending}
 use Rattle.asks.specs.Standing.{OperatorExposures, exposuresSize}
-
--- what 256 rows can have pending of an account in an hour
-waiting-most : (side a h : ℕ) {u : Setup} {rows : List Row} → Each (SoundRow u) rows → length rows ≤ mostRows → waiting side rows a h ≤ mostRows * mostEnergy
-unfolding waiting
-waiting-most side a h {u} {rows} e few =
-    let l = total-most (pendingOf side a h) (λ r. r .quantity .0) mostEnergy (each-map (λ r s. s .quantity-high) e) in omega arith
 
 module _ (s : List ℕ) (h : isSound s ≡ true) where
   -- an account hour has room for a row more
@@ -59,11 +50,7 @@ module _ (s : List ℕ) (h : isSound s ≡ true) where
       → sum ≡ exposureWith (bookIn s .setup) (bookIn s .part .rows) (row ∷ []) o
   unfolding total
   exposure-with-row o row k waits standing added sum e d f =
-      let more =
-      exposure-more (bookIn s .setup) o (bookIn s .part .rows) (row ∷ [])
-      (each-map (λ r w p. (w .proposer-low, w .proposer-high)) (book-is-sound s h .part-sound .rows-sound))
-      (cons (λ p. (k .proposer-low, k .proposer-high)) nil) (cons waits nil) in
-      omega arith
+      exposure-with-pending s o (row ∷ []) h (cons k nil) (cons waits nil) standing added sum e (omega (arith, d)) f
 
   -- the exposures of the operators, listed by their numbers
   pub exposures-listed : (exposures : List ℕ) (n : ℕ) → operatorCount (bookIn s .setup) < n

@@ -90,7 +90,7 @@ module _ (s : List ℕ) (h : isSound s ≡ true) where
       unfolding decided wouldRegister
       falls why e = rw there (sym (ap (λ (o : Option Refusal). not (isSome o)) e))
 
-      -- 11
+      -- past the phase of registration register would refuse it
       pub later-falls : (bookIn s .phase ≡ 1 → ⊥) → false ≡ askStands (bookIn s) (askAt (bookIn s) a)
       later-falls n = falls _ (in-wrong-phase (bookIn s) (registerOf r) register n)
 
@@ -98,7 +98,7 @@ module _ (s : List ℕ) (h : isSound s ≡ true) where
         no-twin : anyPasses (alike (r .proposer) (r .counterparty) (r .code)) (bookIn s .part .rows) ≡ false
         no-twin = none-twin (bookIn s) alone r (ap (askAt (bookIn s)) (ask-row .own) ∙ there)
 
-        -- 15
+        -- and where no number is left
         pub full-falls : mostRows ≤ length (bookIn s .part .rows) → false ≡ askStands (bookIn s) (askAt (bookIn s) a)
         full-falls full = falls _ (no-number-left (bookIn s) (registerOf r) first no-twin full)
 
@@ -107,14 +107,14 @@ module _ (s : List ℕ) (h : isSound s ≡ true) where
           proposing-it =
               record { proposes = rw proposes-it ask-in-range; in-registration = first; no-twin = no-twin; has-room = room }
 
-          -- 18
+          -- and where it breaks a margin
           pub broken-falls : not (isSome (brokenBy (bookIn s .setup) (bookIn s .part .rows) (r ∷ []) (r .proposer))) ≡ false
               → false ≡ askStands (bookIn s) (askAt (bookIn s) a)
           broken-falls e =
               let (hour, found) = some-of (brokenBy (bookIn s .setup) (bookIn s .part .rows) (r ∷ []) (r .proposer)) (not-false _ e) in
               falls _ (margin-breaks (bookIn s) (registerOf r) proposing-it hour (rw proposes-it found))
 
-          -- 19 decides
+          -- else the guarantee decides
           pub covered-decides : not (isSome (brokenBy (bookIn s .setup) (bookIn s .part .rows) (r ∷ []) (r .proposer))) ≡ true → (t : Bool)
               → t ≡ coveredWithRow (bookIn s) r (operatorOf (bookIn s .setup) (r .proposer)) → t ≡ askStands (bookIn s) (askAt (bookIn s) a)
           covered-decides kept true test =

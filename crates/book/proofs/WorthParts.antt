@@ -96,9 +96,9 @@ summed-next u sums (suc i) v low high e t =
 pub summed-done : (u : Setup) (sums : List ℕ) (n : ℕ) → periods u < n → SummedTo u sums n → PriceSums u sums
 summed-done u sums n l t = record { whole = t .whole; sum = λ k h. t .sum k (omega arith) }
 
--- ---- the accounts' operators
+-- ---- entries by number, and the accounts' operators
 
--- the entries from 1 up to n are what f says
+-- the entries of the numbers from 1 up to n are what f says
 pub record Listed (f : ℕ → ℕ) (size : ℕ) (xs : List ℕ) (n : ℕ) : Type 0 where
   pub whole : length xs ≡ size
   pub entry : (k : ℕ) → 1 ≤ k → k < n → getD xs k 0 ≡ f k

@@ -152,7 +152,7 @@ same (x ∷ xs) (y ∷ ys) = eqb x y && same xs ys
 unfoldable pub isSoundOf : ℕ → ℕ → List ℕ → Bool
 isSoundOf top size s = eqb (length s) size && bookOk (decode top size s) && same (image top size (decode top size s)) s
 
--- of one whose asks register would accept: a book
+-- a book: the image of a sound one whose asks register would accept
 unfoldable pub isBookOf : ℕ → ℕ → List ℕ → Bool
 isBookOf top size s = isSoundOf top size s && asksStand (decode top size s)
 

@@ -1,7 +1,7 @@
 -- What the bytes of a book hold of an operator, its guarantee in force and its maintenance; and what covers its exposure.
 use Prim.Native.Nat.{ℕ, zero, suc, _+_, _-_, _*_, _≤_}
 use mathlib.Core.Path.{_≡_, sym, ap, _∙_}
-use mathlib.Core.List.{List, map}
+use mathlib.Core.List.{List, [], map}
 use mathlib.Core.Bool.{Bool, true, false}
 use native.Mathlib.Omega.{arith}
 use lib.ListN.{length, replicate, length-map, length-replicate}
@@ -12,21 +12,23 @@ use Rattle.units.specs.Units.{cents}
 use Rattle.units.specs.declared.Cents.{Cents}
 use Rattle.rules.specs.declared.Operator.{Operator}
 use Rattle.rules.specs.declared.Row.{Row}
-use Rattle.rules.specs.Basics.{nth, Each, nil, cons}
+use Rattle.rules.specs.Basics.{total, nth, Each, nil, cons}
 use Rattle.rules.specs.Limits.{mostHours, mostEnergy, mostGuarantee, thousand, bookSize}
 use Rattle.rules.specs.Books.{Setup, Part, Book, partRows, maintenanceAt, guaranteeAt, operatorOf, operatorCount}
 use Rattle.rules.specs.Opening.{countsIn, operatorsIn, setupOf, guaranteeWidth}
-use Rattle.rules.specs.Registration.{pending, exposure, available, covered, coveredBy}
+use Rattle.rules.specs.Registration.{pending, exposure, exposureWith, available, covered, coveredBy}
 use Rattle.rules.specs.declared.Counts.{Counts}
-use Rattle.rules.proofs.Basics.Searches.{each-at}
+use Rattle.rules.proofs.Basics.Searches.{each-at, each-map}
 use Rattle.setup.specs.Faults.{noOperator}
 use Rattle.image.specs.Layout.{presentOffset}
 use Rattle.image.specs.Valid.{isSound, bookIn}
+use Rattle.image.proofs.Sound.Soundness.{SoundRow}
 use Rattle.image.proofs.Setups.SetupRanges.{SoundOperator, maintenance-of}
 use Rattle.image.proofs.Reading.ImageReads.{guarantee-read}
 use Rattle.book.specs.Members.{IsAccount, IsOperator}
-use Rattle.book.specs.Worth.{TradeInRange}
+use Rattle.book.specs.Worth.{saleWorth, TradeInRange}
 use Rattle.book.proofs.StateLaws.{book-fits, book-is-sound, number-in-book}
+use Rattle.book.proofs.WorthLaws.{exposure-more}
 use Rattle.book.proofs.BookRows.{counts-in, setup-in, values-in, caller-operator}
 use Rattle.registration.specs.Cover.{coveredInForce}
 
@@ -120,3 +122,18 @@ ended-row-in-range u r l f =
   where
     not-both : {t : Bool} → t ≡ true → t ≡ false → ⊥
     not-both e f = let z : true ≡ false = sym e ∙ f in let y : _≡_ {A = ℕ} 0 1 = cc in omega arith
+
+-- ---- pending rows more
+
+-- the exposure with pending rows in is the one that stands and what each row adds as a sale
+pub exposure-with-pending : (s : List ℕ) (o : ℕ) (added : List Row) → isSound s ≡ true → Each (SoundRow (bookIn s .setup)) added
+    → Each (λ r. pending r ≡ true) added → (standing more sum : ℕ)
+    → standing ≡ exposureWith (bookIn s .setup) (bookIn s .part .rows) [] o → more ≡ total (saleWorth (bookIn s .setup) o) added
+    → sum ≡ standing + more → sum ≡ exposureWith (bookIn s .setup) (bookIn s .part .rows) added o
+exposure-with-pending s o added h known waits standing more sum e d f =
+    f
+    ∙ rw (e, d)
+    (sym (exposure-more (bookIn s .setup) o (bookIn s .part .rows) added
+    (each-map (λ r w p. (w .proposer-low, w .proposer-high)) (book-is-sound s h .part-sound .rows-sound))
+    (each-map (λ r w p. (w .proposer-low, w .proposer-high)) known)
+    waits))
