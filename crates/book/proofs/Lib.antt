@@ -7,7 +7,7 @@ pub mod OpeningLaws
 pub mod StateLaws
 -- BookRows: the set-up and the rows of bytes that are a book, and what code asks of them.
 pub mod BookRows
--- ReadingLaws: what the two readings answer.
+-- ReadingLaws: what the readings answer.
 pub mod ReadingLaws
 -- NettedLaws: a net position from its 4 bytes.
 pub mod NettedLaws
@@ -19,6 +19,8 @@ pub mod WorthLaws
 pub mod WorthParts
 -- ShortLaws: what of net positions lies below zero, by hour, account and operator.
 pub mod ShortLaws
+-- HourlyLaws: the exposure in one hour as the sum of its two parts.
+pub mod HourlyLaws
 -- Answers: what a refusal and an acceptance answer on the bytes of a book.
 pub mod Answers
 -- Readiness: what a request in range passed.

@@ -24,9 +24,9 @@ use Rattle.rules.specs.Basics.{if_then_else_, within}
 use Rattle.rules.specs.Limits.{mostEnergy, mostHours, bookSize}
 use Rattle.rules.specs.Books.{Setup, marginsAt, operatorCount, accountCount, periods}
 use Rattle.rules.specs.Opening.{countsIn, setupOf}
-use Rattle.rules.specs.Registration.{bought, sold, netOf, accountHour, keepsMargins, exposure}
+use Rattle.rules.specs.Registration.{bought, sold, netOf, accountHour, keepsMargins, exposure, hourlyExposure}
 use Rattle.rules.specs.Verdicts.{Check, _⇒_, firstToApply}
-use Rattle.rules.specs.Readings.{position, netChecks, netReadingOf, netReading, exposureChecks, exposureReadingOf, exposureReading}
+use Rattle.rules.specs.Readings.{position, netChecks, netReadingOf, netReading, exposureChecks, exposureReadingOf, exposureReading, hourlyExposureChecks, hourlyExposureReading}
 use Rattle.rules.proofs.Basics.Tests.{and-both, within-true}
 use Rattle.rules.proofs.Checks.Clearing.{clear-applies}
 use Rattle.image.specs.Layout.{presentOffset, netOffset, netWidth}
@@ -128,6 +128,9 @@ module _ (s : List ℕ) (h : isSound s ≡ true) (n : Counts) (e : n ≡ countsI
   operators-counted : operatorCount u ≡ n .operators
   operators-counted = ap (λ (c : Counts). c .operators) (counts-in s h ∙ sym e)
 
+  by-hour : (t : ℕ) {x : Bool} → not (within 1 t (n .hours)) ≡ x → not (within 1 t (periods u)) ≡ x
+  by-hour t x = ap (λ (m : ℕ). not (within 1 t m)) hours-counted ∙ x
+
   module _ (a t : ℕ) where
     abbrev net : Position
     net = position (netOf (bookIn s .part .rows) a t)
@@ -135,23 +138,20 @@ module _ (s : List ℕ) (h : isSound s ≡ true) (n : Counts) (e : n ≡ countsI
     by-account : {o : Bool} → not (within 1 a (n .accounts)) ≡ o → not (within 1 a (accountCount u)) ≡ o
     by-account x = ap (λ (m : ℕ). not (within 1 a m)) accounts-counted ∙ x
 
-    by-hour : {o : Bool} → not (within 1 t (n .hours)) ≡ o → not (within 1 t (periods u)) ≡ o
-    by-hour x = ap (λ (m : ℕ). not (within 1 t m)) hours-counted ∙ x
-
     pub net-no-account : not (within 1 a (n .accounts)) ≡ true → netReading (bookIn s) a t ≡ NetReading.Unread (OutOfRange 1)
     unfolding netReading
     net-no-account x = ap (λ (o : Option Refusal). netReadingOf o net) (applies-here _ _ _ (by-account x))
 
     pub net-no-hour : not (within 1 a (n .accounts)) ≡ false → not (within 1 t (n .hours)) ≡ true → netReading (bookIn s) a t ≡ NetReading.Unread (OutOfRange 5)
     unfolding netReading
-    net-no-hour x y = ap (λ (o : Option Refusal). netReadingOf o net) (applies-past _ _ _ (by-account x) ∙ applies-here _ _ [] (by-hour y))
+    net-no-hour x y = ap (λ (o : Option Refusal). netReadingOf o net) (applies-past _ _ _ (by-account x) ∙ applies-here _ _ [] (by-hour t y))
 
     module _ (x : not (within 1 a (n .accounts)) ≡ false) (y : not (within 1 t (n .hours)) ≡ false) where
       account-inside : IsAccount (bookIn s) a
       account-inside = within-true 1 a (accountCount u) .0 (not-false _ (by-account x))
 
       hour-inside : IsHour (bookIn s) t
-      hour-inside = within-true 1 t (periods u) .0 (not-false _ (by-hour y))
+      hour-inside = within-true 1 t (periods u) .0 (not-false _ (by-hour t y))
 
       pub net-in-table : InTable mostHours a t
       net-in-table = net-has-place s h a t account-inside hour-inside
@@ -162,21 +162,46 @@ module _ (s : List ℕ) (h : isSound s ≡ true) (n : Counts) (e : n ≡ countsI
       net-stands v q =
           let near = net-near s h a t account-inside hour-inside in
           let stored = net-stored s h a t account-inside hour-inside v q in
-          ap (λ (o : Option Refusal). netReadingOf o net) (clear-applies (netChecks (bookIn s) a t) (rw (by-account x), (rw (by-hour y), tt)))
+          ap (λ (o : Option Refusal). netReadingOf o net) (clear-applies (netChecks (bookIn s) a t) (rw (by-account x), (rw (by-hour t y), tt)))
           ∙ ap NetReading.Read (stored-position _ _ v stored (near .0) (near .1))
 
-  module _ (o : ℕ) where
-    by-operator : {x : Bool} → not (within 1 o (n .operators)) ≡ x → not (within 1 o (operatorCount u)) ≡ x
-    by-operator x = ap (λ (m : ℕ). not (within 1 o m)) operators-counted ∙ x
+  by-operator : (o : ℕ) {x : Bool} → not (within 1 o (n .operators)) ≡ x → not (within 1 o (operatorCount u)) ≡ x
+  by-operator o x = ap (λ (m : ℕ). not (within 1 o m)) operators-counted ∙ x
 
+  module _ (o : ℕ) where
     pub exposure-no-operator : not (within 1 o (n .operators)) ≡ true → exposureReading (bookIn s) o ≡ ExposureReading.Unread (OutOfRange 9)
     unfolding exposureReading
     exposure-no-operator x =
-        ap (λ (y : Option Refusal). exposureReadingOf y (exposure u (bookIn s .part .rows) o)) (applies-here _ _ _ (by-operator x))
+        ap (λ (y : Option Refusal). exposureReadingOf y (exposure u (bookIn s .part .rows) o)) (applies-here _ _ _ (by-operator o x))
 
     pub exposure-stands : (m : MilliCents) → not (within 1 o (n .operators)) ≡ false → m .0 ≡ exposure (setupOf s) (bookIn s .part .rows) o
         → exposureReading (bookIn s) o ≡ ExposureReading.Read m
     unfolding exposureReading
     exposure-stands m x y =
-        ap (λ (z : Option Refusal). exposureReadingOf z (exposure u (bookIn s .part .rows) o)) (clear-applies (exposureChecks (bookIn s) o) (rw (by-operator x), tt))
+        ap (λ (z : Option Refusal). exposureReadingOf z (exposure u (bookIn s .part .rows) o)) (clear-applies (exposureChecks (bookIn s) o) (rw (by-operator o x), tt))
         ∙ ap (λ (z : ℕ). ExposureReading.Read (milliCents z)) (ap (λ (z : Setup). exposure z (bookIn s .part .rows) o) (setup-in s h) ∙ sym y)
+
+  module _ (o t : ℕ) where
+    abbrev money : ℕ
+    money = hourlyExposure u (bookIn s .part .rows) o t
+
+    pub hourly-no-hour : not (within 1 t (n .hours)) ≡ true → hourlyExposureReading (bookIn s) o t ≡ ExposureReading.Unread (OutOfRange 5)
+    unfolding hourlyExposureReading
+    hourly-no-hour x = ap (λ (y : Option Refusal). exposureReadingOf y money) (applies-here _ _ _ (by-hour t x))
+
+    module _ (x : not (within 1 t (n .hours)) ≡ false) where
+      pub hourly-hour-inside : IsHour (bookIn s) t
+      hourly-hour-inside = within-true 1 t (periods u) .0 (not-false _ (by-hour t x))
+
+      pub hourly-no-operator : not (within 1 o (n .operators)) ≡ true → hourlyExposureReading (bookIn s) o t ≡ ExposureReading.Unread (OutOfRange 9)
+      unfolding hourlyExposureReading
+      hourly-no-operator y =
+          ap (λ (z : Option Refusal). exposureReadingOf z money) (applies-past _ _ _ (by-hour t x) ∙ applies-here _ _ [] (by-operator o y))
+
+      pub hourly-stands : (m : MilliCents) → not (within 1 o (n .operators)) ≡ false → m .0 ≡ money
+          → hourlyExposureReading (bookIn s) o t ≡ ExposureReading.Read m
+      unfolding hourlyExposureReading
+      hourly-stands m y e =
+          ap (λ (z : Option Refusal). exposureReadingOf z money)
+          (clear-applies (hourlyExposureChecks (bookIn s) o t) (rw (by-hour t x), (rw (by-operator o y), tt)))
+          ∙ ap (λ (z : ℕ). ExposureReading.Read (milliCents z)) (sym e)

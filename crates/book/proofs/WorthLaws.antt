@@ -14,7 +14,7 @@ use Rattle.rules.specs.declared.Net.{Net}
 use Rattle.rules.specs.Basics.{if_then_else_, total, nth, upTo, Each, nil, cons}
 use Rattle.rules.specs.Books.{Setup, noRow, estimateAt, operatorOf, accountCount, periods}
 use Rattle.rules.specs.Registration.{pending, includesHour, buyer, seller, counted, waiting, withStatus, mark, bought, sold, netOf, pendingSales, accountHour, afterTrade, exposed, ofOperator, exposureOf, exposure, exposureWith}
-use Rattle.rules.proofs.Basics.Totals.{total-zero, total-append, total-add, total-times, total-cong, shared}
+use Rattle.rules.proofs.Basics.Totals.{where-add, total-zero, total-append, total-add, total-times, total-cong, shared}
 use Rattle.rules.proofs.Basics.Searches.{each-append}
 use Rattle.rules.proofs.Rows.AccountHours.{moved-confirm, waiting-end, hour-takes-all, exposure-added, pending-move-nothing}
 use Rattle.book.specs.Worth.{netWith, shortWorth, accountShort, spanPrice, saleWorth}
@@ -22,7 +22,7 @@ use Rattle.book.specs.Worth.{netWith, shortWorth, accountShort, spanPric
 -- ---- tests
 
 -- nothing, whether or not it counts
-idle : (t : Bool) → _≡_ {A = ℕ} (if t then 0 else 0) 0
+pub idle : (t : Bool) → _≡_ {A = ℕ} (if t then 0 else 0) 0
 idle true = refl
 idle false = refl
 
@@ -48,7 +48,7 @@ of-one v true true true w true h = rw (h refl)
 of-one v true true true w false h = rw (h refl)
 
 -- a value that falls to one of the numbers 1 to n where all tests hold; that the number is one of them is known where the first test holds
-shared-known : (n x q : ℕ) (t d y : Bool) → (t ≡ true → (1 ≤ x) × (x ≤ n)) → total (λ a. if t && d && y && eqb x a then q else 0) (upTo n) ≡ (if t && d && y then q else 0)
+pub shared-known : (n x q : ℕ) (t d y : Bool) → (t ≡ true → (1 ≤ x) × (x ≤ n)) → total (λ a. if t && d && y && eqb x a then q else 0) (upTo n) ≡ (if t && d && y then q else 0)
 shared-known n x q true d y k = shared n x q (d && y) (k refl .0) (k refl .1)
 shared-known n x q false d y k = total-zero (upTo n)
 
@@ -66,10 +66,6 @@ module _ (u : Setup) (o : ℕ) where
   worth-cong f g e =
       total-cong _ _ (upTo (accountCount u)) (λ a.
       where-cong (eqb (operatorOf u a) o) _ _ (total-cong _ _ (upTo (periods u)) (λ h. ap (λ (x : ℕ). estimateAt u h .0 * x) (e a h))))
-
-  where-add : (t : Bool) (x y : ℕ) → (if t then x + y else 0) ≡ (if t then x else 0) + (if t then y else 0)
-  where-add true x y = refl
-  where-add false x y = refl
 
   worth-add : (f g : ℕ → ℕ → ℕ) → worthOf (λ a h. f a h + g a h) ≡ worthOf f + worthOf g
   unfolding worthOf ofOperator

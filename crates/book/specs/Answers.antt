@@ -1,4 +1,4 @@
--- What opening and the two readings answer, on any bytes (document 01, "Opening", "Registration").
+-- What opening and the readings answer, on any bytes (document 01, "Opening", "Registration"; document 02, note 5).
 use Prim.Native.Nat.{ℕ}
 use mathlib.Core.List.{List}
 use Rattle.rules.specs.declared.NetReading.{NetReading}
@@ -7,7 +7,7 @@ use Rattle.rules.specs.declared.Refusal.the-variants.{NotABook}
 use Rattle.rules.specs.Basics.{if_then_else_}
 use Rattle.rules.specs.Opening.{openRefusal, opened}
 use Rattle.rules.specs.Requests.{unlessRefused}
-use Rattle.rules.specs.Readings.{netReading, exposureReading}
+use Rattle.rules.specs.Readings.{netReading, exposureReading, hourlyExposureReading}
 use Rattle.image.specs.Valid.{isBook, bookBytes, bookIn}
 
 -- opening fills the whole buffer with the image of the fresh book; a refusal changes no byte
@@ -21,3 +21,7 @@ netAnswer s a h = if isBook s then netReading (bookIn s) a h else NetReading.Unr
 -- an exposure, by operator
 unfoldable pub exposureAnswer : List ℕ → ℕ → ExposureReading
 exposureAnswer s o = if isBook s then exposureReading (bookIn s) o else ExposureReading.Unread NotABook
+
+-- an exposure in one hour, by operator and hour
+unfoldable pub hourlyExposureAnswer : List ℕ → ℕ → ℕ → ExposureReading
+hourlyExposureAnswer s o h = if isBook s then hourlyExposureReading (bookIn s) o h else ExposureReading.Unread NotABook

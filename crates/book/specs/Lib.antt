@@ -7,7 +7,9 @@ pub mod Netted
 pub mod Waits
 -- Worth: exposure in two parts, net positions and pending sales.
 pub mod Worth
--- Answers: what opening and the two readings answer, on any bytes.
+-- Hourly: the exposure in one hour in the same two parts.
+pub mod Hourly
+-- Answers: what opening and the readings answer, on any bytes.
 pub mod Answers
 -- Fresh: the loops by which opening writes a fresh book.
 pub mod Fresh

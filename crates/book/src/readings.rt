@@ -1,4 +1,4 @@
-// The readings: a net position and an exposure, of a sound book.
+// The readings: a net position, an exposure, and an exposure in one hour, of a sound book.
 ghost use mathlib.Core.Path.{_≡_};
 ghost use mathlib.Core.Bool.{true, not};
 ghost use Prim.Native.Nat.{_-_, _^_};
@@ -6,8 +6,9 @@ ghost use lib.Dec.{ltb};
 ghost use Rattle.units.specs.Units.{kwh};
 ghost use Rattle.rules.specs.declared.Position.the-variants.{Long, Short};
 ghost use Rattle.rules.specs.Basics.{if_then_else_, within};
-ghost use Rattle.rules.specs.Readings.{netReading, exposureReading};
+ghost use Rattle.rules.specs.Readings.{netReading, exposureReading, hourlyExposureReading};
 ghost use Rattle.image.specs.Valid.{isSound, bookIn};
+use crate::hourly::hourly_exposure;
 use crate::positions::stored_net;
 use crate::worth::Added;
 use crate::worth::exposure_with;
@@ -62,4 +63,19 @@ pub fn exposure_in(book: &[u8], operator: u8) -> ExposureReading
         return ExposureReading::Unread(Refusal::OutOfRange { bit: 9 });
     }
     ExposureReading::Read(exposure_with(book, operator, Added::Nothing))
+}
+
+// The exposure of an operator in an hour.
+pub fn hourly_exposure_in(book: &[u8], operator: u8, hour: u8) -> ExposureReading
+    requires { ⌜ isSound (now book) ≡ true ⌝ }
+    ensures { λ r. ⌜ r ≡ hourlyExposureReading (bookIn (now (book .entry))) operator hour ⌝ }
+{
+    let n = counts(book);
+    if outside(hour, n.hours) {
+        return ExposureReading::Unread(Refusal::OutOfRange { bit: 5 });
+    }
+    if outside(operator, n.operators) {
+        return ExposureReading::Unread(Refusal::OutOfRange { bit: 9 });
+    }
+    ExposureReading::Read(hourly_exposure(book, operator, hour))
 }

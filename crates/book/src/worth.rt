@@ -71,7 +71,7 @@ pub fn account_operators(book: &[u8]) -> [u8; ACCOUNT_OPERATORS]
 // ---- prices
 
 // The estimated price of an hour.
-fn price(book: &[u8], hour: u8) -> CentsPerMwh
+pub fn price(book: &[u8], hour: u8) -> CentsPerMwh
     requires { ⌜ (isSound (now book) ≡ true) × IsHour (bookIn (now book)) hour ⌝ }
     ensures meaning { λ r. ⌜ r ≡ estimateAt (bookIn (now (book .entry)) .setup) hour ⌝ }
     ensures bounded { λ r. ⌜ r .0 ≤ mostPrice ⌝ }
@@ -194,7 +194,7 @@ fn short_with(net: Net, account: u8, hour: u8, trade: Row) -> Kwh
 }
 
 // What of an account's net position in an hour lies below zero, with what is to be added.
-fn short_at(book: &[u8], account: u8, hour: u8, added: Added) -> Kwh
+pub fn short_at(book: &[u8], account: u8, hour: u8, added: Added) -> Kwh
     requires { ⌜ (let b = bookIn (now book) in (isSound (now book) ≡ true) × IsAccount b account × IsHour b hour × QuantityInRange added) ⌝ }
     ensures meaning { λ r. ⌜ r .0 ≡ shortOf (netsWith (bookIn (now (book .entry))) added account hour) ⌝ }
     ensures bounded { λ r. ⌜ r .0 ≤ mostShort ⌝ }

@@ -6,14 +6,14 @@ use mathlib.Core.Bool.{Bool, true, false}
 use Rattle.rules.specs.Basics.{within}
 use Rattle.rules.specs.Verdicts.{firstToApply}
 use Rattle.rules.specs.Books.{Book, accountCount, operatorCount, periods}
-use Rattle.rules.specs.Readings.{netReading, netReadOut, exposureReading, exposureReadOut}
+use Rattle.rules.specs.Readings.{netReading, netReadOut, exposureReading, hourlyExposureReading, exposureReadOut}
 use Rattle.rules.specs.Ledger.{Ledger, ledgerNet}
 use Rattle.rules.proofs.Rows.SignedReading.{position-figure}
 use Rattle.rules.proofs.Ledgers.Agreement.{Agrees}
-use Rattle.rules.proofs.Ledgers.LedgerReadings.{net-read-is-the-ledgers, exposure-read-is-the-ledgers}
+use Rattle.rules.proofs.Ledgers.LedgerReadings.{net-read-is-the-ledgers, exposure-read-is-the-ledgers, hourly-exposure-read-is-the-ledgers}
 use Rattle.image.specs.Valid.{valid, bookBytes}
-use Rattle.book.specs.Answers.{netAnswer, exposureAnswer}
-use Rattle.day.specs.Readings.{ledgerNetReadOut, ledgerExposureReadOut}
+use Rattle.book.specs.Answers.{netAnswer, exposureAnswer, hourlyExposureAnswer}
+use Rattle.day.specs.Readings.{ledgerNetReadOut, ledgerExposureReadOut, ledgerHourlyExposureReadOut}
 use Rattle.day.proofs.Images.{image-says, image-stands}
 
 module _ (b : Book) (l : Ledger) (g : Agrees b l) where
@@ -35,6 +35,16 @@ module _ (b : Book) (l : Ledger) (g : Agrees b l) where
       go true e = rw (e, exposure-read-is-the-ledgers b l g o e)
       go false e = rw (g .setup, e)
 
+  hourly-exposure-reading-agrees : (o h : ℕ) → exposureReadOut (hourlyExposureReading b o h) ≡ ledgerHourlyExposureReadOut l o h
+  unfolding hourlyExposureReading firstToApply ledgerHourlyExposureReadOut
+  hourly-exposure-reading-agrees o h = go (within 1 h (periods (l .setup))) (within 1 o (operatorCount (l .setup))) refl refl
+    where
+      go : (s t : Bool) → within 1 h (periods (l .setup)) ≡ s → within 1 o (operatorCount (l .setup)) ≡ t
+          → exposureReadOut (hourlyExposureReading b o h) ≡ ledgerHourlyExposureReadOut l o h
+      go true true e f = rw (e, f, hourly-exposure-read-is-the-ledgers b l g o h f e)
+      go true false e f = rw (g .setup, e, f)
+      go false t e f = rw (g .setup, e)
+
   -- on the bytes of a valid book
   module _ (v : valid b ≡ true) where
     pub net-answer-agrees : (a h : ℕ) → netReadOut (netAnswer (bookBytes b) a h) ≡ ledgerNetReadOut l a h
@@ -44,3 +54,7 @@ module _ (b : Book) (l : Ledger) (g : Agrees b l) where
     pub exposure-answer-agrees : (o : ℕ) → exposureReadOut (exposureAnswer (bookBytes b) o) ≡ ledgerExposureReadOut l o
     unfolding exposureAnswer
     exposure-answer-agrees o = rw (image-stands b v, image-says b v) (exposure-reading-agrees o)
+
+    pub hourly-exposure-answer-agrees : (o h : ℕ) → exposureReadOut (hourlyExposureAnswer (bookBytes b) o h) ≡ ledgerHourlyExposureReadOut l o h
+    unfolding hourlyExposureAnswer
+    hourly-exposure-answer-agrees o h = rw (image-stands b v, image-says b v) (hourly-exposure-reading-agrees o h)

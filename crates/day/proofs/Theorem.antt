@@ -39,7 +39,7 @@ use Rattle.day.specs.Promise.{Promise}
 use Rattle.day.proofs.Images.{call-on-image, books-in-bytes}
 use Rattle.day.proofs.SettleLaws.{settle-writes, written-total}
 use Rattle.day.proofs.Refusals.{runs-not-one}
-use Rattle.day.proofs.Readings.{net-answer-agrees, exposure-answer-agrees}
+use Rattle.day.proofs.Readings.{net-answer-agrees, exposure-answer-agrees, hourly-exposure-answer-agrees}
 
 -- ---- a list from the bytes of the opened book
 
@@ -141,6 +141,7 @@ module _ (setup : List ℕ) (h : setupRefusal setup ≡ none) where
       record {
         net-readings = λ a k. rw (at, is) (net-answer-agrees b l g v a k);
         exposure-readings = λ o. rw (at, is) (exposure-answer-agrees b l g v o);
+        hourly-exposure-readings = λ o k. rw (at, is) (hourly-exposure-answer-agrees b l g v o k);
         nets-sum-to-zero = λ k. rw is (nets-cancel cs bytes k);
         nets-within-margins = λ a k al ah kl kh.
             rw (is, ← net-is-the-ledgers b l g a k, ← su) (reachable-nets-within-margins setup h cs bytes a k al (rw su ah) kl (rw su kh));

@@ -18,9 +18,9 @@ use Rattle.rules.specs.Calls.{Call}
 use Rattle.rules.specs.Lists.{after, acceptsAs, UndoneBatch, EmptyKeptBatch, Matched}
 use Rattle.rules.specs.Asks.{AskCommitted, CommittedAsAsked}
 use Rattle.rules.specs.Ledger.{Ledger, ledgerAfter, ledgerNet, ledgerHour, ledgerExposure, ledgerAvailable}
-use Rattle.book.specs.Answers.{netAnswer, exposureAnswer}
+use Rattle.book.specs.Answers.{netAnswer, exposureAnswer, hourlyExposureAnswer}
 use Rattle.day.specs.Answers.{callAnswer}
-use Rattle.day.specs.Readings.{ledgerNetReadOut, ledgerExposureReadOut}
+use Rattle.day.specs.Readings.{ledgerNetReadOut, ledgerExposureReadOut, ledgerHourlyExposureReadOut}
 
 module _ (setup start : List ℕ) where
   -- the book's bytes after a list of calls
@@ -37,6 +37,9 @@ module _ (setup start : List ℕ) where
     pub net-readings : (a h : ℕ) → netReadOut (netAnswer (book cs) a h) ≡ ledgerNetReadOut (ledger cs) a h
     -- and every reading of exposure, in number, details and money
     pub exposure-readings : (o : ℕ) → exposureReadOut (exposureAnswer (book cs) o) ≡ ledgerExposureReadOut (ledger cs) o
+    -- and every reading of exposure in one hour
+    pub hourly-exposure-readings : (o h : ℕ)
+        → exposureReadOut (hourlyExposureAnswer (book cs) o h) ≡ ledgerHourlyExposureReadOut (ledger cs) o h
     -- in each hour net positions sum to zero
     pub nets-sum-to-zero : (h : ℕ)
         → sumOf (map (λ a. figure (ledgerNet (ledger cs) a h)) (upTo (accountCount (setupOf setup)))) ≡ pos 0

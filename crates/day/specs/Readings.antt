@@ -8,7 +8,7 @@ use Rattle.rules.specs.Basics.{if_then_else_, within}
 use Rattle.rules.specs.Verdicts.{ReadOut, readOut}
 use Rattle.rules.specs.Books.{accountCount, operatorCount, periods}
 use Rattle.rules.specs.Registration.{figure}
-use Rattle.rules.specs.Ledger.{Ledger, ledgerNet, ledgerExposure}
+use Rattle.rules.specs.Ledger.{Ledger, ledgerNet, ledgerExposure, ledgerHourlyExposure}
 
 -- a net position by account and hour: 6 with bit 1 where the set-up has no such account, with bit 5 where it has no such hour
 unfoldable pub ledgerNetReadOut : Ledger → ℕ → ℕ → ReadOut ℤ
@@ -21,3 +21,10 @@ ledgerNetReadOut l a h =
 unfoldable pub ledgerExposureReadOut : Ledger → ℕ → ReadOut MilliCents
 ledgerExposureReadOut l o =
     if within 1 o (operatorCount (l .setup)) then readOut (milliCents (ledgerExposure l o)) else ((6, 9, 0), none)
+
+-- an exposure in one hour, by operator and hour: 6 with bit 5 where the set-up has no such hour, with bit 9 where it has no such operator
+unfoldable pub ledgerHourlyExposureReadOut : Ledger → ℕ → ℕ → ReadOut MilliCents
+ledgerHourlyExposureReadOut l o h =
+    if within 1 h (periods (l .setup))
+    then (if within 1 o (operatorCount (l .setup)) then readOut (milliCents (ledgerHourlyExposure l o h)) else ((6, 9, 0), none))
+    else ((6, 5, 0), none)

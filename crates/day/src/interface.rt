@@ -3,9 +3,9 @@ ghost use mathlib.Core.Path.{_≡_};
 ghost use mathlib.Core.Bool.{true};
 ghost use Rattle.rules.specs.Opening.{openOutcome};
 ghost use Rattle.rules.specs.Requests.{reading, writeOutcome, written};
-ghost use Rattle.rules.specs.Readings.{netReading, exposureReading};
+ghost use Rattle.rules.specs.Readings.{netReading, exposureReading, hourlyExposureReading};
 ghost use Rattle.image.specs.Valid.{isBook, bookIn};
-ghost use Rattle.book.specs.Answers.{openBytes, netAnswer, exposureAnswer};
+ghost use Rattle.book.specs.Answers.{openBytes, netAnswer, exposureAnswer, hourlyExposureAnswer};
 use asks::whole::is_book;
 use rules::ExposureReading;
 use rules::NetReading;
@@ -56,6 +56,24 @@ pub fn exposure_in(book: &[u8], operator: u8) -> ExposureReading
     ensures { λ r. ⌜ r ≡ exposureReading (bookIn (now (book .entry))) operator ⌝ }
 {
     book::readings::exposure_in(book, operator)
+}
+
+// The exposure of an operator in an hour, of any bytes: 1 where they are no book.
+pub fn hourly_exposure(book: &[u8], operator: u8, hour: u8) -> ExposureReading
+    ensures { λ r. ⌜ r ≡ hourlyExposureAnswer (now (book .entry)) operator hour ⌝ }
+{
+    if is_book(book) {
+        return book::readings::hourly_exposure_in(book, operator, hour);
+    }
+    ExposureReading::Unread(Refusal::NotABook)
+}
+
+// As `hourly_exposure`, of bytes that are known to be a book.
+pub fn hourly_exposure_in(book: &[u8], operator: u8, hour: u8) -> ExposureReading
+    requires { ⌜ isBook (now book) ≡ true ⌝ }
+    ensures { λ r. ⌜ r ≡ hourlyExposureReading (bookIn (now (book .entry))) operator hour ⌝ }
+{
+    book::readings::hourly_exposure_in(book, operator, hour)
 }
 
 // What a record reads as: the request that it says, or the refusal 2, 3, 4 or 5.

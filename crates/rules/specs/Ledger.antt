@@ -1,4 +1,4 @@
--- The ledger (document 01, "What demand 3 compares"; document 02, notes 3 and 4): fed only the set-up's bytes, each record and whether it
+-- The ledger (document 01, "What demand 3 compares"; document 02, notes 3 to 5): fed only the set-up's bytes, each record and whether it
 -- was accepted.
 use Prim.Native.Nat.{ℕ, suc}
 use mathlib.Core.List.{List, [], _∷_, _++_}
@@ -17,7 +17,7 @@ use Rattle.rules.specs.Basics.{if_then_else_, total, put, within}
 use Rattle.rules.specs.Books.{Setup, estimateAt, guaranteeAt, sellingSide, buyingSide}
 use Rattle.rules.specs.Opening.{setupOf, guaranteesOf}
 use Rattle.rules.specs.Requests.{Kind, register, confirm, withdraw, guarantee, openBatch, undo, keep, closeGate, schedule, settle, strip, ask, commit, kindOf, requestsOf}
-use Rattle.rules.specs.Registration.{proposed, alike, counted, includesHour, exposureOf, availableOf}
+use Rattle.rules.specs.Registration.{proposed, alike, counted, includesHour, exposureOf, hourlyExposureOf, availableOf}
 use Rattle.rules.specs.Settlement.{Judged, settled}
 use Rattle.rules.specs.Lists.{heard}
 use Rattle.rules.specs.Calls.{Call, Answer, _oneOf_, scheduled}
@@ -173,6 +173,10 @@ ledgerHour l a h =
 
 unfoldable pub ledgerExposure : Ledger → ℕ → ℕ
 ledgerExposure l o = exposureOf (l .setup) (estimateAt (l .setup)) (ledgerHour l) o
+
+-- in one hour
+unfoldable pub ledgerHourlyExposure : Ledger → ℕ → ℕ → ℕ
+ledgerHourlyExposure l o h = hourlyExposureOf (l .setup) (estimateAt (l .setup)) (ledgerHour l) o h
 
 unfoldable pub ledgerAvailable : Ledger → ℕ → ℕ
 ledgerAvailable l o = availableOf (l .setup) (guaranteeAt (l .page .guarantees) o .0) o

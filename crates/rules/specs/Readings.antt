@@ -1,4 +1,5 @@
--- Readings (document 01, "Registration"): a net position by account and hour, an exposure by operator, of any book in any phase.
+-- Readings, of any book in any phase: a net position by account and hour, an exposure by operator (document 01, "Registration"), an
+-- exposure in one hour, by operator and hour (document 02, note 5).
 use Prim.Native.Nat.{ℕ, _-_}
 use mathlib.Core.List.{List, [], _∷_}
 use mathlib.Core.Option.{Option, none, some}
@@ -17,7 +18,7 @@ use Rattle.rules.specs.declared.Refusal.the-variants.{OutOfRange}
 use Rattle.rules.specs.Basics.{if_then_else_, within}
 use Rattle.rules.specs.Verdicts.{ReadOut, readOut, notRead, Check, _⇒_, firstToApply}
 use Rattle.rules.specs.Books.{Book, accountCount, operatorCount, periods}
-use Rattle.rules.specs.Registration.{netOf, exposure}
+use Rattle.rules.specs.Registration.{netOf, exposure, hourlyExposure}
 
 -- a net position with its sign
 unfoldable pub position : Net → Position
@@ -59,7 +60,16 @@ exposureReadingOf none e = ExposureReading.Read (milliCents e)
 unfoldable pub exposureReading : Book → ℕ → ExposureReading
 exposureReading b o = exposureReadingOf (firstToApply (exposureChecks b o)) (exposure (b .setup) (b .part .rows) o)
 
--- in the paper's numbers: its verdict, and the money in thousandths of a cent
+-- 6 with bit 5, the hour, or 9, the operator
+abbrev pub hourlyExposureChecks : Book → ℕ → ℕ → List Check
+hourlyExposureChecks b o h =
+    (not (within 1 h (periods (b .setup))) ⇒ OutOfRange 5) ∷ (not (within 1 o (operatorCount (b .setup))) ⇒ OutOfRange 9) ∷ []
+
+unfoldable pub hourlyExposureReading : Book → ℕ → ℕ → ExposureReading
+hourlyExposureReading b o h =
+    exposureReadingOf (firstToApply (hourlyExposureChecks b o h)) (hourlyExposure (b .setup) (b .part .rows) o h)
+
+-- in the paper's numbers, of both: its verdict, and the money in thousandths of a cent
 abbrev pub exposureReadOut : ExposureReading → ReadOut MilliCents
 exposureReadOut (ExposureReading.Read m) = readOut m
 exposureReadOut (ExposureReading.Unread r) = notRead r

@@ -1,7 +1,7 @@
 -- Registration (document 01, "Registration"): rows, what an account holds in an hour, margins, exposure and what is available.
 -- Sums are natural numbers: a net position is what was bought and what was sold, each by itself.
 use Prim.Native.Nat.{ℕ, _+_, _-_, _*_}
-use mathlib.Core.List.{List, [], _∷_, map}
+use mathlib.Core.List.{List, [], _∷_, map, flatMap}
 use mathlib.Core.Option.{Option, none, some}
 use mathlib.Core.Bool.{Bool, false, not, _&&_, _||_}
 use lib.ListN.{length}
@@ -14,7 +14,7 @@ use Rattle.rules.specs.declared.Row.{Row}
 use Rattle.rules.specs.declared.Net.{Net}
 use Rattle.rules.specs.declared.AccountHour.{AccountHour}
 use Rattle.rules.specs.declared.Request.{Request}
-use Rattle.rules.specs.Basics.{if_then_else_, total, anyPasses, find, indexOf, nth, put, upTo, within}
+use Rattle.rules.specs.Basics.{if_then_else_, total, anyPasses, find, those, indexOf, nth, put, upTo, within}
 use Rattle.rules.specs.Limits.{thousand, mostRows}
 use Rattle.rules.specs.Requests.{register, kindNumber}
 use Rattle.rules.specs.Books.{Setup, Part, periods, marginsAt, estimateAt, maintenanceAt, guaranteeAt, operatorOf, accountCount, noRow, pendingStatus, confirmedStatus, withdrawnStatus, sellingSide, buyingSide}
@@ -241,17 +241,28 @@ brokenBy u rows added a =
 abbrev pub exposed : AccountHour → ℕ
 exposed x = (x .net .sold .0 - x .net .bought .0) + x .sales .0
 
+-- the amount of an account hour, at a price
+abbrev pub exposedAmount : CentsPerMwh → AccountHour → ℕ
+exposedAmount price x = price .0 * exposed x
+
 -- the sum of f over an operator's accounts
 unfoldable pub ofOperator : Setup → (ℕ → ℕ) → ℕ → ℕ
 ofOperator u f o = total (λ a. if eqb (operatorOf u a) o then f a else 0) (upTo (accountCount u))
 
 -- exposure of what accounts hold in their hours, at prices by hour: over the operator's accounts and the hours
 unfoldable pub exposureOf : Setup → (ℕ → CentsPerMwh) → (ℕ → ℕ → AccountHour) → ℕ → ℕ
-exposureOf u prices holds o = ofOperator u (λ a. total (λ h. prices h .0 * exposed (holds a h)) (upTo (periods u))) o
+exposureOf u prices holds o = ofOperator u (λ a. total (λ h. exposedAmount (prices h) (holds a h)) (upTo (periods u))) o
+
+-- the exposure in one hour (document 02, note 5): the price of the hour times that hour's sum over the operator's accounts
+unfoldable pub hourlyExposureOf : Setup → (ℕ → CentsPerMwh) → (ℕ → ℕ → AccountHour) → ℕ → ℕ → ℕ
+hourlyExposureOf u prices holds o h = prices h .0 * ofOperator u (λ a. exposed (holds a h)) o
 
 -- at estimated prices
 abbrev pub exposure : Setup → List Row → ℕ → ℕ
 exposure u rows o = exposureOf u (estimateAt u) (accountHour rows) o
+
+abbrev pub hourlyExposure : Setup → List Row → ℕ → ℕ → ℕ
+hourlyExposure u rows o h = hourlyExposureOf u (estimateAt u) (accountHour rows) o h
 
 -- the same with rows that are to be added
 abbrev pub exposureWith : Setup → List Row → List Row → ℕ → ℕ
@@ -272,3 +283,13 @@ coveredBy u exposure guarantee o = leb exposure (availableOf u guarantee o)
 -- the guarantee in force covers the exposure of the rows
 unfoldable pub covered : Setup → Part → ℕ → Bool
 covered u p o = leb (exposure u (p .rows) o) (available u p o)
+
+-- ---- an operator's accounts and their hours
+
+-- its accounts, each once
+unfoldable pub accountsOf : Setup → ℕ → List ℕ
+accountsOf u o = those (λ a. eqb (operatorOf u a) o) (upTo (accountCount u))
+
+-- its account hours, each once: its accounts in the first hour, then in the next
+unfoldable pub accountHoursOf : Setup → ℕ → List (ℕ × ℕ)
+accountHoursOf u o = flatMap (λ h. map (λ a. (a, h)) (accountsOf u o)) (upTo (periods u))

@@ -35,7 +35,7 @@ fn moved(r: Row, party: u8, account: u8, hour: u8) -> Kwh
 }
 
 // What a pending row of the account's own adds to its pending rows of that side in the hour.
-fn waiting(r: Row, account: u8, hour: u8, side: u8) -> Kwh
+pub fn waiting(r: Row, account: u8, hour: u8, side: u8) -> Kwh
     ensures meaning { λ q. ⌜ q .0 ≡ counted (pendingOf side account hour) r ⌝ }
     ensures bounded { λ q. ⌜ q .0 ≤ r .quantity .0 ⌝ }
 {

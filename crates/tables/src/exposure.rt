@@ -1,9 +1,9 @@
 // The exposure of an operator, by the table of sums.
 ghost use mathlib.Core.Path.{_≡_};
-ghost use Prim.Native.Nat.{_-_, _*_, _≤_};
+ghost use Prim.Native.Nat.{_≤_};
 ghost use Rattle.rules.specs.Limits.{mostPrice};
 ghost use Rattle.rules.specs.Opening.{countsIn, setupOf};
-ghost use Rattle.rules.specs.Registration.{exposed, exposure};
+ghost use Rattle.rules.specs.Registration.{exposedAmount, exposure};
 ghost use Rattle.image.specs.Tables.{SetupTabled};
 ghost use Rattle.tables.specs.Sums.{SumTable, ForRowsSummedIn, AccountInTable, EstimatesInRange, mostHourExposure, mostAccountExposure, accountExposure, exposureShare};
 use crate::sums::account_hour;
@@ -18,7 +18,7 @@ use units::MilliCents;
 // The exposure of an account hour at a price: what lies below zero, and the account's own pending sales in full.
 fn hour_exposure(x: AccountHour, price: CentsPerMwh) -> MilliCents
     requires { ⌜ price .0 ≤ mostPrice ⌝ }
-    ensures { λ r. ⌜ (r .0 ≡ price .0 * exposed x) × (r .0 ≤ mostHourExposure) ⌝ }
+    ensures { λ r. ⌜ (r .0 ≡ exposedAmount price x) × (r .0 ≤ mostHourExposure) ⌝ }
 {
     let short = short(x.net);
     let owed = short.at(price);

@@ -1,14 +1,20 @@
 -- Sums over lists: by recursion on the list, each step by arithmetic.
 use Prim.Native.Nat.{ℕ, zero, suc, _+_, _*_, _≤_, _<_}
 use mathlib.Core.Path.{_≡_, refl, sym, ap, _∙_}
-use mathlib.Core.List.{List, [], _∷_, _++_, map}
+use mathlib.Core.Logic.{∥∥₁-elim}
+use mathlib.Core.List.{List, [], _∷_, _++_, map, flatMap, Perm, List·Permᴰ, List·Permᴰ·nil, List·Permᴰ·cons, List·Permᴰ·swap, List·Permᴰ·trans}
 use mathlib.Core.Bool.{Bool, true, false, _&&_}
-use native.Mathlib.Nat.{zero-add, add-zero, add-mul, zero-mul}
+use native.Mathlib.Nat.{ℕ-set, zero-add, add-zero, add-mul, zero-mul}
 use native.Mathlib.Omega.{arith}
 use lib.ListN.{length, getD, set}
 use lib.Dec.{eqb}
 use borrow.Author.Tests.{eqb-true, eqb-false, ne-eqb}
-use Rattle.rules.specs.Basics.{if_then_else_, total, counting, upTo, Each, nil, cons}
+use Rattle.rules.specs.Basics.{if_then_else_, total, those, counting, upTo, Each, nil, cons}
+
+-- a sum counted where a test holds
+pub where-add : (t : Bool) (m n : ℕ) → (if t then m + n else 0) ≡ (if t then m else 0) + (if t then n else 0)
+where-add true m n = refl
+where-add false m n = refl
 
 -- ---- any list
 
@@ -62,6 +68,42 @@ module _ {ℓ} {A : Type ℓ} where
   unfolding total
   total-map f g [] = refl
   total-map f g (x ∷ xs) = ap (λ (n : ℕ). f (g x) + n) (total-map f g xs)
+
+  -- those that pass, or all with nothing for the others
+  pub total-those : (p : A → Bool) (f : A → ℕ) (xs : List A) → total f (those p xs) ≡ total (λ x. if p x then f x else 0) xs
+  unfolding total those
+  total-those p f [] = refl
+  total-those p f (x ∷ xs) = go (p x) (total-those p f xs)
+    where
+      go : (t : Bool) → total f (those p xs) ≡ total (λ y. if p y then f y else 0) xs
+          → total f (elim t [ true ↦ x ∷ those p xs | false ↦ those p xs ]) ≡ (if t then f x else 0) + total (λ y. if p y then f y else 0) xs
+      go true ih = ap (λ (n : ℕ). f x + n) ih
+      go false ih = omega (arith, ih)
+
+  -- a test that is the same for all of the list
+  pub total-where : (t : Bool) (f : A → ℕ) (xs : List A) → total (λ x. if t then f x else 0) xs ≡ (if t then total f xs else 0)
+  total-where true f xs = refl
+  total-where false f xs = total-zero xs
+
+  -- ---- rearranged
+
+  steps : (f : A → ℕ) {xs ys : List A} → List·Permᴰ xs ys → total f xs ≡ total f ys
+  unfolding total
+  steps f List·Permᴰ·nil = refl
+  steps f (List·Permᴰ·cons e d) = let g = ap f e in let ih = steps f d in omega arith
+  steps f (List·Permᴰ·swap e d) = let g = ap f e in let h = ap f d in omega arith
+  steps f (List·Permᴰ·trans d e) = steps f d ∙ steps f e
+
+  -- a list in another order has the same sum, whatever is summed
+  pub total-rearranged : (f : A → ℕ) {xs ys : List A} → Perm xs ys → total f xs ≡ total f ys
+  total-rearranged f p = ∥∥₁-elim p (ℕ-set _ _) (steps f)
+
+-- lists one behind the other: the sum of their sums
+pub total-flat {ℓ κ} : {A : Type ℓ} {B : Type κ} (f : B → ℕ) (g : A → List B) (xs : List A)
+    → total f (flatMap g xs) ≡ total (λ x. total f (g x)) xs
+unfolding total flatMap
+total-flat f g [] = refl
+total-flat f g (x ∷ xs) = total-append f (g x) (flatMap g xs) ∙ ap (λ (n : ℕ). total f (g x) + n) (total-flat f g xs)
 
 -- the order of two sums
 pub swap {ℓ κ} : {A : Type ℓ} {B : Type κ} (f : A → B → ℕ) (xs : List A) (ys : List B)

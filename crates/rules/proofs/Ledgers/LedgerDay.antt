@@ -16,14 +16,14 @@ use Rattle.rules.specs.Books.{Book, accountCount, operatorCount, periods
 use Rattle.rules.specs.Opening.{opened, setupOf}
 use Rattle.rules.specs.Requests.{settle, kindOf, requestsOf}
 use Rattle.rules.specs.Registration.{netOf, available}
-use Rattle.rules.specs.Readings.{position, netReading, exposureReading}
+use Rattle.rules.specs.Readings.{position, netReading, exposureReading, hourlyExposureReading}
 use Rattle.rules.specs.Settlement.{pricesIn, results, balances, registeredTotal, balanceFigure}
 use Rattle.rules.specs.Calls.{Call, drawnUp, Settled, callKind, _oneOf_, workedOut, settles, refusal, step, settlement}
 use Rattle.rules.specs.Lists.{after, heard}
-use Rattle.rules.specs.Ledger.{Ledger, newLedger, feed, feedEach, fed, fedAll, ledgerNet, ledgerExposure, ledgerAvailable, ledgerAfter}
+use Rattle.rules.specs.Ledger.{Ledger, newLedger, feed, feedEach, fed, fedAll, ledgerNet, ledgerExposure, ledgerHourlyExposure, ledgerAvailable, ledgerAfter}
 use Rattle.rules.proofs.Ledgers.Ranged.{Ranged, opened-ranged, last-ranged}
 use Rattle.rules.proofs.Ledgers.Agreement.{Agrees, day-agrees}
-use Rattle.rules.proofs.Ledgers.LedgerReadings.{net-read-is-the-ledgers, exposure-read-is-the-ledgers, available-is-the-ledgers, results-are-the-ledgers, balances-are-the-ledgers, total-is-the-ledgers}
+use Rattle.rules.proofs.Ledgers.LedgerReadings.{net-read-is-the-ledgers, exposure-read-is-the-ledgers, hourly-exposure-read-is-the-ledgers, available-is-the-ledgers, results-are-the-ledgers, balances-are-the-ledgers, total-is-the-ledgers}
 use Rattle.rules.proofs.Settling.SettledTotal.{Owned, book-total}
 
 -- ---- an accepted settle
@@ -109,6 +109,11 @@ module _ (s : List ℕ) (cs : List Call) where
   pub day-exposure : (o : ℕ) → within 1 o (operatorCount (setupOf s)) ≡ true
       → exposureReading dayBook o ≡ ExposureReading.Read (milliCents (ledgerExposure dayLedger o))
   day-exposure o i = exposure-read-is-the-ledgers dayBook dayLedger agrees o (rw day-setup i)
+
+  -- every reading of exposure in one hour
+  pub day-hourly-exposure : (o h : ℕ) → within 1 o (operatorCount (setupOf s)) ≡ true → within 1 h (periods (setupOf s)) ≡ true
+      → hourlyExposureReading dayBook o h ≡ ExposureReading.Read (milliCents (ledgerHourlyExposure dayLedger o h))
+  day-hourly-exposure o h i j = hourly-exposure-read-is-the-ledgers dayBook dayLedger agrees o h (rw day-setup i) (rw day-setup j)
 
   -- what is available
   pub day-available : (o : ℕ) → available (dayBook .setup) (dayBook .part) o ≡ ledgerAvailable dayLedger o

@@ -13,10 +13,10 @@ use Rattle.rules.specs.declared.ExposureReading.{ExposureReading}
 use Rattle.rules.specs.Basics.{within}
 use Rattle.rules.specs.Verdicts.{firstToApply}
 use Rattle.rules.specs.Books.{Book, accountCount, operatorCount, periods}
-use Rattle.rules.specs.Registration.{includesHour, counted, pending, waiting, netOf, accountHour, exposure, available}
-use Rattle.rules.specs.Readings.{position, netReading, exposureReading}
+use Rattle.rules.specs.Registration.{includesHour, counted, pending, waiting, netOf, accountHour, exposure, hourlyExposure, available}
+use Rattle.rules.specs.Readings.{position, netReading, exposureReading, hourlyExposureReading}
 use Rattle.rules.specs.Settlement.{settled, results, balances, registeredTotal}
-use Rattle.rules.specs.Ledger.{Ledger, ledgerNet, ledgerWaiting, ledgerHour, ledgerExposure, ledgerAvailable, ledgerSettled}
+use Rattle.rules.specs.Ledger.{Ledger, ledgerNet, ledgerWaiting, ledgerHour, ledgerExposure, ledgerHourlyExposure, ledgerAvailable, ledgerSettled}
 use Rattle.rules.proofs.Ledgers.Entries.{total-entries}
 use Rattle.rules.proofs.Ledgers.Agreement.{Agrees}
 
@@ -43,13 +43,18 @@ module _ (b : Book) (l : Ledger) (g : Agrees b l) where
   unfolding ledgerHour
   hour-is-the-ledgers a h = rw (net-is-the-ledgers a h, waiting-is-the-ledgers 1 a h, waiting-is-the-ledgers 2 a h)
 
+  hours : accountHour (b .part .rows) ≡ ledgerHour l
+  hours = fun-ext (λ a. fun-ext (λ h. hour-is-the-ledgers a h))
+
   -- ---- exposure and what is available
 
   pub exposure-is-the-ledgers : (o : ℕ) → exposure (b .setup) (b .part .rows) o ≡ ledgerExposure l o
   unfolding ledgerExposure
-  exposure-is-the-ledgers o =
-      let e : accountHour (b .part .rows) ≡ ledgerHour l = fun-ext (λ a. fun-ext (λ h. hour-is-the-ledgers a h)) in
-      rw (e, g .setup)
+  exposure-is-the-ledgers o = rw (hours, g .setup)
+
+  pub hourly-exposure-is-the-ledgers : (o h : ℕ) → hourlyExposure (b .setup) (b .part .rows) o h ≡ ledgerHourlyExposure l o h
+  unfolding ledgerHourlyExposure
+  hourly-exposure-is-the-ledgers o h = rw (hours, g .setup)
 
   pub available-is-the-ledgers : (o : ℕ) → available (b .setup) (b .part) o ≡ ledgerAvailable l o
   unfolding available ledgerAvailable
@@ -68,6 +73,12 @@ module _ (b : Book) (l : Ledger) (g : Agrees b l) where
       → exposureReading b o ≡ ExposureReading.Read (milliCents (ledgerExposure l o))
   unfolding exposureReading firstToApply
   exposure-read-is-the-ledgers o i = rw (exposure-is-the-ledgers o, g .setup, i)
+
+  -- and one in one hour
+  pub hourly-exposure-read-is-the-ledgers : (o h : ℕ) → within 1 o (operatorCount (l .setup)) ≡ true → within 1 h (periods (l .setup)) ≡ true
+      → hourlyExposureReading b o h ≡ ExposureReading.Read (milliCents (ledgerHourlyExposure l o h))
+  unfolding hourlyExposureReading firstToApply
+  hourly-exposure-read-is-the-ledgers o h i j = rw (hourly-exposure-is-the-ledgers o h, g .setup, i, j)
 
   -- ---- settlement
 
