@@ -5,7 +5,7 @@ ghost use Rattle.rules.specs.Opening.{openOutcome};
 ghost use Rattle.rules.specs.Requests.{reading, requestReadOut};
 ghost use Rattle.rules.specs.Readings.{netReadOut, exposureReadOut};
 ghost use Rattle.image.specs.Valid.{isBook};
-ghost use Rattle.book.specs.Answers.{openBytes, netAnswer, exposureAnswer};
+ghost use Rattle.book.specs.Answers.{openBytes, netAnswer, exposureAnswer, hourlyExposureAnswer};
 ghost use Rattle.day.specs.Answers.{callOn};
 ghost use Rattle.abi.specs.Packing.{Packs, GivesPacked};
 ghost use Rattle.abi.specs.Lending.{Lends, netBytes, exposureBytes};
@@ -68,6 +68,20 @@ pub extern "C" fn energy_book_exposure(book: &[u8], operator: u8, figure: &mut [
     ensures { λ r. ⌜ Lends exposureBytes (exposureReadOut (exposureAnswer (now (book .entry)) operator)) (now (figure .entry)) r (now (figure .exit)) ⌝ }
 {
     let reading = day::interface::exposure(book, operator);
+    pack(lend_exposure(reading, figure))
+}
+
+// The exposure of an operator in an hour, in the first 8 bytes of the buffer.
+#[no_mangle]
+pub extern "C" fn energy_book_hourly_exposure(
+    book: &[u8],
+    operator: u8,
+    hour: u8,
+    figure: &mut [u8],
+) -> u64
+    ensures { λ r. ⌜ Lends exposureBytes (exposureReadOut (hourlyExposureAnswer (now (book .entry)) operator hour)) (now (figure .entry)) r (now (figure .exit)) ⌝ }
+{
+    let reading = day::interface::hourly_exposure(book, operator, hour);
     pack(lend_exposure(reading, figure))
 }
 

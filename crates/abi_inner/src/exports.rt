@@ -3,7 +3,7 @@
 // changed by calls only, is a book. On other bytes nothing is promised.
 ghost use mathlib.Core.Path.{_≡_};
 ghost use mathlib.Core.Bool.{true};
-ghost use Rattle.rules.specs.Readings.{netReading, netReadOut, exposureReading, exposureReadOut};
+ghost use Rattle.rules.specs.Readings.{netReading, netReadOut, exposureReading, hourlyExposureReading, exposureReadOut};
 ghost use Rattle.image.specs.Valid.{isBook, bookIn};
 ghost use Rattle.day.specs.Answers.{callOn};
 ghost use Rattle.abi.specs.Packing.{GivesPacked};
@@ -47,5 +47,20 @@ pub extern "C" fn energy_book_exposure_in(book: &[u8], operator: u8, figure: &mu
     ensures { λ r. ⌜ Lends exposureBytes (exposureReadOut (exposureReading (bookIn (now (book .entry))) operator)) (now (figure .entry)) r (now (figure .exit)) ⌝ }
 {
     let reading = day::interface::exposure_in(book, operator);
+    pack(lend_exposure(reading, figure))
+}
+
+// As `energy_book_hourly_exposure`, on bytes that are known to be a book.
+#[no_mangle]
+pub extern "C" fn energy_book_hourly_exposure_in(
+    book: &[u8],
+    operator: u8,
+    hour: u8,
+    figure: &mut [u8],
+) -> u64
+    requires { ⌜ isBook (now book) ≡ true ⌝ }
+    ensures { λ r. ⌜ Lends exposureBytes (exposureReadOut (hourlyExposureReading (bookIn (now (book .entry))) operator hour)) (now (figure .entry)) r (now (figure .exit)) ⌝ }
+{
+    let reading = day::interface::hourly_exposure_in(book, operator, hour);
     pack(lend_exposure(reading, figure))
 }
