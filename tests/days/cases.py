@@ -2,6 +2,7 @@
 import copy
 
 import asks
+import hourly
 import reading
 import valuation
 from records import le, SETTLE
@@ -41,8 +42,11 @@ class Days:
             assert tuple(verdict[:3]) == want, (verdict, want, len(self.lines))
 
     def o(self, setup, want=0):
-        self.case('o', setup)
+        """Opens a day. Where it is accepted, the day before it ends."""
         verdict, book = reading.open_book(setup)
+        if book:
+            self.end_day()
+        self.case('o', setup)
         if book:
             self.book, self.plain, self.damage, self.spoilt = book, None, {}, None
         self.expect(verdict, want)
@@ -86,6 +90,17 @@ class Days:
         self.expect(verdict, want)
         assert value is None or verdict[3] == value, verdict
         self.say('e', operator, *verdict)
+
+    def i(self, operator, first, last, want=None, values=None):
+        """Hourly exposures from the first hour to the last: `want` is the verdict of each, `values` are the money of all."""
+        self.case('i', bytes([operator, first, last]))
+        before = self.state()
+        read = [hourly.hourly_exposure(self.present(), operator, hour) for hour in range(first, last + 1)]
+        assert self.state() == before
+        for hour, verdict in enumerate(read, first):
+            self.expect(verdict, want)
+            self.say('i', operator, hour, *verdict)
+        assert values is None or [verdict[3] for verdict in read] == values, read
 
     def h(self, table, want=None, part=None):
         """Values every account hour and gives the figures, or None where nothing is printed.
@@ -140,6 +155,21 @@ class Days:
                 self.a(account, hour, 0)
         for operator in range(1, len(self.book.guarantees) + 1):
             self.e(operator, 0)
+        self.read_hours()
+
+    def read_hours(self):
+        """Every operator's exposure, hour by hour."""
+        for operator in range(1, len(self.book.guarantees) + 1):
+            self.i(operator, 1, self.book.hours, 0)
+            hourly.check(self.book, operator, reading.exposure(self.book, operator)[3])
+
+    def end_day(self):
+        """Reads every hour of the book as it is left, and one of the first number that no operator has; one where it is none."""
+        if self.present() is None:
+            self.i(1, 1, 1, 1)
+            return
+        self.read_hours()
+        self.i(len(self.book.guarantees) + 1, 1, 1, (6, 9))
 
     def text(self):
         return ''.join(line + '\n' for line in self.lines)

@@ -19,8 +19,11 @@ def no_book(d):
     d.c(SETTLE, 1, flat(24, 1, 1), 8, 8)
     d.a(1, 1, 1)
     d.e(1, 1)
+    d.i(1, 1, 1, 1)
     d.a(0, 0, 1)
     d.e(255, 1)
+    d.i(0, 0, 0, 1)
+    d.i(255, 255, 255, 1)
     d.same(1)
     # opening fills the whole buffer: the same book over zeros, over another day, over FF
     d.o(market())
@@ -36,6 +39,8 @@ def no_book(d):
     d.c(UNDO, 1)
     d.a(1, 1, 1)
     d.e(1, 1)
+    d.i(1, 1, 1, 1)
+    d.i(255, 255, 255, 1)
     d.o(market(22), 8)
     d.c(CLOSE, 1)
     d.o(market())
@@ -184,6 +189,8 @@ def records_of(d):
         d.a(account, hour, want)
     for operator, want in ((0, (6, 9)), (3, (6, 9)), (255, (6, 9)), (2, 0)):
         d.e(operator, want)
+        d.i(operator, 23, 23, want)
+        d.i(operator, 24, 24, (6, 5))
     # settle before its phase: 5, 6, 10 and 11 in this order; the book has 2 operators and 2 zones
     prices = flat(23, 1, 1, 1)
     d.settle(prices[:-1], 5, 0, 0)

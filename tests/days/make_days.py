@@ -3,6 +3,7 @@ import collections
 import pathlib
 
 import ask_days
+import hourly_days
 import input_days
 import margin_days
 import random_days
@@ -13,15 +14,17 @@ import strip_days
 import valuation_days
 from cases import Days
 
-MOST = 1_400_000
+MOST = 1_600_000
 PROGRAM = pathlib.Path(__file__).parents[2] / 'crates' / 'day_test'
 
 
 def make():
     days = Days()
-    for group in (input_days, row_days, settle_days, setup_days, margin_days, strip_days, ask_days, random_days, valuation_days):
+    for group in (input_days, row_days, settle_days, setup_days, margin_days, strip_days, ask_days, hourly_days, random_days,
+                  valuation_days):
         for day in group.DAYS:
             day(days)
+    days.end_day()
     return days
 
 

@@ -2,6 +2,7 @@
 import copy
 
 import asks
+import hourly
 import strips
 from market_rules import (BOOK_BYTES, MOST_PRICE, MOST_SCHEDULES, PENDING, STREAM_BYTES,
                           WITHDRAWN, Schedule, confirm, exposure_of, fault_bit, number,
@@ -215,6 +216,16 @@ class Ledger:
                              if row.account == account and row.side == 1 and row.first <= hour <= row.last)
         return total
 
+    def hourly_exposure(self, operator, hour):
+        energy = 0
+        for account, has in enumerate(self.plain.accounts, 1):
+            if has.operator == operator:
+                energy += max(0, -self.net(account, hour))
+        for row in self.pending.values():
+            if self.plain.accounts[row.account - 1].operator == operator and row.side == 1 and row.first <= hour <= row.last:
+                energy += row.quantity
+        return energy * self.plain.estimates[hour - 1]
+
     def check(self, book):
         """Compares every reading of the book with the ledger, and the limits."""
         for hour in range(1, book.hours + 1):
@@ -227,6 +238,9 @@ class Ledger:
         for operator in range(1, len(book.guarantees) + 1):
             owed = exposure(book, operator)[3]
             assert owed == self.exposure(operator)
+            columns = [self.hourly_exposure(operator, hour) for hour in range(1, book.hours + 1)]
+            assert columns == [hourly.hourly_exposure(book, operator, hour)[3] for hour in range(1, book.hours + 1)]
+            assert owed == sum(columns)
             assert owed <= self.guarantees[operator - 1] * (1000 - book.maintenance[operator - 1])
         assert self.guarantees == book.guarantees
 

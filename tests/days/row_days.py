@@ -123,6 +123,9 @@ def full_batch(d):
     d.c(UNDO, (0, 256))
     d.same(1)
     fill()
+    # accounts 1 and 17 of operator 1 have eight sales each, 16 * 10^6 * 400,000; those of operator 2 buy
+    d.i(1, 1, 25, 0, [64 * 10 ** 11] * 25)
+    d.i(2, 1, 25, 0, [0] * 25)
     d.k()
     d.c(OPEN, 0)
     for place in range(0, 256, 2):
@@ -131,6 +134,7 @@ def full_batch(d):
         d.c(withdraw(row(place + 1)[0], place + 2), 0)
     d.c(OPEN, 12)
     d.e(1, 0)
+    d.i(1, 24, 26)
     d.a(1, 25, 0)
     d.c(UNDO, (0, 0))
     d.same(1)

@@ -5,6 +5,7 @@ Usage: run_cases.py FILE
 import sys
 
 import asks
+import hourly
 import reading
 import valuation
 
@@ -57,6 +58,10 @@ def run(data):
             lines.append(' '.join(map(str, ('a', *body, *reading.net_position(seen, *body)))))
         elif tag == 'e':
             lines.append(' '.join(map(str, ('e', *body, *reading.exposure(seen, *body)))))
+        elif tag == 'i':
+            operator, first, last = body
+            lines += [' '.join(map(str, ('i', operator, hour, *hourly.hourly_exposure(seen, operator, hour))))
+                      for hour in range(first, last + 1)]
         elif tag == 'h':
             lines += valuation.lines(valuation.value_book(seen, body))
         elif tag == 'k':

@@ -96,6 +96,8 @@ def largest(d):
     for account in range(1, 11):
         d.c(register(account, 11 + account, account, 1, 1, 25, 10 ** 7), (0, account))
     d.e(1, 0, 10 ** 15)
+    # ten accounts with 10^7 each at 400,000
+    d.i(1, 1, 25, 0, [4 * 10 ** 13] * 25)
     d.c(register(11, 12, 11, 1, 25, 25, 1), 19)
     d.c(register(1, 12, 11, 1, 25, 25, 1), (18, 25))
     d.c(guarantee(1, AMPLE - 1), 19)
@@ -104,6 +106,7 @@ def largest(d):
         d.c(confirm(11 + account, account, account, 2, 1, 25, 10 ** 7), (0, account))
     d.c(register(12, 11, 11, 1, 1, 25, 1), 19 if accounts[11][0] == 1 else (0, 11))
     d.e(1, 0, 10 ** 15)
+    d.i(1, 1, 25, 0, [4 * 10 ** 13] * 25)
     d.a(1, 25, 0, -10 ** 7)
     d.a(21, 1, 0, 10 ** 7)
     d.c(CLOSE, 0)

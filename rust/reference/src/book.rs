@@ -115,6 +115,18 @@ impl Book {
         Ok(self.ledger.exposure(operator))
     }
 
+    /// What an operator's accounts expose in one hour, in thousandths of a cent.
+    /// Over all hours this totals its exposure.
+    pub fn hourly_exposure(&self, operator: u8, hour: u8) -> Result<u64, Verdict> {
+        if !counts(hour, self.setup.estimates.len()) {
+            return Err(out_of_range(bit::FIRST));
+        }
+        if !counts(operator, self.setup.operators.len()) {
+            return Err(out_of_range(bit::OPERATOR));
+        }
+        Ok(self.ledger.hourly_exposure(&self.setup, operator, hour))
+    }
+
     /// What an operator's guarantee covers, in thousandths of a cent.
     pub fn available(&self, operator: u8) -> Result<u64, Verdict> {
         if !counts(operator, self.setup.operators.len()) {

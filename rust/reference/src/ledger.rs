@@ -80,6 +80,21 @@ impl Ledger {
         exposure
     }
 
+    /// What an operator's accounts expose in an hour, account by account, at the
+    /// estimate of the hour. The exposure that is kept has no part in it.
+    pub fn hourly_exposure(&self, setup: &Setup, operator: u8, hour: u8) -> u64 {
+        let at = usize::from(hour) - 1;
+        let by_account = self.positions.chunks_exact(setup.estimates.len());
+        let energy: u64 = setup
+            .accounts
+            .iter()
+            .zip(by_account)
+            .filter(|(account, _)| account.operator == operator)
+            .map(|(_, positions)| positions[at].exposed() as u64)
+            .sum();
+        u64::from(setup.estimates[at]) * energy
+    }
+
     /// What an operator's guarantee covers, in thousandths of a cent.
     pub fn available(&self, setup: &Setup, operator: u8) -> u64 {
         let guarantee = self.guarantees[usize::from(operator) - 1];

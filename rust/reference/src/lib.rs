@@ -8,8 +8,9 @@
 //! closes; settlement judges the schedules and draws up
 //! each operator's balance. Every call answers with a [`Verdict`]. Calls trust
 //! what the book holds; [`Book::stands`] checks it, for one who does not.
-//! [`Book::figures`] says what each account hour comes to, article by article
-//! ([`valuation`]).
+//! [`Book::hourly_exposure`] says what an operator's accounts expose in one hour,
+//! [`Book::exposure`] what they expose in all. [`Book::figures`] says what each
+//! account hour comes to, article by article ([`valuation`]).
 //!
 //! Energy is whole kWh, prices are euro cents per MWh and money is
 //! thousandths of a cent, so energy times price is money without rounding.

@@ -270,12 +270,14 @@ fn refused_calls_change_nothing_and_readings_come_from_the_rows() {
     }
 }
 
-/// Draws every position and exposure up from the rows, and checks the limits.
+/// Draws every position and exposure up from the rows, hour by hour, and checks
+/// the limits.
 fn audit(book: &Book) {
     let setup = book.setup();
     let mut exposures = vec![0i128; setup.operators.len()];
     for hour in 1..=setup.hours() {
         let mut sum = 0;
+        let mut columns = vec![0; setup.operators.len()];
         for (account, number) in setup.accounts.iter().zip(1..) {
             let (mut net, mut sales, mut purchases) = (0, 0, 0);
             for row in book.rows() {
@@ -300,11 +302,16 @@ fn audit(book: &Book) {
             assert!(net - sales >= -i64::from(account.lower_margins[at]));
             assert!(net + purchases <= i64::from(account.upper_margins[at]));
             let energy = (-net).max(0) + sales;
-            exposures[usize::from(account.operator) - 1] +=
+            columns[usize::from(account.operator) - 1] +=
                 i128::from(energy) * i128::from(setup.estimates[at]);
             sum += net;
         }
         assert_eq!(sum, 0);
+        for ((exposure, column), operator) in exposures.iter_mut().zip(columns).zip(1..) {
+            let hourly = book.hourly_exposure(operator, hour);
+            assert_eq!(hourly.map(i128::from), Ok(column));
+            *exposure += column;
+        }
     }
     for (exposure, operator) in exposures.into_iter().zip(1..) {
         assert_eq!(book.exposure(operator).map(i128::from), Ok(exposure));

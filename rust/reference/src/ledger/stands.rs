@@ -69,10 +69,21 @@ impl Ledger {
                 *exposure += u64::from(estimate) * sum.exposed();
             }
         }
-        exposures == self.exposures
+        let stand = exposures == self.exposures
             && (1..)
                 .zip(exposures)
-                .all(|(operator, exposure)| exposure <= self.available(setup, operator))
+                .all(|(operator, exposure)| exposure <= self.available(setup, operator));
+        debug_assert!(!stand || self.hours_total(setup));
+        stand
+    }
+
+    /// Whether the hourly exposures of each operator total its exposure. They are
+    /// not kept, so that no ledger can be at fault for it.
+    fn hours_total(&self, setup: &Setup) -> bool {
+        (1..).zip(&self.exposures).all(|(operator, &exposure)| {
+            let hourly = |hour| self.hourly_exposure(setup, operator, hour);
+            (1..=setup.hours()).map(hourly).sum::<u64>() == exposure
+        })
     }
 }
 
