@@ -7,7 +7,8 @@
  * - A buffer is a pointer and then its length in bytes. The pointer is never null, also where the length is 0, and all bytes are
  *   initialised. No alignment is asked.
  * - A buffer that is not const overlaps no other buffer of the same call.
- * - A book is lent to one call at a time. Readings (is_book, net, exposure) of one book may run at the same time.
+ * - A book is lent to one call at a time. Readings (is_book, net, exposure, hourly_exposure) of one book may run at the
+ *   same time.
  * Beyond these nothing is asked: any bytes and any lengths are answered.
  *
  * Most functions answer an outcome, a verdict with two details in one number; energy_book_verdict, energy_book_first and
@@ -29,7 +30,7 @@ extern "C" {
 
 /* A book: exactly this. */
 #define ENERGY_BOOK_SIZE 49152
-/* A figure, of a net position or an exposure: at least this; the first bytes are filled. */
+/* A figure, of a net position, an exposure or an hourly exposure: at least this; the first bytes are filled. */
 #define ENERGY_BOOK_FIGURE_SIZE 8
 /* The fields of a request: exactly this to be written as a record, at least this to be read into. */
 #define ENERGY_BOOK_FIELDS_SIZE 34
@@ -136,6 +137,11 @@ uint64_t energy_book_net(const uint8_t *book, size_t book_len, uint8_t account, 
 uint64_t energy_book_exposure(const uint8_t *book, size_t book_len, uint8_t operator_number, uint8_t *figure,
                               size_t figure_len);
 
+/* The exposure in thousandths of a cent of an operator in an hour, in the first 8 bytes of `figure`; refuses by 1, 6 or 10. The
+ * figures of all hours sum to the operator's exposure. */
+uint64_t energy_book_hourly_exposure(const uint8_t *book, size_t book_len, uint8_t operator_number, uint8_t hour, uint8_t *figure,
+                                     size_t figure_len);
+
 /* What a single record says: the fields of its request in the first 34 bytes of `fields`; refuses by 2, 3, 4, 5 or 10. */
 uint64_t energy_book_read(const uint8_t *record, size_t record_len, uint8_t *fields, size_t fields_len);
 
@@ -158,7 +164,7 @@ static inline uint64_t energy_book_get(const uint8_t *bytes, size_t width) {
     return value;
 }
 
-/* The signed figure in 8 bytes: a net position, an exposure or a balance. */
+/* The signed figure in 8 bytes: a net position, an exposure, an hourly exposure or a balance. */
 static inline int64_t energy_book_figure(const uint8_t bytes[ENERGY_BOOK_FIGURE_SIZE]) {
     uint64_t value = energy_book_get(bytes, ENERGY_BOOK_FIGURE_SIZE);
     return value >> 63 ? -(int64_t)(~value) - 1 : (int64_t)value;

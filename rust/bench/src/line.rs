@@ -12,6 +12,7 @@ pub enum Work {
     Call(Step, u8),
     Net(u8, u8),
     Exposure(u8),
+    HourlyExposure(u8, u8),
     /// An exposure, for which the reference too keeps no running sum.
     ExposureFromRows(u8),
     IsBook,
@@ -76,6 +77,7 @@ impl Line {
             Work::Call(call, _) => measure::refusal(times, state, call),
             Work::Net(account, hour) => measure::net(times, state, *account, *hour),
             Work::Exposure(operator) => measure::exposure(times, state, *operator),
+            Work::HourlyExposure(operator, hour) => measure::hourly_exposure(times, state, *operator, *hour),
             Work::ExposureFromRows(operator) => measure::exposure_from_rows(times, state, *operator),
             Work::IsBook => measure::is_book(times, state),
             Work::Open => measure::open(times, state),

@@ -103,6 +103,23 @@ pub fn exposure(times: &mut Times, state: &State, operator: u8) {
     }));
 }
 
+pub fn hourly_exposure(times: &mut Times, state: &State, operator: u8, hour: u8) {
+    times.public.push(clock::many(state, |state| {
+        let mut figure = [0; FIGURE_SIZE];
+        done(raw::hourly_exposure(&state.public, black_box(operator), black_box(hour), &mut figure));
+        done(figure);
+    }));
+    times.checked.push(clock::many(state, |state| {
+        done(state.checked().map(|book| book.hourly_exposure(black_box(operator), black_box(hour))));
+    }));
+    times.inner.push(clock::many(state, |state| {
+        done(state.owned.hourly_exposure(black_box(operator), black_box(hour)));
+    }));
+    times.reference.push(clock::many(state, |state| {
+        done(black_box(&state.theirs).hourly_exposure(black_box(operator), black_box(hour)));
+    }));
+}
+
 /// An exposure inside, beside the reference's from what a book's bytes have too: net positions and rows.
 pub fn exposure_from_rows(times: &mut Times, state: &State, operator: u8) {
     times.inner.push(clock::many(state, |state| {

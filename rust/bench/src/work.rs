@@ -52,6 +52,7 @@ pub fn lines() -> Vec<Line> {
     for (book, state) in [("fresh", &fresh), ("full", &full), ("full, batch open", &batch)] {
         lines.push(Line::new("net", book, state, Work::Net(32, 25)));
         lines.push(Line::new("exposure", book, state, Work::Exposure(16)));
+        lines.push(Line::new("hourly exposure", book, state, Work::HourlyExposure(16, 25)));
     }
     lines.push(Line::new("exposure, from the rows", "full", &full, Work::ExposureFromRows(16)));
     whole_days(&mut lines, &fresh);

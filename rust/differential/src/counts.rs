@@ -10,8 +10,12 @@ pub struct Counts {
     /// By verdict, of openings and of calls.
     pub openings: [u64; 24],
     pub verdicts: [u64; 24],
-    /// Readings of net and exposure.
+    /// Readings of net, exposure and hourly exposure, and those of hourly exposure among them.
     pub readings: u64,
+    pub hourly_readings: u64,
+    /// Hourly exposures read and summed after calls, and their sums, each held against an operator's exposure: above 0, and 0.
+    pub hourly_summed: u64,
+    pub hourly_sums: [u64; 2],
     /// Batches that were undone, and calls of the lists with empty kept ones in their place.
     pub undone: u64,
     pub matched: u64,
@@ -55,6 +59,8 @@ impl AddAssign<&Counts> for Counts {
             self.verdicts[number] += more.verdicts[number];
         }
         self.readings += more.readings;
+        self.hourly_readings += more.hourly_readings;
+        self.hourly_summed += more.hourly_summed;
         self.undone += more.undone;
         self.matched += more.matched;
         self.damaged += more.damaged;
@@ -68,6 +74,7 @@ impl AddAssign<&Counts> for Counts {
             self.registered[sort] += more.registered[sort];
         }
         for sort in 0..2 {
+            self.hourly_sums[sort] += more.hourly_sums[sort];
             self.strips[sort] += more.strips[sort];
             self.of_one[sort] += more.of_one[sort];
             self.asks[sort] += more.asks[sort];

@@ -105,7 +105,9 @@ fn report(counts: &Counts) {
     println!("days: {}, calls: {}", counts.days, counts.calls);
     println!("openings by verdict:{}", by_verdict(&counts.openings));
     println!("calls by verdict:{}", by_verdict(&counts.verdicts));
-    println!("readings: {}", counts.readings);
+    println!("readings: {}, of hourly exposures among them: {}", counts.readings, counts.hourly_readings);
+    let [above, none] = counts.hourly_sums;
+    println!("hourly exposures summed: {}, sums beside their exposures: above 0 {above}, 0 {none}", counts.hourly_summed);
     println!("batches undone: {}, calls of the lists with empty kept ones in their place: {}", counts.undone, counts.matched);
     println!("calls on a changed byte: no book {}, still a book {}", counts.damaged, counts.undamaged);
     println!("calls on a changed margin: no book {}, still a book {}", counts.margins_broken, counts.margins_kept);

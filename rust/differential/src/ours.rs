@@ -114,6 +114,24 @@ impl Ours {
         Ok(public)
     }
 
+    /// An hourly exposure in both forms.
+    pub fn hourly_exposure(&self, operator: u8, hour: u8) -> Result<Result<u64, Verdict>, String> {
+        let mut figure = [UNWRITTEN; FIGURE_SIZE];
+        let outcome = raw::hourly_exposure(&self.public, operator, hour, &mut figure);
+        let public = read_figure(outcome, figure)?.map(|figure| figure as u64);
+        if self.owned.hourly_exposure(operator, hour).map_err(refusal) != public {
+            return Err(String::from("the two forms read different hourly exposures"));
+        }
+        Ok(public)
+    }
+
+    /// An operator's exposure, and its hourly exposures in so many hours, by the inner form alone, which does not check the book.
+    pub fn exposure_by_hour(&self, operator: u8, hours: u8) -> Result<(u64, Vec<u64>), Verdict> {
+        let exposure = self.owned.exposure(operator).map_err(refusal)?;
+        let by_hour: Result<Vec<u64>, Refusal> = (1..=hours).map(|hour| self.owned.hourly_exposure(operator, hour)).collect();
+        Ok((exposure, by_hour.map_err(refusal)?))
+    }
+
     /// The call on this book with other bytes put at an offset: where the bytes are no book it is 1, as are the readings, and changes
     /// nothing; where they still are one, both forms agree. Says whether they are one.
     pub fn damaged(&self, call: &Step, at: usize, put: &[u8]) -> Result<bool, String> {
@@ -134,8 +152,13 @@ impl Ours {
         let mut answer = Answer::lent(call);
         let outcome = raw::call(&call.record, &mut bytes, &call.prices, &mut answer.results, &mut answer.balances);
         let mut figure = [UNWRITTEN; FIGURE_SIZE];
-        let outcomes = [outcome, raw::net(&bytes, 1, 1, &mut figure), raw::exposure(&bytes, 1, &mut figure)];
-        if outcomes != [NO_BOOK; 3] || answer != Answer::lent(call) || bytes != before || figure != [UNWRITTEN; FIGURE_SIZE] {
+        let outcomes = [
+            outcome,
+            raw::net(&bytes, 1, 1, &mut figure),
+            raw::exposure(&bytes, 1, &mut figure),
+            raw::hourly_exposure(&bytes, 1, 1, &mut figure),
+        ];
+        if outcomes != [NO_BOOK; 4] || answer != Answer::lent(call) || bytes != before || figure != [UNWRITTEN; FIGURE_SIZE] {
             return Err(format!("{put:?} put at {at}: no book, but not refused by 1 with all as it was"));
         }
         Ok(None)

@@ -5,7 +5,7 @@ use crate::made::{self, margin, margin_at, Margin};
 use crate::ours::{self, Answer, Ours};
 use crate::{strips, Counts, Day};
 use reference::days::Step;
-use reference::{kind, valuation, Book, Direction, PointKind, Request, Verdict, GREATEST_QUANTITY};
+use reference::{kind, valuation, Book, Direction, PointKind, Request, Setup, Verdict, GREATEST_QUANTITY};
 use std::panic::{catch_unwind, AssertUnwindSafe};
 
 /// The bytes of a book that can be other than zero.
@@ -53,6 +53,7 @@ fn both(day: &Day) -> Result<Counts, String> {
         counts.verdicts[usize::from(answer.verdict.number)] += 1;
         beside.compare(&theirs, &ours, &answer, &mut counts).map_err(at)?;
         asks.compare(&theirs, &ours, call, &answer, &mut counts).map_err(at)?;
+        compare_sums(theirs.setup(), &ours, &mut counts).map_err(at)?;
         if answer.verdict.is_accepted() && call.record.get(2) == Some(&kind::SETTLE) {
             compare_amounts(&theirs, call, &answer, &mut counts).map_err(at)?;
         }
@@ -184,17 +185,34 @@ fn compare_margin(theirs: &Book, ours: &Ours, call: &Step, chosen: u64, counts: 
     Ok(())
 }
 
-/// One net position and one exposure, at times of what is not there.
+/// Of each operator of ours: the hourly exposures sum to the exposure.
+fn compare_sums(setup: &Setup, ours: &Ours, counts: &mut Counts) -> Result<(), String> {
+    for operator in 1..=setup.operators.len() as u8 {
+        let read = ours.exposure_by_hour(operator, setup.hours());
+        let (exposure, by_hour) = read.map_err(|verdict| format!("exposures of operator {operator}: {verdict:?}"))?;
+        let sum: u128 = by_hour.iter().copied().map(u128::from).sum();
+        if sum != exposure.into() {
+            return Err(format!("operator {operator}: the exposure is {exposure}, the hourly ones sum to {sum}: {by_hour:?}"));
+        }
+        counts.hourly_summed += by_hour.len() as u64;
+        counts.hourly_sums[usize::from(sum == 0)] += 1;
+    }
+    Ok(())
+}
+
+/// One net position, one exposure and one hourly exposure, at times of what is not there.
 fn compare_a_reading(theirs: &Book, ours: &Ours, chosen: u64, counts: &mut Counts) -> Result<(), String> {
     let setup = theirs.setup();
     let one = |shift: u64, count: usize| ((chosen >> shift) % (count as u64 + 2)) as u8;
     compare_net(theirs, ours, one(0, setup.accounts.len()), one(16, setup.estimates.len()))?;
     compare_exposure(theirs, ours, one(32, setup.operators.len()))?;
-    counts.readings += 2;
+    compare_hourly(theirs, ours, one(32, setup.operators.len()), one(48, setup.estimates.len()))?;
+    counts.readings += 3;
+    counts.hourly_readings += 1;
     Ok(())
 }
 
-/// All net positions and exposures, and those beside them that are not there.
+/// All net positions, exposures and hourly exposures, and those beside them that are not there.
 fn compare_readings(theirs: &Book, ours: &Ours, counts: &mut Counts) -> Result<(), String> {
     let setup = theirs.setup();
     for account in 0..=setup.accounts.len() as u8 + 1 {
@@ -206,6 +224,11 @@ fn compare_readings(theirs: &Book, ours: &Ours, counts: &mut Counts) -> Result<(
     for operator in 0..=setup.operators.len() as u8 + 1 {
         compare_exposure(theirs, ours, operator)?;
         counts.readings += 1;
+        for hour in 0..=setup.hours() + 1 {
+            compare_hourly(theirs, ours, operator, hour)?;
+            counts.readings += 1;
+            counts.hourly_readings += 1;
+        }
     }
     Ok(())
 }
@@ -222,6 +245,14 @@ fn compare_exposure(theirs: &Book, ours: &Ours, operator: u8) -> Result<(), Stri
     let (expected, read) = (theirs.exposure(operator), ours.exposure(operator)?);
     if read != expected {
         return Err(format!("exposure of operator {operator}: the reference {expected:?}, ours {read:?}"));
+    }
+    Ok(())
+}
+
+fn compare_hourly(theirs: &Book, ours: &Ours, operator: u8, hour: u8) -> Result<(), String> {
+    let (expected, read) = (theirs.hourly_exposure(operator, hour), ours.hourly_exposure(operator, hour)?);
+    if read != expected {
+        return Err(format!("exposure of operator {operator}, hour {hour}: the reference {expected:?}, ours {read:?}"));
     }
     Ok(())
 }

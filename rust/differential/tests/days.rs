@@ -55,6 +55,9 @@ fn days_of_some_seeds_show_no_difference() {
     assert_eq!(counts.asks_beside, counts.asks.iter().sum::<u64>());
     assert_eq!(counts.commits_beside, counts.commits[0]);
     assert!(counts.asks_broken > 500 && counts.asks_kept > 500 && counts.undone > 200);
+    let sums = counts.hourly_sums.iter().sum::<u64>();
+    assert!((23 * sums..=25 * sums).contains(&counts.hourly_summed) && counts.hourly_sums.iter().all(|&count| count > 20_000));
+    assert!(counts.hourly_readings > 20_000);
 }
 
 #[test]

@@ -132,6 +132,35 @@ impl Book {
         unsafe { inner::exposure(&self.bytes, operator, &mut bytes) }.ok()?;
         Ok(u64::from_le_bytes(bytes))
     }
+
+    /// The exposure of an operator in an hour, in thousandths of a cent; or 6. The figures of all hours sum to its exposure.
+    ///
+    /// ```
+    /// use energy_book::{Account, Book, Operator, Refusal, Request, Setup, Side, Terms};
+    ///
+    /// let setup = Setup {
+    ///     estimates: (1..=24).map(|hour| 1_000 * hour).collect(),
+    ///     operators: vec![Operator { guarantee: 1_000_000, maintenance: 0 }],
+    ///     accounts: vec![Account::same_all_day(1, 1, 20_000, 0, 24), Account::same_all_day(1, 2, 0, 20_000, 24)],
+    ///     points: vec![],
+    ///     zones: 1,
+    /// };
+    /// let mut book = Book::open(&setup.to_bytes())?;
+    /// let terms = Terms { code: 1, side: Side::Sells, first: 8, last: 9, quantity: 500 };
+    /// book.submit(&Request::register(1, 2, terms)).ok()?;
+    ///
+    /// assert_eq!(book.hourly_exposure(1, 8)?, 4_000_000);
+    /// assert_eq!(book.hourly_exposure(1, 9)?, 4_500_000);
+    /// let sum: u64 = (1..=24).map(|hour| book.hourly_exposure(1, hour)).sum::<Result<_, _>>()?;
+    /// assert_eq!(sum, book.exposure(1)?);
+    /// # Ok::<(), Refusal>(())
+    /// ```
+    pub fn hourly_exposure(&self, operator: u8, hour: u8) -> Result<u64, Refusal> {
+        let mut bytes = [0; FIGURE_SIZE];
+        // SAFETY: the bytes are a book.
+        unsafe { inner::hourly_exposure(&self.bytes, operator, hour, &mut bytes) }.ok()?;
+        Ok(u64::from_le_bytes(bytes))
+    }
 }
 
 impl fmt::Debug for Book {

@@ -27,6 +27,14 @@ mod library {
         ) -> u64;
         pub fn energy_book_exposure_in(book: *const u8, book_len: usize, operator: u8, figure: *mut u8, figure_len: usize)
             -> u64;
+        pub fn energy_book_hourly_exposure_in(
+            book: *const u8,
+            book_len: usize,
+            operator: u8,
+            hour: u8,
+            figure: *mut u8,
+            figure_len: usize,
+        ) -> u64;
     }
 }
 
@@ -71,5 +79,16 @@ pub unsafe fn exposure(book: &[u8; BOOK_SIZE], operator: u8, figure: &mut [u8]) 
     // SAFETY: as for `call`.
     Verdict::unpacked(unsafe {
         library::energy_book_exposure_in(book.as_ptr(), book.len(), operator, figure.as_mut_ptr(), figure.len())
+    })
+}
+
+/// As [`crate::raw::hourly_exposure`].
+///
+/// # Safety
+/// The bytes are a book.
+pub unsafe fn hourly_exposure(book: &[u8; BOOK_SIZE], operator: u8, hour: u8, figure: &mut [u8]) -> Verdict {
+    // SAFETY: as for `call`.
+    Verdict::unpacked(unsafe {
+        library::energy_book_hourly_exposure_in(book.as_ptr(), book.len(), operator, hour, figure.as_mut_ptr(), figure.len())
     })
 }

@@ -1,8 +1,9 @@
 //! The energy account book: one flow day of forward energy accounts in 49,152 bytes.
 //!
 //! Trades are registered by one party, alone or in strips, or asked for first and then committed, and confirmed by the other, guarantees
-//! cover exposure, batches may be kept or undone, and after the gate schedules are taken and the day is settled. The work is done by a
-//! library whose every function is proved; this crate hands it slices, and turns its answers into types.
+//! cover exposure, batches may be kept or undone, and after the gate schedules are taken and the day is settled. Net positions are read by
+//! account and hour, exposures by operator or by operator and hour, in every phase. The work is done by a library whose every function
+//! is proved; this crate hands it slices, and turns its answers into types.
 //!
 //! ```
 //! use energy_book::{Account, Book, Operator, Point, Refusal, Request, Setup, Side, Terms, Verdict};
@@ -26,6 +27,7 @@
 //! assert_eq!(book.net(1, 1)?, -18_000);
 //! assert_eq!(book.net(2, 1)?, 18_000);
 //! assert_eq!(book.exposure(1)?, 90_000_000);
+//! assert_eq!(book.hourly_exposure(1, 1)?, 90_000_000);
 //!
 //! // A kWh more would not be covered.
 //! let more = Terms { code: 8, quantity: 1, ..terms };
@@ -51,7 +53,7 @@ pub use verdict::{Refusal, Verdict};
 
 /// The bytes of a book.
 pub const BOOK_SIZE: usize = 49_152;
-/// The bytes of a figure: a net position, an exposure or a balance.
+/// The bytes of a figure: a net position, an exposure, an hourly exposure or a balance.
 pub const FIGURE_SIZE: usize = 8;
 /// The bytes of a request's fields.
 pub const FIELDS_SIZE: usize = 34;

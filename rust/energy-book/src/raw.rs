@@ -31,6 +31,14 @@ mod library {
             figure_len: usize,
         ) -> u64;
         pub fn energy_book_exposure(book: *const u8, book_len: usize, operator: u8, figure: *mut u8, figure_len: usize) -> u64;
+        pub fn energy_book_hourly_exposure(
+            book: *const u8,
+            book_len: usize,
+            operator: u8,
+            hour: u8,
+            figure: *mut u8,
+            figure_len: usize,
+        ) -> u64;
         pub fn energy_book_read(record: *const u8, record_len: usize, fields: *mut u8, fields_len: usize) -> u64;
         pub fn energy_book_write(fields: *const u8, fields_len: usize, record: *mut u8, record_len: usize) -> u64;
     }
@@ -81,6 +89,14 @@ pub fn exposure(book: &[u8], operator: u8, figure: &mut [u8]) -> Verdict {
     // SAFETY: the pointers and lengths are those of slices that live through the call.
     Verdict::unpacked(unsafe {
         library::energy_book_exposure(book.as_ptr(), book.len(), operator, figure.as_mut_ptr(), figure.len())
+    })
+}
+
+/// The exposure in thousandths of a cent of an operator in an hour, in the first 8 bytes; refuses by 1, 6 or 10.
+pub fn hourly_exposure(book: &[u8], operator: u8, hour: u8, figure: &mut [u8]) -> Verdict {
+    // SAFETY: the pointers and lengths are those of slices that live through the call.
+    Verdict::unpacked(unsafe {
+        library::energy_book_hourly_exposure(book.as_ptr(), book.len(), operator, hour, figure.as_mut_ptr(), figure.len())
     })
 }
 

@@ -35,6 +35,7 @@ fn books_of_every_length_near_the_right_one() {
         assert_eq!(raw::call(&[1, 0, 5], &mut book, &[], &mut [], &mut []), Verdict::Refused(Refusal::NotABook));
         assert_eq!(raw::net(&book, 1, 1, &mut figure), Verdict::Refused(Refusal::NotABook));
         assert_eq!(raw::exposure(&book, 1, &mut figure), Verdict::Refused(Refusal::NotABook));
+        assert_eq!(raw::hourly_exposure(&book, 1, 1, &mut figure), Verdict::Refused(Refusal::NotABook));
         assert!(!raw::is_book(&book));
         assert!(book.iter().chain(&figure).all(|byte| *byte == MARK));
     }
@@ -53,21 +54,47 @@ fn figures_into_buffers_of_every_length() {
     for length in 0..=2 * FIGURE_SIZE {
         let mut net = vec![MARK; length];
         let mut exposure = vec![MARK; length];
-        let verdicts = (raw::net(book.as_bytes(), 1, 1, &mut net), raw::exposure(book.as_bytes(), 1, &mut exposure));
+        let mut hourly = vec![MARK; length];
+        let verdicts = [
+            raw::net(book.as_bytes(), 1, 1, &mut net),
+            raw::exposure(book.as_bytes(), 1, &mut exposure),
+            raw::hourly_exposure(book.as_bytes(), 1, 1, &mut hourly),
+        ];
         if length < FIGURE_SIZE {
-            let short = Verdict::Refused(Refusal::BufferShort);
-            assert_eq!(verdicts, (short, short));
-            assert!(net.iter().chain(&exposure).all(|byte| *byte == MARK));
+            assert_eq!(verdicts, [Verdict::Refused(Refusal::BufferShort); 3]);
+            assert!(net.iter().chain(&exposure).chain(&hourly).all(|byte| *byte == MARK));
         } else {
-            assert_eq!(verdicts, (Verdict::Accepted { number: 0 }, Verdict::Accepted { number: 0 }));
+            assert_eq!(verdicts, [Verdict::Accepted { number: 0 }; 3]);
             assert_eq!(net[..FIGURE_SIZE], (-7i64).to_le_bytes());
             assert_eq!(exposure[..FIGURE_SIZE], (16 * 5_000u64).to_le_bytes());
-            assert!(net[FIGURE_SIZE..].iter().chain(&exposure[FIGURE_SIZE..]).all(|byte| *byte == MARK));
+            assert_eq!(hourly[..FIGURE_SIZE], (16 * 5_000u64).to_le_bytes());
+            let rest = net[FIGURE_SIZE..].iter().chain(&exposure[FIGURE_SIZE..]).chain(&hourly[FIGURE_SIZE..]);
+            assert!(rest.into_iter().all(|byte| *byte == MARK));
         }
     }
     // 1 and 6 come before 10.
     assert_eq!(raw::net(&[], 1, 1, &mut []), Verdict::Refused(Refusal::NotABook));
     assert_eq!(raw::exposure(book.as_bytes(), 3, &mut []), Verdict::Refused(Refusal::OutOfRange { bit: 9 }));
+    assert_eq!(raw::hourly_exposure(&[], 3, 25, &mut []), Verdict::Refused(Refusal::NotABook));
+    assert_eq!(raw::hourly_exposure(book.as_bytes(), 3, 25, &mut []), Verdict::Refused(Refusal::OutOfRange { bit: 5 }));
+    assert_eq!(raw::hourly_exposure(book.as_bytes(), 3, 24, &mut []), Verdict::Refused(Refusal::OutOfRange { bit: 9 }));
+}
+
+#[test]
+fn hourly_exposures_of_every_operator_and_hour() {
+    // Operator 1 has a short net of 7 and a pending sale of 9, both in hour 1.
+    let book = traded();
+    for operator in 0..=255 {
+        for hour in 0..=255 {
+            let expected = match (operator, hour) {
+                (_, 0 | 25..) => Err(Refusal::OutOfRange { bit: 5 }),
+                (0 | 3.., _) => Err(Refusal::OutOfRange { bit: 9 }),
+                (1, 1) => Ok(80_000),
+                _ => Ok(0),
+            };
+            assert_eq!(book.hourly_exposure(operator, hour), expected, "operator {operator}, hour {hour}");
+        }
+    }
 }
 
 #[test]
@@ -317,6 +344,7 @@ fn readings_from_several_threads() {
             scope.spawn(|| {
                 for _ in 0..200 {
                     assert_eq!((book.net(1, 1), book.net(2, 1), book.exposure(1)), (Ok(-7), Ok(7), Ok(80_000)));
+                    assert_eq!((book.hourly_exposure(1, 1), book.hourly_exposure(1, 2)), (Ok(80_000), Ok(0)));
                 }
             });
         }

@@ -84,7 +84,7 @@ fn declared_in_c() -> Declared {
 #[test]
 fn declarations_are_those_of_the_exported_functions() {
     let exported = exported("crates/abi/src/exports.rt");
-    assert_eq!(exported.len(), 7);
+    assert_eq!(exported.len(), 8);
     assert_eq!(declared_in_rust("rust/energy-book/src/raw.rs"), exported);
     assert_eq!(declared_in_c(), exported);
 }
@@ -92,7 +92,7 @@ fn declarations_are_those_of_the_exported_functions() {
 #[test]
 fn inner_declarations_are_those_of_the_exported_functions() {
     let exported = exported("crates/abi_inner/src/exports.rt");
-    assert_eq!(exported.len(), 3);
+    assert_eq!(exported.len(), 4);
     assert_eq!(declared_in_rust("rust/energy-book/src/inner.rs"), exported);
 }
 

@@ -3,7 +3,7 @@
 mod common;
 
 use common::{sale, setup};
-use energy_book::{price_table, Book, Refusal, Request, Setup, Side, Terms, Verdict};
+use energy_book::{price_table, Account, Book, Refusal, Request, Setup, Side, Terms, Verdict};
 
 const AMPLE: u64 = 1_000_000;
 
@@ -21,6 +21,13 @@ fn prices(pun: u32, zone: u32) -> Vec<u8> {
     price_table(&in_hour_1(pun), &[&in_hour_1(zone)])
 }
 
+/// The exposures of an operator in the hours in which they are not 0; those of all hours sum to its exposure.
+fn exposed_hours(book: &Book, operator: u8) -> Vec<(u8, u64)> {
+    let hours: Vec<(u8, u64)> = (1..=24).map(|hour| (hour, book.hourly_exposure(operator, hour).unwrap())).collect();
+    assert_eq!(Ok(hours.iter().map(|(_, exposure)| exposure).sum()), book.exposure(operator));
+    hours.into_iter().filter(|(_, exposure)| *exposure != 0).collect()
+}
+
 #[test]
 fn whole_case() {
     let mut book = book(100_000);
@@ -28,9 +35,11 @@ fn whole_case() {
     assert_eq!(book.submit(&Request::register(1, 2, terms)), accepted(1));
     assert_eq!((book.net(1, 1), book.net(2, 1)), (Ok(0), Ok(0)));
     assert_eq!(book.exposure(1), Ok(90_000_000));
+    assert_eq!(exposed_hours(&book, 1), [(1, 90_000_000)]);
     assert_eq!(book.submit(&Request::confirm(2, 1, terms.mirrored())), accepted(1));
     assert_eq!((book.net(1, 1), book.net(2, 1)), (Ok(-18_000), Ok(18_000)));
     assert_eq!((book.exposure(1), book.exposure(2)), (Ok(90_000_000), Ok(0)));
+    assert_eq!((exposed_hours(&book, 1), exposed_hours(&book, 2)), (vec![(1, 90_000_000)], vec![]));
     assert_eq!(book.submit(&Request::close_gate()), accepted(0));
     assert_eq!(book.submit(&Request::schedule(1, Side::Sells, 1, 15_000, 3_000)), accepted(1));
     let settlement = book.settle(&prices(6_000, 5_500)).unwrap();
@@ -38,6 +47,39 @@ fn whole_case() {
     assert_eq!(settlement.balances, [-25_500_000, 108_000_000]);
     assert_eq!(settlement.balances.iter().sum::<i64>(), 82_500_000);
     assert_eq!(book.settle(&prices(6_000, 5_500)), Err(Refusal::WrongPhase));
+    assert_eq!(exposed_hours(&book, 1), [(1, 90_000_000)]);
+}
+
+#[test]
+fn exposure_by_hour() {
+    // Operator 1 has accounts 1 and 3, which may sell and buy; the estimate of hour h is h times 1,000.
+    let mut setup = setup(AMPLE);
+    setup.estimates = (1..=24).map(|hour| 1_000 * hour).collect();
+    setup.accounts[0] = Account::same_all_day(1, 1, 20_000, 20_000, 24);
+    setup.accounts.push(Account::same_all_day(1, 2, 20_000, 20_000, 24));
+    let mut book = Book::open(&setup.to_bytes()).unwrap();
+    let sale = |first, last, quantity| Terms { first, last, ..sale(0, quantity) };
+
+    // What account 3 is long by this does not ease account 1.
+    assert_eq!(book.submit(&Request::register(1, 3, sale(1, 3, 100))), accepted(1));
+    assert_eq!(book.submit(&Request::confirm(3, 1, sale(1, 3, 100).mirrored())), accepted(1));
+    assert_eq!(exposed_hours(&book, 1), [(1, 100_000), (2, 200_000), (3, 300_000)]);
+
+    // A pending sale of account 3 counts in full, also in hour 3, where it is long; confirmed, it counts where it is short.
+    assert_eq!(book.submit(&Request::register(3, 2, sale(3, 4, 30))), accepted(2));
+    assert_eq!(exposed_hours(&book, 1), [(1, 100_000), (2, 200_000), (3, 390_000), (4, 120_000)]);
+    assert_eq!(book.submit(&Request::confirm(2, 3, sale(3, 4, 30).mirrored())), accepted(2));
+    assert_eq!(exposed_hours(&book, 1), [(1, 100_000), (2, 200_000), (3, 300_000), (4, 120_000)]);
+
+    // A pending row counts for its proposer alone, and a pending purchase not at all.
+    assert_eq!(book.submit(&Request::register(1, 2, sale(24, 24, 5))), accepted(3));
+    assert_eq!(book.submit(&Request::register(1, 3, sale(1, 24, 7).mirrored())), accepted(4));
+    assert_eq!(exposed_hours(&book, 1), [(1, 100_000), (2, 200_000), (3, 300_000), (4, 120_000), (24, 120_000)]);
+    assert_eq!(exposed_hours(&book, 2), []);
+
+    // The gate withdraws what is pending.
+    assert_eq!(book.submit(&Request::close_gate()), accepted(0));
+    assert_eq!(exposed_hours(&book, 1), [(1, 100_000), (2, 200_000), (3, 300_000), (4, 120_000)]);
 }
 
 #[test]
@@ -86,6 +128,9 @@ fn fields_out_of_range() {
     assert_eq!(book.net(3, 1), Err(Refusal::OutOfRange { bit: 1 }));
     assert_eq!(book.net(1, 24), Err(Refusal::OutOfRange { bit: 5 }));
     assert_eq!(book.exposure(0), Err(Refusal::OutOfRange { bit: 9 }));
+    assert_eq!(book.hourly_exposure(1, 24), Err(Refusal::OutOfRange { bit: 5 }));
+    assert_eq!(book.hourly_exposure(3, 23), Err(Refusal::OutOfRange { bit: 9 }));
+    assert_eq!(book.hourly_exposure(3, 24), Err(Refusal::OutOfRange { bit: 5 }));
 }
 
 #[test]
