@@ -4,6 +4,7 @@ use bytes::copy;
 use check::same;
 use day::calls::call;
 use day::interface::exposure;
+use day::interface::hourly_exposure;
 use day::interface::net;
 use day::interface::open;
 use rules::Numbers;
@@ -13,6 +14,7 @@ use test_lines::begin;
 use test_lines::bytes;
 use test_lines::end;
 use test_lines::exposure_line;
+use test_lines::hourly_exposure_line;
 use test_lines::net_line;
 use test_lines::number;
 use test_lines::verdict;
@@ -155,6 +157,24 @@ fn show_exposure(body: &[u8], book: &[u8]) {
     exposure_line(body[0], exposure(book, body[0]));
 }
 
+// The exposures of an operator in the hours from `first` to `last`.
+fn show_hourly(book: &[u8], operator: u8, first: u8, last: u8) {
+    let mut hour = first as u16;
+    while hour <= last as u16 {
+        let number = hour as u8;
+        hourly_exposure_line(operator, number, hourly_exposure(book, operator, number));
+        hour = hour + 1;
+    }
+}
+
+// An operator, and the first and the last hour.
+fn show_by_hour(body: &[u8], book: &[u8]) {
+    if body.len() < 3 {
+        return;
+    }
+    show_hourly(book, body[0], body[1], body[2]);
+}
+
 // Whether the book's bytes are those remembered.
 fn show_same(book: &[u8], remembered: &[u8]) {
     begin(b'=');
@@ -185,6 +205,7 @@ pub fn run(tag: u8, body: &[u8], book: &mut [u8], remembered: &mut [u8], before:
         b'c' => show_call(body, book, before),
         b'a' => show_net(body, book),
         b'e' => show_exposure(body, book),
+        b'i' => show_by_hour(body, book),
         b'k' => remember(book, remembered),
         b'h' => show_hours(body, book),
         b'=' => show_same(book, remembered),

@@ -116,10 +116,8 @@ pub fn net_line(account: u8, hour: u8, reading: NetReading) {
     end();
 }
 
-// The line of an exposure that was read.
-pub fn exposure_line(operator: u8, reading: ExposureReading) {
-    begin(b'e');
-    small(operator);
+// What is left of the line of an exposure that was read.
+fn exposure_rest(reading: ExposureReading) {
     match reading {
         ExposureReading::Unread(r) => verdict(refusal_numbers(r)),
         ExposureReading::Read(m) => {
@@ -128,6 +126,21 @@ pub fn exposure_line(operator: u8, reading: ExposureReading) {
         }
     }
     end();
+}
+
+// The line of an exposure that was read.
+pub fn exposure_line(operator: u8, reading: ExposureReading) {
+    begin(b'e');
+    small(operator);
+    exposure_rest(reading);
+}
+
+// The line of an exposure in an hour that was read.
+pub fn hourly_exposure_line(operator: u8, hour: u8, reading: ExposureReading) {
+    begin(b'i');
+    small(operator);
+    small(hour);
+    exposure_rest(reading);
 }
 
 // The line of an account hour: physical balance, purchase, sale, CCT and hourly amount.
