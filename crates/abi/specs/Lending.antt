@@ -10,10 +10,12 @@ use lib.IntN.{ℤ}
 use Rattle.wire.specs.Numbers.{le, signed}
 use Rattle.units.specs.declared.MilliCents.{MilliCents}
 use Rattle.rules.specs.declared.Outcome.{Outcome}
+use Rattle.rules.specs.declared.ExposureReading.{ExposureReading}
 use Rattle.rules.specs.declared.Refusal.{Refusal}
 use Rattle.rules.specs.declared.Refusal.the-variants.{BufferShort}
 use Rattle.rules.specs.Verdicts.{Numbers, ReadOut, numbers, firstToApply, outcomeOf, _⇒_}
 use Rattle.rules.specs.Requests.{filled, unlessRefused}
+use Rattle.rules.specs.Readings.{exposureReadOut}
 use Rattle.abi.specs.Packing.{Packs}
 
 -- ---- bytes put into a buffer
@@ -49,3 +51,7 @@ netBytes z = signed 8 z
 -- an exposure: 8 bytes
 abbrev pub exposureBytes : MilliCents → List ℕ
 exposureBytes m = le 8 (m .0)
+
+-- a reading of exposure, over the day or in one hour, that is given so
+abbrev pub LendsExposure : ExposureReading → List ℕ → ℕ → List ℕ → Type 0
+LendsExposure x buffer r left = Lends exposureBytes (exposureReadOut x) buffer r left

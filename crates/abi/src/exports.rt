@@ -3,12 +3,12 @@ ghost use mathlib.Core.Path.{_≡_};
 ghost use Rattle.rules.specs.Verdicts.{numbers};
 ghost use Rattle.rules.specs.Opening.{openOutcome};
 ghost use Rattle.rules.specs.Requests.{reading, requestReadOut};
-ghost use Rattle.rules.specs.Readings.{netReadOut, exposureReadOut};
+ghost use Rattle.rules.specs.Readings.{netReadOut};
 ghost use Rattle.image.specs.Valid.{isBook};
 ghost use Rattle.book.specs.Answers.{openBytes, netAnswer, exposureAnswer, hourlyExposureAnswer};
 ghost use Rattle.day.specs.Answers.{callOn};
 ghost use Rattle.abi.specs.Packing.{Packs, GivesPacked};
-ghost use Rattle.abi.specs.Lending.{Lends, netBytes, exposureBytes};
+ghost use Rattle.abi.specs.Lending.{Lends, LendsExposure, netBytes};
 ghost use Rattle.abi.specs.Fields.{requestBytes, fieldsOutcome, fieldsWritten};
 use crate::fields::FIELDS_SIZE;
 use crate::fields::request_in;
@@ -65,7 +65,7 @@ pub extern "C" fn energy_book_net(book: &[u8], account: u8, hour: u8, figure: &m
 // The exposure of an operator, in the first 8 bytes of the buffer.
 #[no_mangle]
 pub extern "C" fn energy_book_exposure(book: &[u8], operator: u8, figure: &mut [u8]) -> u64
-    ensures { λ r. ⌜ Lends exposureBytes (exposureReadOut (exposureAnswer (now (book .entry)) operator)) (now (figure .entry)) r (now (figure .exit)) ⌝ }
+    ensures { λ r. ⌜ LendsExposure (exposureAnswer (now (book .entry)) operator) (now (figure .entry)) r (now (figure .exit)) ⌝ }
 {
     let reading = day::interface::exposure(book, operator);
     pack(lend_exposure(reading, figure))
@@ -79,7 +79,7 @@ pub extern "C" fn energy_book_hourly_exposure(
     hour: u8,
     figure: &mut [u8],
 ) -> u64
-    ensures { λ r. ⌜ Lends exposureBytes (exposureReadOut (hourlyExposureAnswer (now (book .entry)) operator hour)) (now (figure .entry)) r (now (figure .exit)) ⌝ }
+    ensures { λ r. ⌜ LendsExposure (hourlyExposureAnswer (now (book .entry)) operator hour) (now (figure .entry)) r (now (figure .exit)) ⌝ }
 {
     let reading = day::interface::hourly_exposure(book, operator, hour);
     pack(lend_exposure(reading, figure))

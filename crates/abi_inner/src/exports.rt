@@ -3,11 +3,11 @@
 // changed by calls only, is a book. On other bytes nothing is promised.
 ghost use mathlib.Core.Path.{_≡_};
 ghost use mathlib.Core.Bool.{true};
-ghost use Rattle.rules.specs.Readings.{netReading, netReadOut, exposureReading, hourlyExposureReading, exposureReadOut};
+ghost use Rattle.rules.specs.Readings.{netReading, netReadOut, exposureReading, hourlyExposureReading};
 ghost use Rattle.image.specs.Valid.{isBook, bookIn};
 ghost use Rattle.day.specs.Answers.{callOn};
 ghost use Rattle.abi.specs.Packing.{GivesPacked};
-ghost use Rattle.abi.specs.Lending.{Lends, netBytes, exposureBytes};
+ghost use Rattle.abi.specs.Lending.{Lends, LendsExposure, netBytes};
 use abi::lending::lend_exposure;
 use abi::lending::lend_net;
 use abi::packing::pack;
@@ -44,7 +44,7 @@ pub extern "C" fn energy_book_net_in(book: &[u8], account: u8, hour: u8, figure:
 #[no_mangle]
 pub extern "C" fn energy_book_exposure_in(book: &[u8], operator: u8, figure: &mut [u8]) -> u64
     requires { ⌜ isBook (now book) ≡ true ⌝ }
-    ensures { λ r. ⌜ Lends exposureBytes (exposureReadOut (exposureReading (bookIn (now (book .entry))) operator)) (now (figure .entry)) r (now (figure .exit)) ⌝ }
+    ensures { λ r. ⌜ LendsExposure (exposureReading (bookIn (now (book .entry))) operator) (now (figure .entry)) r (now (figure .exit)) ⌝ }
 {
     let reading = day::interface::exposure_in(book, operator);
     pack(lend_exposure(reading, figure))
@@ -59,7 +59,7 @@ pub extern "C" fn energy_book_hourly_exposure_in(
     figure: &mut [u8],
 ) -> u64
     requires { ⌜ isBook (now book) ≡ true ⌝ }
-    ensures { λ r. ⌜ Lends exposureBytes (exposureReadOut (hourlyExposureReading (bookIn (now (book .entry))) operator hour)) (now (figure .entry)) r (now (figure .exit)) ⌝ }
+    ensures { λ r. ⌜ LendsExposure (hourlyExposureReading (bookIn (now (book .entry))) operator hour) (now (figure .entry)) r (now (figure .exit)) ⌝ }
 {
     let reading = day::interface::hourly_exposure_in(book, operator, hour);
     pack(lend_exposure(reading, figure))

@@ -19,5 +19,7 @@ pub mod Refusals
 pub mod StripLaws
 -- AskLaws: an ask is answered as the register of its fields.
 pub mod AskLaws
+-- HourlyLaws: what the readings by hour give adds up to what the reading of exposure gives.
+pub mod HourlyLaws
 -- Theorem: demand 3 whole, and that no call of such a list answers 1.
 pub mod Theorem

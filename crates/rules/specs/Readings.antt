@@ -73,3 +73,8 @@ hourlyExposureReading b o h =
 abbrev pub exposureReadOut : ExposureReading → ReadOut MilliCents
 exposureReadOut (ExposureReading.Read m) = readOut m
 exposureReadOut (ExposureReading.Unread r) = notRead r
+
+-- the money that was read, nothing where a reading was refused
+abbrev pub moneyRead : ExposureReading → ℕ
+moneyRead (ExposureReading.Read m) = m .0
+moneyRead (ExposureReading.Unread r) = 0

@@ -61,10 +61,11 @@ module _ (u : Setup) (prices : ℕ → CentsPerMwh) (holds : ℕ → ℕ → Acc
       → total (total amountOf) groups ≡ exposureOf u prices holds o
   any-groups groups p = sym (total-flat amountOf (λ group. group) groups) ∙ any-arrangement (flatMap (λ group. group) groups) p
 
-  -- and so the exposures by hour, in any order of the hours
+  -- the exposures of all hours
+  pub hours-total : total (hourlyExposureOf u prices holds o) (upTo (periods u)) ≡ exposureOf u prices holds o
+  hours-total = total-cong _ _ (upTo (periods u)) hour-amounts ∙ sym amounts-by-hour ∙ all-amounts
+
+  -- and in any order of the hours
   pub hours-in-any-order : (hours : List ℕ) → Perm (upTo (periods u)) hours → total (hourlyExposureOf u prices holds o) hours ≡ exposureOf u prices holds o
   hours-in-any-order hours p =
-      sym (total-rearranged (hourlyExposureOf u prices holds o) p)
-      ∙ total-cong _ _ (upTo (periods u)) hour-amounts
-      ∙ sym amounts-by-hour
-      ∙ all-amounts
+      sym (total-rearranged (hourlyExposureOf u prices holds o) p) ∙ hours-total
