@@ -1,79 +1,59 @@
 -- The exposure of an operator in one hour: the sum of what lies below zero of its accounts' net positions, and of what each row offers as a
 -- pending sale, at the hour's price.
-use Prim.Native.Nat.{ℕ, _+_, _*_, _≤_}
+use Prim.Native.Nat.{ℕ, _+_, _*_}
 use mathlib.Core.Path.{_≡_, refl, sym, ap, _∙_}
-use mathlib.Core.List.{List, [], _∷_}
+use mathlib.Core.List.{List}
 use mathlib.Core.Bool.{Bool, true, false, _&&_}
 use native.Mathlib.Nat.{mul-comm}
 use native.Mathlib.Omega.{arith}
 use lib.Dec.{eqb}
-use borrow.Author.Tests.{eqb-true, eq-eqb, ne-eqb}
+use borrow.Author.Tests.{eq-eqb, ne-eqb}
 use Rattle.units.specs.declared.CentsPerMwh.{CentsPerMwh}
 use Rattle.rules.specs.declared.Row.{Row}
-use Rattle.rules.specs.Basics.{if_then_else_, total, counting, upTo, Each, nil, cons}
-use Rattle.rules.specs.Limits.{mostEnergy}
+use Rattle.rules.specs.Basics.{if_then_else_, total, counting, Each, nil, cons}
 use Rattle.rules.specs.Books.{Setup, estimateAt, operatorOf, accountCount}
-use Rattle.rules.specs.Registration.{pending, includesHour, counted, pendingOf, waiting, bought, sold, netOf, pendingSales, accountHour, exposed, ofOperator, hourlyExposureOf, hourlyExposure}
-use Rattle.rules.proofs.Basics.Totals.{where-add, total-zero, total-add, total-cong}
+use Rattle.rules.specs.Registration.{pending, includesHour, counted, pendingOf, waiting, netOf, pendingSales, accountHour, exposed, ofOperator, hourlyExposureOf, hourlyExposure}
 use Rattle.rules.proofs.Basics.Searches.{each-map}
+use Rattle.rules.proofs.Rows.Operators.{operator-cong, operator-add, operator-none, operator-one}
 use Rattle.image.specs.Valid.{isSound, bookIn}
 use Rattle.book.specs.Worth.{shortOf}
 use Rattle.book.specs.Hourly.{shortInHour, shortsInHour, saleInHour}
 use Rattle.book.proofs.StateLaws.{book-is-sound}
-use Rattle.book.proofs.WorthLaws.{idle, shared-known}
+use Rattle.book.proofs.WorthLaws.{Known}
 
--- what falls to one account, where x holds; w and y both test whether that account is the operator's
-of-account : (q : ℕ) (t c x e w y : Bool) → (x ≡ true → w ≡ y)
-    → (if w then (if t && c && x && e then q else 0) else 0) ≡ (if t && (c && e) && y && x then q else 0)
-of-account q false c x e w y h = idle w
-of-account q true false x e w y h = idle w
-of-account q true true x false w y h = go x
-  where
-    go : (x : Bool) → _≡_ {A = ℕ} (if w then (if x && false then q else 0) else 0) 0
-    go true = idle w
-    go false = idle w
-of-account q true true false true w true h = idle w
-of-account q true true false true w false h = idle w
-of-account q true true true true w true h = rw (h refl)
-of-account q true true true true w false h = rw (h refl)
+-- the tests of a pending sale, that of the account last
+account-last : (t c x e : Bool) → t && c && x && e ≡ t && (c && e) && x
+account-last false c x e = refl
+account-last true false x e = refl
+account-last true true true true = refl
+account-last true true true false = refl
+account-last true true false true = refl
+account-last true true false false = refl
 
 module _ (u : Setup) (o h : ℕ) where
   -- what a row offers, over the operator's accounts
-  sale-over-accounts : (r : Row) → (pending r ≡ true → (1 ≤ r .proposer) × (r .proposer ≤ accountCount u))
-      → ofOperator u (λ a. counted (pendingOf 1 a h) r) o ≡ saleInHour u o h r
-  unfolding ofOperator saleInHour
+  sale-over-accounts : (r : Row) → Known u o r → ofOperator u (λ a. counted (pendingOf 1 a h) r) o ≡ saleInHour u o h r
+  unfolding saleInHour
   sale-over-accounts r known =
-      let own = eqb (operatorOf u (r .proposer)) o in
-      total-cong _ _ (upTo (accountCount u)) (λ a.
-      of-account (r .quantity .0) (pending r) (includesHour h r) (eqb (r .proposer) a) (eqb (r .side) 1) (eqb (operatorOf u a) o) own
-      (λ e. ap (λ (x : ℕ). eqb (operatorOf u x) o) (sym (eqb-true (r .proposer) a e))))
-      ∙ shared-known (accountCount u) (r .proposer) (r .quantity .0) (pending r) (includesHour h r && eqb (r .side) 1) own known
-
-  over-add : (f g : ℕ → ℕ) → ofOperator u (λ a. f a + g a) o ≡ ofOperator u f o + ofOperator u g o
-  unfolding ofOperator
-  over-add f g =
-      total-cong _ _ (upTo (accountCount u)) (λ a. where-add (eqb (operatorOf u a) o) (f a) (g a))
-      ∙ total-add _ _ (upTo (accountCount u))
-
-  over-none : ofOperator u (λ a. 0) o ≡ 0
-  unfolding ofOperator
-  over-none = total-cong _ (λ a. 0) (upTo (accountCount u)) (λ a. idle (eqb (operatorOf u a) o)) ∙ total-zero (upTo (accountCount u))
+      operator-cong u o _ _ (λ a.
+      ap (λ (t : Bool). if t then r .quantity .0 else 0) (account-last (pending r) (includesHour h r) (eqb (r .proposer) a) (eqb (r .side) 1)))
+      ∙ operator-one u o (r .proposer) (r .quantity .0) (pending r) (includesHour h r && eqb (r .side) 1) known
 
   -- what all rows offer
-  sales-over-accounts : {rows : List Row} → Each (λ r. pending r ≡ true → (1 ≤ r .proposer) × (r .proposer ≤ accountCount u)) rows
+  sales-over-accounts : {rows : List Row} → Each (Known u o) rows
       → ofOperator u (λ a. pendingSales rows a h) o ≡ total (saleInHour u o h) rows
   unfolding waiting total
-  sales-over-accounts nil = over-none
+  sales-over-accounts nil = operator-none u o
   sales-over-accounts (cons {x = r} {xs = rows} known e) =
-      over-add (λ a. counted (pendingOf 1 a h) r) (λ a. pendingSales rows a h)
+      operator-add u o (λ a. counted (pendingOf 1 a h) r) (λ a. pendingSales rows a h)
       ∙ omega (arith, sale-over-accounts r known, sales-over-accounts e)
 
   -- the hour's sum
-  sum-of-hour : {rows : List Row} → Each (λ r. pending r ≡ true → (1 ≤ r .proposer) × (r .proposer ≤ accountCount u)) rows
+  sum-of-hour : {rows : List Row} → Each (Known u o) rows
       → ofOperator u (λ a. exposed (accountHour rows a h)) o ≡ shortsInHour u rows o h + total (saleInHour u o h) rows
   unfolding shortsInHour
   sum-of-hour {rows} known =
-      over-add (λ a. shortOf (netOf rows a h)) (λ a. pendingSales rows a h)
+      operator-add u o (λ a. shortOf (netOf rows a h)) (λ a. pendingSales rows a h)
       ∙ ap (λ (n : ℕ). ofOperator u (λ a. shortOf (netOf rows a h)) o + n) (sales-over-accounts known)
 
 -- ---- what code works out
@@ -124,7 +104,7 @@ pub hour-joined : (s : List ℕ) → isSound s ≡ true → (o h below waits sum
 unfolding hourlyExposureOf
 hour-joined s k o h below waits sum m price e d f g t =
     let u = bookIn s .setup in
-    let known : Each (λ r. pending r ≡ true → (1 ≤ r .proposer) × (r .proposer ≤ accountCount u)) (bookIn s .part .rows) =
+    let known : Each (Known u o) (bookIn s .part .rows) =
     each-map (λ r w p. (w .proposer-low, w .proposer-high)) (book-is-sound s k .part-sound .rows-sound) in
     t
     ∙ mul-comm sum (price .0)

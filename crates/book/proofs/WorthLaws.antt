@@ -8,23 +8,18 @@ use native.Mathlib.Nat.{mul-zero, zero-mul, mul-comm, mul-add}
 use native.Mathlib.Omega.{arith}
 use lib.ListN.{length}
 use lib.Dec.{eqb}
-use borrow.Author.Tests.{eqb-true}
 use Rattle.rules.specs.declared.Row.{Row}
 use Rattle.rules.specs.declared.Net.{Net}
 use Rattle.rules.specs.Basics.{if_then_else_, total, nth, upTo, Each, nil, cons}
-use Rattle.rules.specs.Books.{Setup, noRow, estimateAt, operatorOf, accountCount, periods}
+use Rattle.rules.specs.Books.{Setup, noRow, estimateAt, accountCount, periods}
 use Rattle.rules.specs.Registration.{pending, includesHour, buyer, seller, counted, waiting, withStatus, mark, bought, sold, netOf, pendingSales, accountHour, afterTrade, exposed, ofOperator, exposureOf, exposure, exposureWith}
-use Rattle.rules.proofs.Basics.Totals.{where-add, total-zero, total-append, total-add, total-times, total-cong, shared}
+use Rattle.rules.proofs.Basics.Totals.{total-zero, total-append, total-add, total-times, total-cong}
 use Rattle.rules.proofs.Basics.Searches.{each-append}
+use Rattle.rules.proofs.Rows.Operators.{operator-cong, operator-add, operator-none, operator-one}
 use Rattle.rules.proofs.Rows.AccountHours.{moved-confirm, waiting-end, hour-takes-all, exposure-added, pending-move-nothing}
 use Rattle.book.specs.Worth.{netWith, shortWorth, accountShort, spanPrice, saleWorth}
 
 -- ---- tests
-
--- nothing, whether or not it counts
-pub idle : (t : Bool) → _≡_ {A = ℕ} (if t then 0 else 0) 0
-idle true = refl
-idle false = refl
 
 -- the quantity of a pending sale in an hour, at the hour's price
 at-price : (price q : ℕ) (t c e d : Bool) → price * (if t && c && e && d then q else 0) ≡ (if t && d && e then (if c then price else 0) * q else 0)
@@ -38,51 +33,30 @@ at-price price q true false false true = mul-zero price
 at-price price q true true false false = mul-zero price
 at-price price q true false false false = mul-zero price
 
--- a value that falls to one account, where x holds; w and y both test whether that account is the operator's
-of-one : (v : ℕ) (t d x w y : Bool) → (x ≡ true → w ≡ y) → (if w then (if t && d && x then v else 0) else 0) ≡ (if t && d && y && x then v else 0)
-of-one v false d x w y h = idle w
-of-one v true false x w y h = idle w
-of-one v true true false w true h = idle w
-of-one v true true false w false h = idle w
-of-one v true true true w true h = rw (h refl)
-of-one v true true true w false h = rw (h refl)
-
--- a value that falls to one of the numbers 1 to n where all tests hold; that the number is one of them is known where the first test holds
-pub shared-known : (n x q : ℕ) (t d y : Bool) → (t ≡ true → (1 ≤ x) × (x ≤ n)) → total (λ a. if t && d && y && eqb x a then q else 0) (upTo n) ≡ (if t && d && y then q else 0)
-shared-known n x q true d y k = shared n x q (d && y) (k refl .0) (k refl .1)
-shared-known n x q false d y k = total-zero (upTo n)
-
 -- ---- amounts of energy by account and hour, at estimated prices
 
 module _ (u : Setup) (o : ℕ) where
   unfoldable worthOf : (ℕ → ℕ → ℕ) → ℕ
   worthOf f = ofOperator u (λ a. total (λ h. estimateAt u h .0 * f a h) (upTo (periods u))) o
 
-  where-cong : (t : Bool) (x y : ℕ) → x ≡ y → (if t then x else 0) ≡ (if t then y else 0)
-  where-cong t x y e = rw e
-
   worth-cong : (f g : ℕ → ℕ → ℕ) → ((a h : ℕ) → f a h ≡ g a h) → worthOf f ≡ worthOf g
-  unfolding worthOf ofOperator
+  unfolding worthOf
   worth-cong f g e =
-      total-cong _ _ (upTo (accountCount u)) (λ a.
-      where-cong (eqb (operatorOf u a) o) _ _ (total-cong _ _ (upTo (periods u)) (λ h. ap (λ (x : ℕ). estimateAt u h .0 * x) (e a h))))
+      operator-cong u o _ _ (λ a. total-cong _ _ (upTo (periods u)) (λ h. ap (λ (x : ℕ). estimateAt u h .0 * x) (e a h)))
 
   worth-add : (f g : ℕ → ℕ → ℕ) → worthOf (λ a h. f a h + g a h) ≡ worthOf f + worthOf g
-  unfolding worthOf ofOperator
+  unfolding worthOf
   worth-add f g =
-      total-cong _ _ (upTo (accountCount u)) (λ a.
-      where-cong (eqb (operatorOf u a) o) _ _
-      (total-cong _ _ (upTo (periods u)) (λ h. mul-add (estimateAt u h .0) (f a h) (g a h)) ∙ total-add _ _ (upTo (periods u)))
-      ∙ where-add (eqb (operatorOf u a) o) _ _)
-      ∙ total-add _ _ (upTo (accountCount u))
+      operator-cong u o _ _ (λ a.
+      total-cong _ _ (upTo (periods u)) (λ h. mul-add (estimateAt u h .0) (f a h) (g a h)) ∙ total-add _ _ (upTo (periods u)))
+      ∙ operator-add u o _ _
 
   worth-none : worthOf (λ a h. 0) ≡ 0
-  unfolding worthOf ofOperator
+  unfolding worthOf
   worth-none =
-      total-cong _ (λ a. 0) (upTo (accountCount u)) (λ a.
-      where-cong (eqb (operatorOf u a) o) _ _ (total-cong _ (λ h. 0) (upTo (periods u)) (λ h. mul-zero (estimateAt u h .0)) ∙ total-zero (upTo (periods u)))
-      ∙ idle (eqb (operatorOf u a) o))
-      ∙ total-zero (upTo (accountCount u))
+      operator-cong u o _ (λ a. 0) (λ a.
+      total-cong _ (λ h. 0) (upTo (periods u)) (λ h. mul-zero (estimateAt u h .0)) ∙ total-zero (upTo (periods u)))
+      ∙ operator-none u o
 
   -- ---- pending sales
 
@@ -106,16 +80,13 @@ module _ (u : Setup) (o : ℕ) where
 
   -- its sum over the operator's accounts is what the row adds to the exposure
   sale-worth : (r : Row) → (pending r ≡ true → (1 ≤ r .proposer) × (r .proposer ≤ accountCount u)) → worthOf (saleShare r) ≡ saleWorth u o r
-  unfolding worthOf ofOperator saleWorth
+  unfolding worthOf saleWorth
   sale-worth r known =
-      total-cong _ _ (upTo (accountCount u)) (λ a.
-      where-cong (eqb (operatorOf u a) o) _ _ (account-sale r a)
-      ∙ of-one (r .quantity .0 * spanPrice u r) (pending r) (eqb (r .side) 1) (eqb (r .proposer) a) (eqb (operatorOf u a) o) (eqb (operatorOf u (r .proposer)) o)
-      (λ e. ap (λ (x : ℕ). eqb (operatorOf u x) o) (sym (eqb-true (r .proposer) a e))))
-      ∙ shared-known (accountCount u) (r .proposer) (r .quantity .0 * spanPrice u r) (pending r) (eqb (r .side) 1) (eqb (operatorOf u (r .proposer)) o) known
+      operator-cong u o _ _ (account-sale r)
+      ∙ operator-one u o (r .proposer) (r .quantity .0 * spanPrice u r) (pending r) (eqb (r .side) 1) known
 
   -- where it is pending, a row's proposer is an account of the set-up
-  abbrev Known : Row → Type 0
+  abbrev pub Known : Row → Type 0
   Known r = pending r ≡ true → (1 ≤ r .proposer) × (r .proposer ≤ accountCount u)
 
   -- the pending sales of rows are the sum of what each row adds

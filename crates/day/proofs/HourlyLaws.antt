@@ -1,5 +1,5 @@
 -- What the readings by hour give, added in any order of the hours, is what the reading of exposure gives: on all bytes, of every operator.
-use Prim.Native.Nat.{ℕ, _≤_}
+use Prim.Native.Nat.{ℕ}
 use mathlib.Core.Path.{_≡_, refl, sym, _∙_}
 use mathlib.Core.List.{List, Perm}
 use mathlib.Core.Bool.{Bool, true, false}

@@ -7,6 +7,8 @@ pub mod Balanced
 pub mod AccountHours
 -- Easing: what eases an account hour keeps its margins and its cover.
 pub mod Easing
+-- Operators: sums over an operator's accounts.
+pub mod Operators
 -- Arrangement: an operator's exposure as the sum of its account hours' amounts, in any order and in any groups, and hour by hour.
 pub mod Arrangement
 -- RowTests: what the tests on rows say, and the rows that an accepted confirm and withdraw name.

@@ -1,14 +1,14 @@
 -- Exposure read by hour: what each hour of an operator comes to, and that its hours come to its exposure.
 use Prim.Native.Nat.{ℕ, _*_}
 use mathlib.Core.Path.{_≡_, refl}
-use mathlib.Core.List.{List, [], _∷_, _++_, map}
+use mathlib.Core.List.{List, [], _∷_, map}
 use mathlib.Core.Option.{none}
 use lib.ListN.{replicate}
 use Rattle.units.specs.declared.MilliCents.{MilliCents}
 use Rattle.units.specs.Units.{cents, centsPerMwh, milliCents}
 use Rattle.rules.specs.Basics.{upTo}
 use Rattle.rules.specs.Verdicts.{ReadOut, readOut}
-use Rattle.rules.specs.Books.{Book, Setup, periods}
+use Rattle.rules.specs.Books.{Book, periods}
 use Rattle.rules.specs.Opening.{setupBytes, opened}
 use Rattle.rules.specs.Readings.{exposureReading, exposureReadOut, hourlyExposureReading}
 use Rattle.rules.specs.Calls.{step}

@@ -1,8 +1,7 @@
 -- A row whose proposer has another operator offers nothing, and any other row is read whole.
-use mathlib.Core.Path.{sym, ap, _∙_}
+use mathlib.Core.Path.{sym, _∙_}
 use native.Mathlib.Omega.{arith}
 use borrow.Author.Needs.{needs}
-use Rattle.book.specs.Hourly.{saleInHour}
 use Rattle.book.proofs.StateLaws.{book-length, row-count-high, numbered-row-stands}
 use Rattle.book.proofs.BookRows.{numbered-sound}
 use Rattle.book.proofs.WaitLaws.{own-stands}
