@@ -1,5 +1,5 @@
 /* The paper's whole case: account 1 sells 18,000 kWh in hour 1, account 2 confirms, the gate is closed, 15,000 kWh are scheduled for
- * injection, and the day is settled. Prints verdicts with their details, three readings, and what the settle gives. */
+ * injection, and the day is settled. Prints each verdict with its details, three readings, and what the settle gives. */
 #include "energy_book.h"
 
 #include <inttypes.h>
@@ -89,7 +89,8 @@ static void read_out(void) {
     say("exposure", outcome);
     if (energy_book_verdict(outcome) == ENERGY_BOOK_ACCEPTED) printf("  %" PRId64 " thousandths of a cent\n", energy_book_figure(figure));
     outcome = energy_book_hourly_exposure(book, sizeof book, 1, 1, figure, sizeof figure);
-    if (energy_book_verdict(outcome) == ENERGY_BOOK_ACCEPTED) printf("  %" PRId64 " of them in hour 1\n", energy_book_figure(figure));
+    say("hourly", outcome);
+    if (energy_book_verdict(outcome) == ENERGY_BOOK_ACCEPTED) printf("  %" PRId64 " thousandths of a cent in hour 1\n", energy_book_figure(figure));
 }
 
 /* PUN 6,000 and zone price 5,500 in hour 1, the rest 0. */

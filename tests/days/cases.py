@@ -164,7 +164,7 @@ class Days:
             hourly.check(self.book, operator, reading.exposure(self.book, operator)[3])
 
     def end_day(self):
-        """Reads every hour of the book as it is left, and one of the first number that no operator has; one where it is none."""
+        """Reads every hour of the book as it is left, and one of a number that no operator has; where it is no book, one hour."""
         if self.present() is None:
             self.i(1, 1, 1, 1)
             return

@@ -250,7 +250,7 @@ def random_day(d, seed, differing=False, strips=STRIPS, asked=ASKS):
     chance = random.Random(seed)
     # strips and asks have a chance of their own: whatever their share, the opening and the number of calls are the seed's;
     # so has the reading of hourly exposures
-    apart, quoting, looking = random.Random(seed + 1000), random.Random(seed + 2000), random.Random(seed + 3000)
+    apart, quoting, hourly = random.Random(seed + 1000), random.Random(seed + 2000), random.Random(seed + 3000)
     setup = opening(chance, differing)
     d.o(setup)
     ledger = reading.Ledger(setup)
@@ -289,8 +289,8 @@ def random_day(d, seed, differing=False, strips=STRIPS, asked=ASKS):
             d.a(chance.randrange(1, len(d.book.accounts) + 1), chance.randrange(1, d.book.hours + 1))
             d.e(chance.randrange(1, len(d.book.guarantees) + 1))
         # some hours of an operator, at times one too many
-        first = looking.randrange(1, d.book.hours + 1)
-        d.i(looking.randrange(1, len(d.book.guarantees) + 1), first, first + looking.choice((0, 1, 2, 5)))
+        first = hourly.randrange(1, d.book.hours + 1)
+        d.i(hourly.randrange(1, len(d.book.guarantees) + 1), first, first + hourly.choice((0, 1, 2, 5)))
 
     for step in range(chance.randrange(150, 420)):
         if quoting.random() < (0.5 if d.book.asks else asked):

@@ -52,6 +52,6 @@ netBytes z = signed 8 z
 abbrev pub exposureBytes : MilliCents → List ℕ
 exposureBytes m = le 8 (m .0)
 
--- a reading of exposure, over the day or in one hour, that is given so
+-- an exposure that was read, of the day or of an hour, put into a buffer: its numbers packed, and what it leaves of the buffer
 abbrev pub LendsExposure : ExposureReading → List ℕ → ℕ → List ℕ → Type 0
 LendsExposure x buffer r left = Lends exposureBytes (exposureReadOut x) buffer r left

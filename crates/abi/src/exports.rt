@@ -71,7 +71,7 @@ pub extern "C" fn energy_book_exposure(book: &[u8], operator: u8, figure: &mut [
     pack(lend_exposure(reading, figure))
 }
 
-// The exposure of an operator in an hour, in the first 8 bytes of the buffer.
+// The hourly exposure of an operator, in the first 8 bytes of the buffer.
 #[no_mangle]
 pub extern "C" fn energy_book_hourly_exposure(
     book: &[u8],

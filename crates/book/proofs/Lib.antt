@@ -19,7 +19,7 @@ pub mod WorthLaws
 pub mod WorthParts
 -- ShortLaws: what of net positions lies below zero, by hour, account and operator.
 pub mod ShortLaws
--- HourlyLaws: the exposure in one hour as the sum of its two parts.
+-- HourlyLaws: the hourly exposure as the sum of its two parts.
 pub mod HourlyLaws
 -- Answers: what a refusal and an acceptance answer on the bytes of a book.
 pub mod Answers

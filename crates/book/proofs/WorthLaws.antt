@@ -12,7 +12,7 @@ use Rattle.rules.specs.declared.Row.{Row}
 use Rattle.rules.specs.declared.Net.{Net}
 use Rattle.rules.specs.Basics.{if_then_else_, total, nth, upTo, Each, nil, cons}
 use Rattle.rules.specs.Books.{Setup, noRow, estimateAt, accountCount, periods}
-use Rattle.rules.specs.Registration.{pending, includesHour, buyer, seller, counted, waiting, withStatus, mark, bought, sold, netOf, pendingSales, accountHour, afterTrade, exposed, ofOperator, exposureOf, exposure, exposureWith}
+use Rattle.rules.specs.Registration.{pending, includesHour, buyer, seller, counted, pendingOf, waiting, withStatus, mark, bought, sold, netOf, pendingSales, accountHour, afterTrade, exposed, ofOperator, exposureOf, exposure, exposureWith}
 use Rattle.rules.proofs.Basics.Totals.{total-zero, total-append, total-add, total-times, total-cong}
 use Rattle.rules.proofs.Basics.Searches.{each-append}
 use Rattle.rules.proofs.Rows.Operators.{operator-cong, operator-add, operator-none, operator-one}
@@ -60,9 +60,13 @@ module _ (u : Setup) (o : ℕ) where
 
   -- ---- pending sales
 
+  -- where it is pending, a row's proposer is an account of the set-up
+  abbrev pub Known : Row → Type 0
+  Known r = pending r ≡ true → (1 ≤ r .proposer) × (r .proposer ≤ accountCount u)
+
   -- the quantity of a row in the hour where it is a pending sale of the account, and else nothing
   abbrev saleShare : Row → ℕ → ℕ → ℕ
-  saleShare r a h = counted (λ r. pending r && includesHour h r && eqb (r .proposer) a && eqb (r .side) 1) r
+  saleShare r a h = counted (pendingOf 1 a h) r
 
   -- its sum over the hours, at estimated prices
   account-sale : (r : Row) (a : ℕ)
@@ -79,15 +83,11 @@ module _ (u : Setup) (o : ℕ) where
       go false = total-zero (upTo (periods u))
 
   -- its sum over the operator's accounts is what the row adds to the exposure
-  sale-worth : (r : Row) → (pending r ≡ true → (1 ≤ r .proposer) × (r .proposer ≤ accountCount u)) → worthOf (saleShare r) ≡ saleWorth u o r
+  sale-worth : (r : Row) → Known r → worthOf (saleShare r) ≡ saleWorth u o r
   unfolding worthOf saleWorth
   sale-worth r known =
       operator-cong u o _ _ (account-sale r)
       ∙ operator-one u o (r .proposer) (r .quantity .0 * spanPrice u r) (pending r) (eqb (r .side) 1) known
-
-  -- where it is pending, a row's proposer is an account of the set-up
-  abbrev pub Known : Row → Type 0
-  Known r = pending r ≡ true → (1 ≤ r .proposer) × (r .proposer ≤ accountCount u)
 
   -- the pending sales of rows are the sum of what each row adds
   sales-worth : {rows : List Row} → Each Known rows → worthOf (pendingSales rows) ≡ total (saleWorth u o) rows

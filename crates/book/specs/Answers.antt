@@ -22,6 +22,6 @@ netAnswer s a h = if isBook s then netReading (bookIn s) a h else NetReading.Unr
 unfoldable pub exposureAnswer : List ℕ → ℕ → ExposureReading
 exposureAnswer s o = if isBook s then exposureReading (bookIn s) o else ExposureReading.Unread NotABook
 
--- an exposure in one hour, by operator and hour
+-- an hourly exposure, by operator and hour
 unfoldable pub hourlyExposureAnswer : List ℕ → ℕ → ℕ → ExposureReading
 hourlyExposureAnswer s o h = if isBook s then hourlyExposureReading (bookIn s) o h else ExposureReading.Unread NotABook

@@ -7,7 +7,7 @@ pub mod Netted
 pub mod Waits
 -- Worth: exposure in two parts, net positions and pending sales.
 pub mod Worth
--- Hourly: the exposure in one hour in the same two parts.
+-- Hourly: the hourly exposure in the same two parts.
 pub mod Hourly
 -- Answers: what opening and the readings answer, on any bytes.
 pub mod Answers

@@ -27,6 +27,11 @@ pub record AccountOperators (u : Setup) (operators : List ℕ) : Type 0 where
   pub whole : length operators ≡ operatorsSize
   pub operator : (a : ℕ) → 1 ≤ a → a ≤ accountCount u → getD operators a 0 ≡ operatorOf u a
 
+-- bytes that are a sound book, and the operators of its accounts
+pub record OperatorInputs (s operators : List ℕ) : Type 0 where
+  pub is-sound : isSound s ≡ true
+  pub account-operators : AccountOperators (bookIn s .setup) operators
+
 -- what is to be added, as rows
 abbrev pub addedRows : Added → List Row
 addedRows Nothing = []

@@ -1,4 +1,4 @@
-// The exposure of an operator in one hour: what of its accounts' net positions lies below zero, and their pending sales, row by row.
+// The hourly exposure of an operator: what of its accounts' net positions lies below zero, and their pending sales, row by row.
 ghost use mathlib.Core.Path.{_≡_};
 ghost use mathlib.Core.Bool.{true};
 ghost use Prim.Native.Nat.{_≤_};
@@ -7,8 +7,8 @@ ghost use Rattle.rules.specs.Limits.{mostEnergy};
 ghost use Rattle.rules.specs.Registration.{hourlyExposure};
 ghost use Rattle.image.specs.Valid.{isSound, bookIn};
 ghost use Rattle.book.specs.Members.{IsAccount, IsHour, IsRow, numberedRow};
-ghost use Rattle.book.specs.Worth.{AccountOperators, mostShort};
-ghost use Rattle.book.specs.Hourly.{shortInHour, shortsInHour, saleInHour, mostShorts, mostSales};
+ghost use Rattle.book.specs.Worth.{OperatorInputs, mostShort};
+ghost use Rattle.book.specs.Hourly.{accountShortInHour, operatorShortInHour, saleInHour, mostOperatorShort, mostSales};
 use crate::state::row_count;
 use crate::state::row_offset;
 use crate::worth::Added;
@@ -26,9 +26,9 @@ use wire::numbers::get_u8;
 // ---- net positions below zero
 
 // What of an account's net position in the hour lies below zero: nothing where it is another operator's.
-fn short_of_account(book: &[u8], operators: &[u8], account: u8, operator: u8, hour: u8) -> Kwh
-    requires { ⌜ (let b = bookIn (now book) in (isSound (now book) ≡ true) × AccountOperators (b .setup) (now operators) × IsAccount b account × IsHour b hour) ⌝ }
-    ensures meaning { λ r. ⌜ (let b = bookIn (now (book .entry)) in r .0 ≡ shortInHour (b .setup) (b .part .rows) operator hour account) ⌝ }
+fn short_of_account(book: &[u8], operators: &[u8], operator: u8, hour: u8, account: u8) -> Kwh
+    requires { ⌜ (let b = bookIn (now book) in OperatorInputs (now book) (now operators) × IsHour b hour × IsAccount b account) ⌝ }
+    ensures meaning { λ r. ⌜ (let b = bookIn (now (book .entry)) in r .0 ≡ accountShortInHour (b .setup) (b .part .rows) operator hour account) ⌝ }
     ensures bounded { λ r. ⌜ r .0 ≤ mostShort ⌝ }
 {
     if operators[account as usize] == operator {
@@ -39,15 +39,15 @@ fn short_of_account(book: &[u8], operators: &[u8], account: u8, operator: u8, ho
 
 // The same of all the operator's accounts.
 fn short_of_operator(book: &[u8], operators: &[u8], operator: u8, hour: u8) -> Kwh
-    requires { ⌜ (let b = bookIn (now book) in (isSound (now book) ≡ true) × AccountOperators (b .setup) (now operators) × IsHour b hour) ⌝ }
-    ensures meaning { λ r. ⌜ (let b = bookIn (now (book .entry)) in r .0 ≡ shortsInHour (b .setup) (b .part .rows) operator hour) ⌝ }
-    ensures bounded { λ r. ⌜ r .0 ≤ mostShorts ⌝ }
+    requires { ⌜ OperatorInputs (now book) (now operators) × IsHour (bookIn (now book)) hour ⌝ }
+    ensures meaning { λ r. ⌜ (let b = bookIn (now (book .entry)) in r .0 ≡ operatorShortInHour (b .setup) (b .part .rows) operator hour) ⌝ }
+    ensures bounded { λ r. ⌜ r .0 ≤ mostOperatorShort ⌝ }
 {
     let n = counts(book);
     let mut sum = Kwh(0);
     let mut account: u8 = 1;
     while account <= n.accounts {
-        sum = sum.plus(short_of_account(book, operators, account, operator, hour));
+        sum = sum.plus(short_of_account(book, operators, operator, hour, account));
         account = account + 1;
     }
     sum
@@ -55,9 +55,9 @@ fn short_of_operator(book: &[u8], operators: &[u8], operator: u8, hour: u8) -> K
 
 // ---- pending sales
 
-// What the book's row of that number offers in the hour: nothing where it is no pending sale, or another operator's.
+// What the book's row of that number adds to the hour as a pending sale: nothing where it is none, or another operator's.
 fn sale_of_row(book: &[u8], operators: &[u8], operator: u8, hour: u8, number: u16) -> Kwh
-    requires { ⌜ (let b = bookIn (now book) in (isSound (now book) ≡ true) × AccountOperators (b .setup) (now operators) × IsRow b number) ⌝ }
+    requires { ⌜ OperatorInputs (now book) (now operators) × IsRow (bookIn (now book)) number ⌝ }
     ensures meaning { λ r. ⌜ (let b = bookIn (now (book .entry)) in r .0 ≡ saleInHour (b .setup) operator hour (numberedRow b number)) ⌝ }
     ensures bounded { λ r. ⌜ r .0 ≤ mostEnergy ⌝ }
 {
@@ -69,9 +69,9 @@ fn sale_of_row(book: &[u8], operators: &[u8], operator: u8, hour: u8, number: u1
     waiting(r, r.proposer, hour, SELLS)
 }
 
-// What all rows of the book offer.
+// What all rows of the book add to it.
 fn sales_of_operator(book: &[u8], operators: &[u8], operator: u8, hour: u8) -> Kwh
-    requires { ⌜ (isSound (now book) ≡ true) × AccountOperators (bookIn (now book) .setup) (now operators) ⌝ }
+    requires { ⌜ OperatorInputs (now book) (now operators) ⌝ }
     ensures meaning { λ r. ⌜ (let b = bookIn (now (book .entry)) in r .0 ≡ total (saleInHour (b .setup) operator hour) (b .part .rows)) ⌝ }
     ensures bounded { λ r. ⌜ r .0 ≤ mostSales ⌝ }
 {
@@ -87,7 +87,7 @@ fn sales_of_operator(book: &[u8], operators: &[u8], operator: u8, hour: u8) -> K
 
 // ---- both
 
-// The exposure of an operator in an hour: the hour's sum over its accounts, at the estimated price.
+// The hourly exposure: the hour's sum over the operator's accounts, at the estimated price.
 pub fn hourly_exposure(book: &[u8], operator: u8, hour: u8) -> MilliCents
     requires { ⌜ (isSound (now book) ≡ true) × IsHour (bookIn (now book)) hour ⌝ }
     ensures { λ r. ⌜ (let b = bookIn (now (book .entry)) in r .0 ≡ hourlyExposure (b .setup) (b .part .rows) operator hour) ⌝ }

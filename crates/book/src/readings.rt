@@ -1,4 +1,4 @@
-// The readings: a net position, an exposure, and an exposure in one hour, of a sound book.
+// The readings: a net position, an exposure and an hourly exposure, of a sound book.
 ghost use mathlib.Core.Path.{_≡_};
 ghost use mathlib.Core.Bool.{true, not};
 ghost use Prim.Native.Nat.{_-_, _^_};
@@ -65,7 +65,7 @@ pub fn exposure_in(book: &[u8], operator: u8) -> ExposureReading
     ExposureReading::Read(exposure_with(book, operator, Added::Nothing))
 }
 
-// The exposure of an operator in an hour.
+// The hourly exposure of an operator.
 pub fn hourly_exposure_in(book: &[u8], operator: u8, hour: u8) -> ExposureReading
     requires { ⌜ isSound (now book) ≡ true ⌝ }
     ensures { λ r. ⌜ r ≡ hourlyExposureReading (bookIn (now (book .entry))) operator hour ⌝ }

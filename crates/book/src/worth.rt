@@ -9,7 +9,7 @@ ghost use Rattle.rules.specs.Books.{estimateAt};
 ghost use Rattle.rules.specs.Registration.{exposureWith};
 ghost use Rattle.image.specs.Valid.{isSound, bookIn};
 ghost use Rattle.book.specs.Members.{IsAccount, IsHour, IsRow, numberedRow};
-ghost use Rattle.book.specs.Worth.{AccountOperators, addedRows, QuantityInRange, shortOf, shortAfter, shortWorth, saleWorth, PriceSums, PricedSpan, SaleInputs, TradeInRange, accountShort, shortShare, netsWith, operatorsSize, sumsSize, mostShort, mostShortWorth, mostSaleWorth};
+ghost use Rattle.book.specs.Worth.{AccountOperators, OperatorInputs, addedRows, QuantityInRange, shortOf, shortAfter, shortWorth, saleWorth, PriceSums, PricedSpan, SaleInputs, TradeInRange, accountShort, shortShare, netsWith, operatorsSize, sumsSize, mostShort, mostShortWorth, mostSaleWorth};
 use crate::positions::net_at;
 use crate::state::operator_of;
 use crate::state::row_count;
@@ -226,7 +226,7 @@ fn account_short(book: &[u8], account: u8, added: Added) -> MilliCents
 
 // What the account adds to the operator's sum of these: nothing where it is another operator's.
 fn short_share(book: &[u8], operators: &[u8], account: u8, operator: u8, added: Added) -> MilliCents
-    requires { ⌜ (let b = bookIn (now book) in (isSound (now book) ≡ true) × AccountOperators (b .setup) (now operators) × IsAccount b account × QuantityInRange added) ⌝ }
+    requires { ⌜ OperatorInputs (now book) (now operators) × IsAccount (bookIn (now book)) account × QuantityInRange added ⌝ }
     ensures meaning { λ r. ⌜ (let b = bookIn (now (book .entry)) in r .0 ≡ shortShare (b .setup) (netsWith b added) operator account) ⌝ }
     ensures bounded { λ r. ⌜ r .0 ≤ mostShortWorth ⌝ }
 {
@@ -238,7 +238,7 @@ fn short_share(book: &[u8], operators: &[u8], account: u8, operator: u8, added: 
 
 // What of the net positions of all the operator's accounts lies below zero, at estimated prices.
 fn short_worth(book: &[u8], operators: &[u8], operator: u8, added: Added) -> MilliCents
-    requires { ⌜ (isSound (now book) ≡ true) × AccountOperators (bookIn (now book) .setup) (now operators) × QuantityInRange added ⌝ }
+    requires { ⌜ OperatorInputs (now book) (now operators) × QuantityInRange added ⌝ }
     ensures meaning { λ r. ⌜ (let b = bookIn (now (book .entry)) in r .0 ≡ shortWorth (b .setup) (netsWith b added) operator) ⌝ }
     ensures bounded { λ r. ⌜ r .0 ≤ mostAccounts * mostShortWorth ⌝ }
 {

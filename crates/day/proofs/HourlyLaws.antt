@@ -14,17 +14,17 @@ use Rattle.rules.proofs.Rows.Arrangement.{hours-total}
 use Rattle.image.specs.Valid.{isBook, bookIn}
 use Rattle.book.specs.Answers.{exposureAnswer, hourlyExposureAnswer}
 
--- of a book
-module _ (b : Book) (o : ℕ) where
-  abbrev hours : List ℕ
-  hours = upTo (periods (b .setup))
+-- the hours of a book
+abbrev hours : Book → List ℕ
+hours b = upTo (periods (b .setup))
 
-  book-readings : total (λ h. moneyRead (hourlyExposureReading b o h)) hours ≡ moneyRead (exposureReading b o)
+module _ (b : Book) (o : ℕ) where
+  book-readings : total (λ h. moneyRead (hourlyExposureReading b o h)) (hours b) ≡ moneyRead (exposureReading b o)
   unfolding hourlyExposureReading exposureReading firstToApply
   book-readings = go (within 1 o (operatorCount (b .setup))) refl
     where
       go : (t : Bool) → within 1 o (operatorCount (b .setup)) ≡ t
-          → total (λ h. moneyRead (hourlyExposureReading b o h)) hours ≡ moneyRead (exposureReading b o)
+          → total (λ h. moneyRead (hourlyExposureReading b o h)) (hours b) ≡ moneyRead (exposureReading b o)
       go true e =
           total-upTo _ (hourlyExposure (b .setup) (b .part .rows) o) (periods (b .setup))
           (λ h low high. rw (within-true 1 h (periods (b .setup)) .1 (low, high), e))
@@ -32,19 +32,19 @@ module _ (b : Book) (o : ℕ) where
           ∙ rw e
       go false e =
           total-upTo _ (λ h. 0) (periods (b .setup)) (λ h low high. rw (within-true 1 h (periods (b .setup)) .1 (low, high), e))
-          ∙ total-zero hours
+          ∙ total-zero (hours b)
           ∙ rw e
 
 module _ (s : List ℕ) (o : ℕ) where
-  all-hours : total (λ h. moneyRead (hourlyExposureAnswer s o h)) (hours (bookIn s) o) ≡ moneyRead (exposureAnswer s o)
+  all-hours : total (λ h. moneyRead (hourlyExposureAnswer s o h)) (hours (bookIn s)) ≡ moneyRead (exposureAnswer s o)
   unfolding hourlyExposureAnswer exposureAnswer
   all-hours = go (isBook s) refl
     where
       go : (t : Bool) → isBook s ≡ t
-          → total (λ h. moneyRead (hourlyExposureAnswer s o h)) (hours (bookIn s) o) ≡ moneyRead (exposureAnswer s o)
+          → total (λ h. moneyRead (hourlyExposureAnswer s o h)) (hours (bookIn s)) ≡ moneyRead (exposureAnswer s o)
       go true e = rw e (book-readings (bookIn s) o)
-      go false e = rw e (total-zero (hours (bookIn s) o))
+      go false e = rw e (total-zero (hours (bookIn s)))
 
-  pub readings-by-hour : (arranged : List ℕ) → Perm (upTo (periods (bookIn s .setup))) arranged
+  pub readings-by-hour : (arranged : List ℕ) → Perm (hours (bookIn s)) arranged
       → total (λ h. moneyRead (hourlyExposureAnswer s o h)) arranged ≡ moneyRead (exposureAnswer s o)
   readings-by-hour arranged p = sym (total-rearranged (λ h. moneyRead (hourlyExposureAnswer s o h)) p) ∙ all-hours

@@ -37,7 +37,7 @@ module _ (setup start : List ℕ) where
     pub net-readings : (a h : ℕ) → netReadOut (netAnswer (book cs) a h) ≡ ledgerNetReadOut (ledger cs) a h
     -- and every reading of exposure, in number, details and money
     pub exposure-readings : (o : ℕ) → exposureReadOut (exposureAnswer (book cs) o) ≡ ledgerExposureReadOut (ledger cs) o
-    -- and every reading of exposure in one hour
+    -- and every reading of hourly exposure
     pub hourly-exposure-readings : (o h : ℕ)
         → exposureReadOut (hourlyExposureAnswer (book cs) o h) ≡ ledgerHourlyExposureReadOut (ledger cs) o h
     -- in each hour net positions sum to zero

@@ -22,7 +22,7 @@ unfoldable pub ledgerExposureReadOut : Ledger → ℕ → ReadOut MilliCents
 ledgerExposureReadOut l o =
     if within 1 o (operatorCount (l .setup)) then readOut (milliCents (ledgerExposure l o)) else ((6, 9, 0), none)
 
--- an exposure in one hour, by operator and hour: 6 with bit 5 where the set-up has no such hour, with bit 9 where it has no such operator
+-- an hourly exposure, by operator and hour: 6 with bit 5 where the set-up has no such hour, with bit 9 where it has no such operator
 unfoldable pub ledgerHourlyExposureReadOut : Ledger → ℕ → ℕ → ReadOut MilliCents
 ledgerHourlyExposureReadOut l o h =
     if within 1 h (periods (l .setup))

@@ -58,7 +58,7 @@ pub fn exposure_in(book: &[u8], operator: u8) -> ExposureReading
     book::readings::exposure_in(book, operator)
 }
 
-// The exposure of an operator in an hour, of any bytes: 1 where they are no book.
+// The hourly exposure of an operator, of any bytes: 1 where they are no book.
 pub fn hourly_exposure(book: &[u8], operator: u8, hour: u8) -> ExposureReading
     ensures { λ r. ⌜ r ≡ hourlyExposureAnswer (now (book .entry)) operator hour ⌝ }
 {

@@ -174,7 +174,7 @@ ledgerHour l a h =
 unfoldable pub ledgerExposure : Ledger → ℕ → ℕ
 ledgerExposure l o = exposureOf (l .setup) (estimateAt (l .setup)) (ledgerHour l) o
 
--- in one hour
+-- the hourly exposure
 unfoldable pub ledgerHourlyExposure : Ledger → ℕ → ℕ → ℕ
 ledgerHourlyExposure l o h = hourlyExposureOf (l .setup) (estimateAt (l .setup)) (ledgerHour l) o h
 

@@ -1,5 +1,5 @@
 -- Readings, of any book in any phase: a net position by account and hour, an exposure by operator (document 01, "Registration"), an
--- exposure in one hour, by operator and hour (document 02, note 5).
+-- hourly exposure by operator and hour (document 02, note 5).
 use Prim.Native.Nat.{ℕ, _-_}
 use mathlib.Core.List.{List, [], _∷_}
 use mathlib.Core.Option.{Option, none, some}
@@ -69,7 +69,7 @@ unfoldable pub hourlyExposureReading : Book → ℕ → ℕ → ExposureReading
 hourlyExposureReading b o h =
     exposureReadingOf (firstToApply (hourlyExposureChecks b o h)) (hourlyExposure (b .setup) (b .part .rows) o h)
 
--- in the paper's numbers, of both: its verdict, and the money in thousandths of a cent
+-- in the paper's numbers, of the day and of an hour: its verdict, and the money in thousandths of a cent
 abbrev pub exposureReadOut : ExposureReading → ReadOut MilliCents
 exposureReadOut (ExposureReading.Read m) = readOut m
 exposureReadOut (ExposureReading.Unread r) = notRead r

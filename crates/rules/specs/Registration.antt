@@ -253,7 +253,7 @@ ofOperator u f o = total (λ a. if eqb (operatorOf u a) o then f a else 0) (upTo
 unfoldable pub exposureOf : Setup → (ℕ → CentsPerMwh) → (ℕ → ℕ → AccountHour) → ℕ → ℕ
 exposureOf u prices holds o = ofOperator u (λ a. total (λ h. exposedAmount (prices h) (holds a h)) (upTo (periods u))) o
 
--- the exposure in one hour (document 02, note 5): the price of the hour times that hour's sum over the operator's accounts
+-- the hourly exposure (document 02, note 5): the price of the hour times that hour's sum over the operator's accounts
 unfoldable pub hourlyExposureOf : Setup → (ℕ → CentsPerMwh) → (ℕ → ℕ → AccountHour) → ℕ → ℕ → ℕ
 hourlyExposureOf u prices holds o h = prices h .0 * ofOperator u (λ a. exposed (holds a h)) o
 

@@ -15,7 +15,7 @@ use Rattle.rules.specs.Basics.{total, nth, counting, Each}
 use Rattle.rules.specs.Books.{Setup, operatorOf}
 use Rattle.rules.specs.Limits.{mostPrice}
 use Rattle.rules.specs.Opening.{countsIn, setupOf, estimatesIn}
-use Rattle.rules.specs.Registration.{accountHour, exposed, ofOperator, exposureOf, exposure}
+use Rattle.rules.specs.Registration.{accountHour, exposedAmount, ofOperator, exposureOf, exposure}
 use Rattle.rules.proofs.Basics.Searches.{each-nth}
 use Rattle.rules.proofs.Setups.SetupEntries.{length-accounts, length-estimates}
 use Rattle.tables.specs.Sums.{accountExposure, exposureShare}
@@ -33,11 +33,11 @@ estimate-small s h e l u = each-nth (centsPerMwh 0) h e l (rw (length-estimates 
 
 -- the exposure of an account hour at the estimate
 unfoldable pub hourExposure : List ℕ → List Row → ℕ → ℕ → ℕ
-hourExposure s rows a h = nth (estimatesIn s) h (centsPerMwh 0) .0 * exposed (accountHour rows a h)
+hourExposure s rows a h = exposedAmount (nth (estimatesIn s) h (centsPerMwh 0)) (accountHour rows a h)
 
 -- the same, of what was read
 pub hour-exposure-read : (s : List ℕ) (rows : List Row) (a h : ℕ) (price : CentsPerMwh) (x : AccountHour) {r : ℕ}
-    → price ≡ nth (estimatesIn s) h (centsPerMwh 0) → x ≡ accountHour rows a h → r ≡ price .0 * exposed x → r ≡ hourExposure s rows a h
+    → price ≡ nth (estimatesIn s) h (centsPerMwh 0) → x ≡ accountHour rows a h → r ≡ exposedAmount price x → r ≡ hourExposure s rows a h
 unfolding hourExposure
 hour-exposure-read s rows a h price x e d f = f ∙ rw (e, d)
 

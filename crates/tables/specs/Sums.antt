@@ -11,7 +11,7 @@ use Rattle.rules.specs.declared.Row.{Row}
 use Rattle.rules.specs.Basics.{if_then_else_, total, every, upTo, Each}
 use Rattle.rules.specs.Limits.{mostAccounts, mostPrice, mostRows}
 use Rattle.rules.specs.Books.{Setup, estimateAt, operatorOf, periods}
-use Rattle.rules.specs.Registration.{bought, sold, pendingSales, pendingPurchases, accountHour, exposed}
+use Rattle.rules.specs.Registration.{bought, sold, pendingSales, pendingPurchases, accountHour, exposedAmount}
 use Rattle.rules.specs.Opening.{estimatesIn}
 use Rattle.image.specs.Tables.{cellOf, placeOf, InTable, Tabled, Room, Raised, tableSize}
 use Rattle.image.specs.Layout.{mostPeriods, accountWidth, netWidth, rowWidth}
@@ -110,7 +110,7 @@ mostAccountExposure = mostPeriods * mostHourExposure
 
 -- the exposure of an account over all hours, at the estimated prices
 unfoldable pub accountExposure : Setup → List Row → ℕ → ℕ
-accountExposure u rows a = total (λ h. estimateAt u h .0 * exposed (accountHour rows a h)) (upTo (periods u))
+accountExposure u rows a = total (λ h. exposedAmount (estimateAt u h) (accountHour rows a h)) (upTo (periods u))
 
 -- what an account adds to an operator's exposure: nothing where it is another's
 unfoldable pub exposureShare : Setup → List Row → ℕ → ℕ → ℕ

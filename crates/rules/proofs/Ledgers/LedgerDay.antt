@@ -110,7 +110,7 @@ module _ (s : List ℕ) (cs : List Call) where
       → exposureReading dayBook o ≡ ExposureReading.Read (milliCents (ledgerExposure dayLedger o))
   day-exposure o i = exposure-read-is-the-ledgers dayBook dayLedger agrees o (rw day-setup i)
 
-  -- every reading of exposure in one hour
+  -- every reading of hourly exposure
   pub day-hourly-exposure : (o h : ℕ) → within 1 o (operatorCount (setupOf s)) ≡ true → within 1 h (periods (setupOf s)) ≡ true
       → hourlyExposureReading dayBook o h ≡ ExposureReading.Read (milliCents (ledgerHourlyExposure dayLedger o h))
   day-hourly-exposure o h i j = hourly-exposure-read-is-the-ledgers dayBook dayLedger agrees o h (rw day-setup i) (rw day-setup j)

@@ -74,7 +74,7 @@ module _ (b : Book) (l : Ledger) (g : Agrees b l) where
   unfolding exposureReading firstToApply
   exposure-read-is-the-ledgers o i = rw (exposure-is-the-ledgers o, g .setup, i)
 
-  -- and one in one hour
+  -- and so is an hourly one
   pub hourly-exposure-read-is-the-ledgers : (o h : ℕ) → within 1 o (operatorCount (l .setup)) ≡ true → within 1 h (periods (l .setup)) ≡ true
       → hourlyExposureReading b o h ≡ ExposureReading.Read (milliCents (ledgerHourlyExposure l o h))
   unfolding hourlyExposureReading firstToApply

@@ -1,5 +1,5 @@
 -- An operator's exposure is the sum of the amounts of its account hours, in whatever order or groups they are added; so it is the sum of
--- its exposures by hour, in any order of the hours (document 02, note 5).
+-- its hourly exposures, in any order of the hours (document 02, note 5).
 use Prim.Native.Nat.{ℕ, _*_, _≤_}
 use mathlib.Core.Path.{_≡_, sym, _∙_}
 use mathlib.Core.List.{List, map, flatMap, Perm}
@@ -9,17 +9,14 @@ use lib.Dec.{eqb}
 use Rattle.units.specs.declared.CentsPerMwh.{CentsPerMwh}
 use Rattle.rules.specs.declared.AccountHour.{AccountHour}
 use Rattle.rules.specs.Basics.{if_then_else_, total, upTo}
-use Rattle.rules.specs.Books.{Setup, periods, accountCount, operatorOf}
+use Rattle.rules.specs.Books.{Setup, periods, accountCount}
 use Rattle.rules.specs.Registration.{exposed, exposedAmount, ofOperator, exposureOf, hourlyExposureOf, accountsOf, accountHoursOf}
 use Rattle.rules.proofs.Basics.Totals.{total-times, total-cong, total-map, total-those, total-where, total-rearranged, total-flat, swap, shared}
-use Rattle.rules.proofs.Rows.Operators.{operator-cong, operator-one}
+use Rattle.rules.proofs.Rows.Operators.{owned, operator-cong, operator-one}
 
 -- ---- an operator's account hours
 
 module _ (u : Setup) (o : ℕ) where
-  abbrev owned : ℕ → Bool
-  owned a = eqb (operatorOf u a) o
-
   abbrev hours : List ℕ
   hours = upTo (periods u)
 
@@ -36,13 +33,13 @@ module _ (u : Setup) (o : ℕ) where
     unfolding ofOperator accountsOf
     by-account =
         by-hour
-        ∙ total-cong _ _ hours (λ h. total-those owned (λ a. f (a, h)) (upTo (accountCount u)))
-        ∙ swap (λ h a. if owned a then f (a, h) else 0) hours (upTo (accountCount u))
-        ∙ total-cong _ _ (upTo (accountCount u)) (λ a. total-where (owned a) (λ h. f (a, h)) hours)
+        ∙ total-cong _ _ hours (λ h. total-those (owned u o) (λ a. f (a, h)) (upTo (accountCount u)))
+        ∙ swap (λ h a. if owned u o a then f (a, h) else 0) hours (upTo (accountCount u))
+        ∙ total-cong _ _ (upTo (accountCount u)) (λ a. total-where (owned u o a) (λ h. f (a, h)) hours)
 
-  -- each hour of each of the operator's accounts is among them once, and none of another's
+  -- an hour of an account, both of the set-up, is among them once where the account is the operator's, and else not
   pub each-once : (a h : ℕ) → 1 ≤ a → a ≤ accountCount u → 1 ≤ h → h ≤ periods u
-      → total (λ x. if eqb a (x .0) && eqb h (x .1) then 1 else 0) (accountHoursOf u o) ≡ (if eqb (operatorOf u a) o then 1 else 0)
+      → total (λ x. if eqb a (x .0) && eqb h (x .1) then 1 else 0) (accountHoursOf u o) ≡ (if owned u o a then 1 else 0)
   each-once a h al ah hl hh =
       by-account (λ x. if eqb a (x .0) && eqb h (x .1) then 1 else 0)
       ∙ operator-cong u o _ _ (λ b. shared (periods u) h 1 (eqb a b) hl hh)
@@ -85,7 +82,7 @@ module _ (u : Setup) (prices : ℕ → CentsPerMwh) (holds : ℕ → ℕ → Acc
       → total (total amountOf) groups ≡ exposureOf u prices holds o
   any-groups groups p = sym (total-flat amountOf (λ group. group) groups) ∙ any-arrangement (flatMap (λ group. group) groups) p
 
-  -- the exposures of all hours
+  -- the hourly exposures of all hours
   pub hours-total : total (hourlyExposureOf u prices holds o) (upTo (periods u)) ≡ exposureOf u prices holds o
   hours-total = total-cong _ _ (upTo (periods u)) hour-amounts ∙ sym (by-hour u o amountOf) ∙ all-amounts
 

@@ -10,7 +10,8 @@ use Rattle.rules.specs.Registration.{ofOperator}
 use Rattle.rules.proofs.Basics.Totals.{where-add, total-zero, total-add, total-cong, shared}
 
 module _ (u : Setup) (o : ℕ) where
-  abbrev owned : ℕ → Bool
+  -- the account is the operator's
+  abbrev pub owned : ℕ → Bool
   owned a = eqb (operatorOf u a) o
 
   -- equal for each account

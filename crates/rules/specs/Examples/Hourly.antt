@@ -1,4 +1,4 @@
--- Exposure read by hour: what each hour of an operator comes to, and that its hours come to its exposure.
+-- Hourly exposures: what each hour of an operator comes to, and that its hours come to its exposure.
 use Prim.Native.Nat.{ℕ, _*_}
 use mathlib.Core.Path.{_≡_, refl}
 use mathlib.Core.List.{List, [], _∷_, map}
@@ -65,23 +65,23 @@ risingPrices =
     })
     (cents 100000 ∷ cents 0 ∷ [])
 
--- account 1 offers 6,000 in each of the hours 2 to 4, and 1,000 more in hour 3
-abbrev offered : Book
-offered = bookOf risingPrices (trade 1 1 2 0 1 2 4 6000 ∷ trade 1 1 2 1 1 3 3 1000 ∷ [])
+-- account 1 has pending sales of 6,000 in each of the hours 2 to 4, and of 1,000 more in hour 3
+abbrev threeHours : Book
+threeHours = bookOf risingPrices (trade 1 1 2 0 1 2 4 6000 ∷ trade 1 1 2 1 1 3 3 1000 ∷ [])
 
-offered-by-hour : byHour offered 1 ≡ amounts (0 ∷ 12000000 ∷ 21000000 ∷ 24000000 ∷ replicate 20 0)
+pending-by-hour : byHour threeHours 1 ≡ amounts (0 ∷ 12000000 ∷ 21000000 ∷ 24000000 ∷ replicate 20 0)
 unfolding everything
-offered-by-hour = refl
+pending-by-hour = refl
 
 -- together they are the exposure
-offered-whole : exposureReadOut (exposureReading offered 1) ≡ readOut (milliCents 57000000)
+pending-together : exposureReadOut (exposureReading threeHours 1) ≡ readOut (milliCents 57000000)
 unfolding everything
-offered-whole = refl
+pending-together = refl
 
 -- past the gate nothing is pending, and nothing exposed
-offered-past-the-gate : byHour (bookOf risingPrices (trade 1 1 2 0 1 2 4 6000 ∷ close ∷ [])) 1 ≡ amounts (replicate 24 0)
+pending-past-the-gate : byHour (bookOf risingPrices (trade 1 1 2 0 1 2 4 6000 ∷ close ∷ [])) 1 ≡ amounts (replicate 24 0)
 unfolding everything
-offered-past-the-gate = refl
+pending-past-the-gate = refl
 
 -- ---- two accounts of one operator: account 1 sells to account 3, and what account 3 is long in hour 2 eases nothing
 
@@ -100,10 +100,10 @@ no-such-hour : exposureReadOut (hourlyExposureReading wholeCase 1 25) ≡ ((6, 5
 unfolding everything
 no-such-hour = refl
 
-neither : exposureReadOut (hourlyExposureReading wholeCase 3 25) ≡ ((6, 5, 0), none)
+both-out-of-range : exposureReadOut (hourlyExposureReading wholeCase 3 25) ≡ ((6, 5, 0), none)
 unfolding everything
-neither = refl
+both-out-of-range = refl
 
-neither-zero : exposureReadOut (hourlyExposureReading wholeCase 0 0) ≡ ((6, 5, 0), none)
+both-zero : exposureReadOut (hourlyExposureReading wholeCase 0 0) ≡ ((6, 5, 0), none)
 unfolding everything
-neither-zero = refl
+both-zero = refl

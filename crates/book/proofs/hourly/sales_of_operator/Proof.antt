@@ -1,4 +1,4 @@
--- The sum so far, and what the rows that are left offer, make what all rows offer.
+-- The sum so far, and what the rows that are left add, make what all rows add.
 use Prim.Native.Nat.{_+_, _-_, _*_, _≤_}
 use mathlib.Core.Path.{_≡_}
 use native.Mathlib.Nat.{zero-add}
@@ -28,7 +28,7 @@ abbrev μ-loop : tie.MeasureT-loop
 μ-loop book operators operator hour rows sum₀ number₀ sum number = rows + 1 - number
 
 row-count-requires : tie.Need-row-count-requires Inv-loop μ-loop
-row-count-requires c κs = c .before .before .pre .0
+row-count-requires c κs = c .before .before .pre .is-sound
 
 loop-holds : tie.Need-loop-holds Inv-loop μ-loop
 loop-holds c = (c .row-count .ensures .0, c .row-count .ensures .1, omega arith, omega arith, omega arith, zero-add _)
@@ -37,7 +37,7 @@ sale-of-row-requires : tie.Need-sale-of-row-requires Inv-loop μ-loop
 sale-of-row-requires c κs =
     let l = c .before .loop in
     let pre = c .before .before .before .before .before .pre in
-    (pre .0, pre .1, (l .inv .2, omega (arith, l .inv .0)))
+    (pre, (l .inv .2, omega (arith, l .inv .0)))
 
 plus-requires : tie.Need-plus-requires Inv-loop μ-loop
 plus-requires c κs =

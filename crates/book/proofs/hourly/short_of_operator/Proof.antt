@@ -10,7 +10,7 @@ use Rattle.rules.specs.Books.{accountCount}
 use Rattle.rules.proofs.Basics.CountingLaws.{sum-begins, sum-next, sum-done}
 use Rattle.image.specs.Valid.{bookIn}
 use Rattle.book.specs.Worth.{mostShort}
-use Rattle.book.specs.Hourly.{shortInHour}
+use Rattle.book.specs.Hourly.{accountShortInHour}
 use Rattle.book.proofs.StateLaws.{book-length, book-is-sound}
 use Rattle.book.proofs.WorthParts.{accounts-in}
 use Rattle.book.proofs.HourlyLaws.{shorts-by-account}
@@ -25,21 +25,21 @@ Inv-loop book operators operator hour n sum₀ account₀ sum account =
     × (1 ≤ account)
     × (account ≤ n .accounts + 1)
     × (sum .0 ≤ (account - 1) * mostShort)
-    × (sum .0 + total (shortInHour (b .setup) (b .part .rows) operator hour) (counting (accountCount (b .setup) + 1 - account) account)
-    ≡ total (shortInHour (b .setup) (b .part .rows) operator hour) (counting (accountCount (b .setup)) 1))
+    × (sum .0 + total (accountShortInHour (b .setup) (b .part .rows) operator hour) (counting (accountCount (b .setup) + 1 - account) account)
+    ≡ total (accountShortInHour (b .setup) (b .part .rows) operator hour) (counting (accountCount (b .setup)) 1))
 
 abbrev μ-loop : tie.MeasureT-loop
 μ-loop book operators operator hour n sum₀ account₀ sum account = n .accounts + 1 - account
 
 counts-requires : tie.Need-counts-requires Inv-loop μ-loop
-counts-requires c κs = omega (arith, book-length _ (c .before .before .pre .0))
+counts-requires c κs = omega (arith, book-length _ (c .before .before .pre .0 .is-sound))
 
 loop-holds : tie.Need-loop-holds Inv-loop μ-loop
 loop-holds c =
     let start = c .before .before .before in
-    let accounts = ap (λ (n : Counts). n .accounts) (c .counts .ensures) ∙ accounts-in _ (start .pre .0) in (
+    let accounts = ap (λ (n : Counts). n .accounts) (c .counts .ensures) ∙ accounts-in _ (start .pre .0 .is-sound) in (
       accounts,
-      omega (arith, accounts, book-is-sound _ (start .pre .0) .setup-sound .accounts-high),
+      omega (arith, accounts, book-is-sound _ (start .pre .0 .is-sound) .setup-sound .accounts-high),
       omega arith,
       omega arith,
       omega arith,
@@ -50,7 +50,7 @@ short-of-account-requires : tie.Need-short-of-account-requires Inv-loop μ-loop
 short-of-account-requires c κs =
     let l = c .before .before .loop in
     let pre = c .before .before .before .before .before .before .pre in
-    (pre .0, pre .1, (l .inv .2, omega (arith, l .inv .0)), pre .2)
+    (pre .0, pre .1, (l .inv .2, omega (arith, l .inv .0)))
 
 plus-requires : tie.Need-plus-requires Inv-loop μ-loop
 plus-requires c κs =

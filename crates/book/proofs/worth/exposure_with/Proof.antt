@@ -8,7 +8,8 @@ use Rattle.book.proofs.worth.exposure_with.Tie as tie
 
 short-worth-requires : tie.Need-short-worth-requires
 short-worth-requires c κs =
-    let pre = c .before .before .before .before .pre in (pre .0, c .before .account-operators .ensures, trade-quantity _ (pre .1))
+    let pre = c .before .before .before .before .pre in
+    (record { is-sound = pre .0; account-operators = c .before .account-operators .ensures }, trade-quantity _ (pre .1))
 
 returns : tie.Need-returns
 returns c =

@@ -31,14 +31,14 @@ abbrev μ-loop : tie.MeasureT-loop
 μ-loop book operators operator added n sum₀ account₀ sum account = n .accounts + 1 - account
 
 counts-requires : tie.Need-counts-requires Inv-loop μ-loop
-counts-requires c κs = omega (arith, book-length _ (c .before .before .pre .0))
+counts-requires c κs = omega (arith, book-length _ (c .before .before .pre .0 .is-sound))
 
 loop-holds : tie.Need-loop-holds Inv-loop μ-loop
 loop-holds c =
     let start = c .before .before .before in
-    let accounts = ap (λ (n : Counts). n .accounts) (c .counts .ensures) ∙ accounts-in _ (start .pre .0) in (
+    let accounts = ap (λ (n : Counts). n .accounts) (c .counts .ensures) ∙ accounts-in _ (start .pre .0 .is-sound) in (
       accounts,
-      omega (arith, accounts, book-is-sound _ (start .pre .0) .setup-sound .accounts-high),
+      omega (arith, accounts, book-is-sound _ (start .pre .0 .is-sound) .setup-sound .accounts-high),
       omega arith,
       omega arith,
       omega arith,
@@ -49,7 +49,7 @@ short-share-requires : tie.Need-short-share-requires Inv-loop μ-loop
 short-share-requires c κs =
     let l = c .before .before .loop in
     let pre = c .before .before .before .before .before .before .pre in
-    (pre .0, pre .1, (l .inv .2, omega (arith, l .inv .0)), pre .2)
+    (pre .0, (l .inv .2, omega (arith, l .inv .0)), pre .1)
 
 plus-requires : tie.Need-plus-requires Inv-loop μ-loop
 plus-requires c κs = omega arith
