@@ -13,13 +13,12 @@ use Rattle.rules.specs.declared.Row.{Row}
 use Rattle.rules.specs.Basics.{if_then_else_, total, counting, Each, nil, cons}
 use Rattle.rules.specs.Books.{Setup, estimateAt, operatorOf, accountCount}
 use Rattle.rules.specs.Registration.{pending, includesHour, counted, pendingOf, waiting, netOf, pendingSales, accountHour, exposed, ofOperator, hourlyExposureOf, hourlyExposure}
-use Rattle.rules.proofs.Basics.Searches.{each-map}
 use Rattle.rules.proofs.Rows.Operators.{operator-cong, operator-add, operator-none, operator-one}
 use Rattle.image.specs.Valid.{isSound, bookIn}
 use Rattle.book.specs.Worth.{shortOf}
 use Rattle.book.specs.Hourly.{accountShortInHour, operatorShortInHour, saleInHour}
-use Rattle.book.proofs.StateLaws.{book-is-sound}
 use Rattle.book.proofs.WorthLaws.{Known}
+use Rattle.book.proofs.WorthParts.{rows-known}
 
 -- the tests of a pending sale, that of the account last
 account-last : (t c x e : Bool) → t && c && x && e ≡ t && (c && e) && x
@@ -102,9 +101,4 @@ pub hour-joined : (s : List ℕ) → isSound s ≡ true → (o h below waits sum
     → m ≡ hourlyExposure (bookIn s .setup) (bookIn s .part .rows) o h
 unfolding hourlyExposureOf
 hour-joined s k o h below waits sum m price e d f g t =
-    let u = bookIn s .setup in
-    let known : Each (Known u o) (bookIn s .part .rows) =
-    each-map (λ r w p. (w .proposer-low, w .proposer-high)) (book-is-sound s k .part-sound .rows-sound) in
-    t
-    ∙ mul-comm sum (price .0)
-    ∙ rw (g, f, e, d, ← sum-of-hour u o h known)
+    t ∙ mul-comm sum (price .0) ∙ rw (g, f, e, d, ← sum-of-hour (bookIn s .setup) o h (rows-known s k o))

@@ -30,7 +30,7 @@ use Rattle.book.specs.Members.{IsAccount}
 use Rattle.book.specs.Worth.{AccountOperators, shortWorth, spanPrice, saleWorth, PriceSums, PricedSpan, SaleInputs, TradeInRange, netWith, operatorsSize, sumsSize, mostPriceSum, mostSaleWorth}
 use Rattle.book.proofs.BookRows.{counts-in, setup-in, estimates-in, values-in}
 use Rattle.book.proofs.StateLaws.{book-is-sound}
-use Rattle.book.proofs.WorthLaws.{exposure-split}
+use Rattle.book.proofs.WorthLaws.{Known, exposure-split}
 
 -- ---- prices
 
@@ -280,6 +280,10 @@ module _ (f : Row → ℕ) where
 
 -- ---- the exposure
 
+-- the proposers of a book's rows are its accounts
+pub rows-known : (s : List ℕ) → isSound s ≡ true → (o : ℕ) → Each (Known (bookIn s .setup) o) (bookIn s .part .rows)
+rows-known s k o = each-map (λ r w p. (w .proposer-low, w .proposer-high)) (book-is-sound s k .part-sound .rows-sound)
+
 -- it is the sum of three parts, added one after the other
 pub exposure-joined : (s : List ℕ) → isSound s ≡ true → (o : ℕ) (added : List Row) → Each (TradeInRange (bookIn s .setup)) added → (below waits own two three : ℕ)
     → below ≡ shortWorth (bookIn s .setup) (netWith (bookIn s .part .rows) added) o → waits ≡ total (saleWorth (bookIn s .setup) o) (bookIn s .part .rows)
@@ -288,9 +292,7 @@ pub exposure-joined : (s : List ℕ) → isSound s ≡ true → (o : ℕ) (added
 exposure-joined s k o added t below waits own two three e d f g h =
     h
     ∙ rw (g, e, d, f)
-    (sym (exposure-split (bookIn s .setup) o (bookIn s .part .rows) added
-    (each-map (λ r w p. (w .proposer-low, w .proposer-high)) (book-is-sound s k .part-sound .rows-sound))
-    (each-map (λ r w. w .proposer-known) t)))
+    (sym (exposure-split (bookIn s .setup) o (bookIn s .part .rows) added (rows-known s k o) (each-map (λ r w. w .proposer-known) t)))
 
 -- the quantities that are added are in range
 pub trade-quantity : (u : Setup) {added : List Row} → Each (TradeInRange u) added → Each (λ r. r .quantity .0 ≤ mostEnergy) added

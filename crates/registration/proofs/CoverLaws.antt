@@ -29,6 +29,7 @@ use Rattle.book.specs.Members.{IsAccount, IsOperator}
 use Rattle.book.specs.Worth.{saleWorth, TradeInRange}
 use Rattle.book.proofs.StateLaws.{book-fits, book-is-sound, number-in-book}
 use Rattle.book.proofs.WorthLaws.{exposure-more}
+use Rattle.book.proofs.WorthParts.{rows-known}
 use Rattle.book.proofs.BookRows.{counts-in, setup-in, values-in, caller-operator}
 use Rattle.registration.specs.Cover.{coveredInForce}
 
@@ -133,7 +134,6 @@ pub exposure-with-pending : (s : List ℕ) (o : ℕ) (added : List Row) → isSo
 exposure-with-pending s o added h known waits standing more sum e d f =
     f
     ∙ rw (e, d)
-    (sym (exposure-more (bookIn s .setup) o (bookIn s .part .rows) added
-    (each-map (λ r w p. (w .proposer-low, w .proposer-high)) (book-is-sound s h .part-sound .rows-sound))
+    (sym (exposure-more (bookIn s .setup) o (bookIn s .part .rows) added (rows-known s h o)
     (each-map (λ r w p. (w .proposer-low, w .proposer-high)) known)
     waits))
