@@ -117,7 +117,9 @@ def respelled(text, path, whole, part):
     for m in TOKEN.finditer(u):
         n = m.group(0)
         if m.start() and u[m.start() - 1] == ".":
-            to = part.get(n) or ("-" not in n and whole.get(n)) or None
+            to = part.get(n) or (re.search("[A-Z]", n) and "-" not in n and whole.get(n)) or None
+        elif path.endswith(".rt") and n == n.lower() and "-" not in n:
+            to = None  # a function of src/, which keeps its name
         else:
             to = whole.get(n) or part.get(n)
         if to:

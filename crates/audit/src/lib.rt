@@ -1,4 +1,5 @@
 // Whether bytes are those of a sound book.
+#![tactic(auto)]
 pub mod asks;
 pub mod checks;
 pub mod part;

@@ -1,4 +1,5 @@
 // A sound book, read from its bytes, and opening.
+#![tactic(auto)]
 pub mod hourly;
 pub mod opening;
 pub mod positions;

@@ -22,7 +22,7 @@ use units::{CentsPerMwh, Kwh, MilliCents};
 use wire::numbers::get_u8;
 
 // What is to be added to the rows of a book.
-#[derive(Drop)]
+#[derive(Clone, Copy)]
 pub enum Added {
     Nothing,
     One(Row),

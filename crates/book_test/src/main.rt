@@ -1,5 +1,6 @@
 // Runs the cases on standard input: puts bytes into a room and prints what opening, the check of a book and the readings say of
 // them. tests/README.md has the form of a case; tests/paper.py makes the input and what is to be printed.
+#![tactic(auto)]
 mod cases;
 
 use test_lines::case_end;

@@ -1,5 +1,6 @@
 // Runs the cases on standard input: opens books, calls, reads, and prints what the public functions answer and whether a refused call
 // changed a byte; values account hours. tests/README.md has the form of a case; tests/days makes the input and what is to be printed.
+#![tactic(auto)]
 mod cases;
 mod hours;
 

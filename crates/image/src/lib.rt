@@ -1,4 +1,5 @@
 // The layout of a book, and its rows, schedules and tables in bytes.
+#![tactic(auto)]
 pub mod cells;
 pub mod layout;
 pub mod rows;

@@ -1,4 +1,5 @@
 // The replay's items and lines: the stream cut into items, and what the answers print.
+#![tactic(auto)]
 pub mod figures;
 pub mod lines;
 pub mod lists;
@@ -7,7 +8,7 @@ pub mod stream;
 pub mod text;
 
 // What is found at an offset of a stream: an item whose bytes run from `from` to `end`, one that is cut short, or nothing.
-#[derive(Drop)]
+#[derive(Clone, Copy)]
 pub enum Found {
     Whole { from: usize, end: usize },
     Cut,

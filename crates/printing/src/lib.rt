@@ -1,4 +1,5 @@
 // A replay on standard output: opens the book of a stream's set-up, answers each item, and writes the lines that they print.
+#![tactic(auto)]
 ghost use Rattle.std.specs.Prelude.{◌≡◌, ◌+◌, ◌≤◌, length};
 ghost use Rattle.rules.specs.Limits.{book_size, longest_stream};
 ghost use Rattle.replaying.specs.Lent.{step_room};
@@ -35,7 +36,7 @@ pub fn line_buffer() -> [u8; LINES_ROOM]
 }
 
 // What was read of a stream: how many bytes, and whether a read failed.
-#[derive(Drop)]
+#[derive(Clone, Copy)]
 pub struct Input {
     pub length: usize,
     pub failed: bool,

@@ -1,2 +1,3 @@
 // The schedules in order of priority.
+#![tactic(auto)]
 pub mod order;

@@ -1,5 +1,6 @@
 // Runs the cases on standard input and prints what the record reader, the range checks, the record writer and the set-up's check
 // say of each. tests/README.md has the form of a case; tests/paper.py makes the input and what is to be printed.
+#![tactic(auto)]
 mod cases;
 
 use rules::Counts;

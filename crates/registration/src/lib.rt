@@ -1,4 +1,5 @@
 // Registration on a sound book: kinds 1 to 4.
+#![tactic(auto)]
 pub mod confirm;
 pub mod cover;
 pub mod guarantee;

@@ -11,7 +11,7 @@ use rules::hours::keeps_margins;
 use setup::entries::margins;
 
 // What the search finds: the lowest hour that breaks a margin, or none.
-#[derive(Drop)]
+#[derive(Clone, Copy)]
 pub enum Broken {
     Hour(u8),
     Nowhere,

@@ -1,4 +1,5 @@
 // Replays the day on standard input.
+#![tactic(auto)]
 use printing::{book_buffer, line_buffer, read_stream, replay_day, stream_buffer};
 
 // Says on standard error what failed.

@@ -1,5 +1,6 @@
 // Replays the streams on standard input, one after the other: each is a tag, a 4-byte length and that many bytes. tests/days makes the
 // input and what is to be printed.
+#![tactic(auto)]
 ghost use Rattle.std.specs.Prelude.{◌≡◌, ◌≤◌, length};
 ghost use Rattle.rules.specs.Limits.{book_size};
 ghost use Rattle.replaying.specs.Lent.{step_room};

@@ -1,4 +1,5 @@
 // The plain values of the energy account book: what the definitions in specs/ and the code of the crates above share.
+#![tactic(auto)]
 pub mod balances;
 pub mod hours;
 pub mod kinds;
@@ -13,7 +14,7 @@ pub mod verdicts;
 use units::{Cents, CentsPerMwh, Kwh, MilliCents};
 
 // The counts of a set-up, in the order of its bytes.
-#[derive(Drop)]
+#[derive(Clone, Copy)]
 pub struct Counts {
     pub hours: u8,
     pub operators: u8,
@@ -23,21 +24,21 @@ pub struct Counts {
 }
 
 // An operator as the set-up has it. Maintenance is per thousand of the guarantee.
-#[derive(Drop)]
+#[derive(Clone, Copy)]
 pub struct Operator {
     pub guarantee: Cents,
     pub maintenance: u16,
 }
 
 // The margins of an account in an hour.
-#[derive(Drop)]
+#[derive(Clone, Copy)]
 pub struct Margins {
     pub lower: Kwh,
     pub upper: Kwh,
 }
 
 // A point. Kind: 1 injection, 2 withdrawal, 3 mixed. Injection and withdrawal are its greatest amounts per hour.
-#[derive(Drop)]
+#[derive(Clone, Copy)]
 pub struct Point {
     pub account: u8,
     pub kind: u8,
@@ -47,7 +48,7 @@ pub struct Point {
 }
 
 // A row, in the order in which it reads out. Side: 1 the proposer sells, 2 it buys. Status: 1 pending, 2 confirmed, 3 withdrawn.
-#[derive(Drop)]
+#[derive(Clone, Copy)]
 pub struct Row {
     pub proposer: u8,
     pub counterparty: u8,
@@ -60,14 +61,14 @@ pub struct Row {
 }
 
 // A net position: what an account bought in an hour less what it sold.
-#[derive(Drop)]
+#[derive(Clone, Copy)]
 pub struct Net {
     pub bought: Kwh,
     pub sold: Kwh,
 }
 
 // What an account holds in an hour: its net, and its own pending sales and purchases.
-#[derive(Drop)]
+#[derive(Clone, Copy)]
 pub struct AccountHour {
     pub net: Net,
     pub sales: Kwh,
@@ -75,14 +76,14 @@ pub struct AccountHour {
 }
 
 // A net position as it is read out, with its sign: long is plus, short is minus.
-#[derive(Drop)]
+#[derive(Clone, Copy)]
 pub enum Position {
     Long(Kwh),
     Short(Kwh),
 }
 
 // A schedule of a point in an hour. Side: 1 injects, 2 withdraws.
-#[derive(Drop)]
+#[derive(Clone, Copy)]
 pub struct Schedule {
     pub point: u8,
     pub side: u8,
@@ -92,21 +93,21 @@ pub struct Schedule {
 }
 
 // A schedule with its place, which is its order of receipt, from 1.
-#[derive(Drop)]
+#[derive(Clone, Copy)]
 pub struct Placed {
     pub place: u16,
     pub schedule: Schedule,
 }
 
 // Money with its sign, as an operator's balance: what is gained less what is lost.
-#[derive(Drop)]
+#[derive(Clone, Copy)]
 pub struct Balance {
     pub gained: MilliCents,
     pub lost: MilliCents,
 }
 
 // An account hour valued, figure by figure: its physical balance, purchase, sale, CCT and hourly amount.
-#[derive(Drop)]
+#[derive(Clone, Copy)]
 pub struct ValuedHour {
     pub physical: Net,
     pub purchase: MilliCents,
@@ -116,7 +117,7 @@ pub struct ValuedHour {
 }
 
 // A request: its kind, and the field of each bit. A field that the kind has not is 0.
-#[derive(Drop)]
+#[derive(Clone, Copy)]
 pub struct Request {
     pub kind: u8,
     pub account: u8,
@@ -134,7 +135,7 @@ pub struct Request {
 }
 
 // Why a call is refused, with the details that go with it. In the order of their numbers, 1 to 23.
-#[derive(Drop)]
+#[derive(Clone, Copy)]
 pub enum Refusal {
     NotABook,
     Unreadable,
@@ -162,27 +163,27 @@ pub enum Refusal {
 }
 
 // What a row of checks comes to: nothing applies, or a refusal does.
-#[derive(Drop)]
+#[derive(Clone, Copy)]
 pub enum Checked {
     Clear,
     Fails(Refusal),
 }
 
 // Accepted with a number, or refused.
-#[derive(Drop)]
+#[derive(Clone, Copy)]
 pub enum Verdict {
     Accepted { number: u16 },
     Refused(Refusal),
 }
 
 // The answer of a call.
-#[derive(Drop)]
+#[derive(Clone, Copy)]
 pub struct Outcome {
     pub verdict: Verdict,
 }
 
 // A verdict's number and its two details, as the paper counts them. Details not named are 0.
-#[derive(Drop)]
+#[derive(Clone, Copy)]
 pub struct Numbers {
     pub number: u8,
     pub first: u16,
@@ -190,21 +191,21 @@ pub struct Numbers {
 }
 
 // What a record reads as.
-#[derive(Drop)]
+#[derive(Clone, Copy)]
 pub enum Reading {
     Read(Request),
     Unread(Refusal),
 }
 
 // The reading of a net position.
-#[derive(Drop)]
+#[derive(Clone, Copy)]
 pub enum NetReading {
     Read(Position),
     Unread(Refusal),
 }
 
 // The reading of an exposure.
-#[derive(Drop)]
+#[derive(Clone, Copy)]
 pub enum ExposureReading {
     Read(MilliCents),
     Unread(Refusal),

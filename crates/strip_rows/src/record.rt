@@ -15,7 +15,7 @@ use rules::{Checked, Refusal};
 use wire::numbers::get_u8;
 
 // A check that is put to one row after the other: its map is readable, it is of the kind of a register, it has a register's map.
-#[derive(Drop)]
+#[derive(Clone, Copy)]
 pub enum RowPass {
     Readable,
     OfKind,

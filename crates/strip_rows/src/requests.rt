@@ -13,7 +13,7 @@ use records::ranges::trade_ranges;
 use rules::{Checked, Counts, Refusal, Request};
 
 // A check that is put to one request after the other: its fields are in range, its accounts are two.
-#[derive(Drop)]
+#[derive(Clone, Copy)]
 pub enum RequestPass {
     InRange,
     TwoAccounts,

@@ -1,4 +1,5 @@
 // What the test programs share: the cases on standard input and the lines on standard output. tests/README.md has their form.
+#![tactic(auto)]
 ghost use Rattle.std.specs.Prelude.{◌<◌, ◌≤◌, length};
 
 use libc::STDOUT_FILENO;

@@ -100,7 +100,7 @@ fn price_number(hours: u8, point: Point, x: Schedule) -> usize
 }
 
 // Whether a schedule is taken at the price that it meets.
-fn taken_at_lem(x: Schedule, met: CentsPerMwh) -> bool
+fn taken_at(x: Schedule, met: CentsPerMwh) -> bool
     ensures { result ≡ taken_at x met }
 {
     if x.side == INJECTS {
@@ -116,7 +116,7 @@ fn is_taken(prices: &[u8], hours: u8, point: Point, x: Schedule) -> bool
 {
     let number = price_number(hours, point, x);
     let met = price(prices, number);
-    taken_at_lem(x, met)
+    taken_at(x, met)
 }
 
 // The result by three tests, in their order: the point's limit is passed, the account's is, the price takes it.

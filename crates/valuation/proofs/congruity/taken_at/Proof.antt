@@ -1,8 +1,8 @@
 -- The side says which of the two prices is to be the lower.
 use borrow.Author.Tests.{eq-eqb, ne_eqb}
 use borrow.Author.Rules.{rules}
-use Rattle.valuation.proofs.congruity.taken_at_lem.Statement.{statement}
-use Rattle.valuation.proofs.congruity.taken_at_lem.Tie as tie
+use Rattle.valuation.proofs.congruity.taken_at.Statement.{statement}
+use Rattle.valuation.proofs.congruity.taken_at.Tie as tie
 
 returns : tie.Need-returns
 returns c = rw (eq-eqb _ 1 c.before.if1.true) c.at_most.ensures

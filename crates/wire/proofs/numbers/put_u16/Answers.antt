@@ -1,0 +1,6 @@
+-- The bytes of the number are copied in.
+use Rattle.std.proofs.Common.{rules}
+use Rattle.wire.proofs.numbers.put_u16.Goals as goal
+
+pub returns : goal.returns
+returns c = cc
