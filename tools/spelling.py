@@ -21,6 +21,7 @@ HEAD = re.compile(
 FIELD = re.compile(r"(?m)^  (?:pub\s+)?([a-z][^\s(){}\[\],;:.]*)\s*:\s")
 # Names that would fall together with another one, and get a name of their own.
 APART = {"fields-of": "fields_of_lem", "moved_all": "moved_all_lem", "taken_at": "taken_at_lem", "with_part": "with_part_lem", "arrayOf": "array_value"}
+APART |= {"with-asks": "with_asks_lem", "ask-stands": "ask_stands_lem", "would-register": "would_register_lem"}
 # Words of the library that lemmas are named after.
 LIBRARY = {"length", "take", "drop", "map", "set", "insert", "append", "min", "eqb", "leb", "ltb", "replicate", "get"}
 
@@ -81,6 +82,10 @@ def names(texts):
                 functions.add(snake(n))
         if os.path.basename(p) != "Proof.antt":
             fields.update(m.group(1) for m in FIELD.finditer(u))
+    # several names in one signature, constructors in one line and names given by `let` or `as`
+    for p, t in texts.items():
+        if not p.endswith(".edit"):
+            defined.update(n for n in TOKEN.findall(uncommented(t, p)) if re.match(r"[a-z]", n) and re.search("[A-Z]", n) and "-" not in n and not re.match(r"x[0-9A-F]+$", n))
     # what a walk defines for itself is named after a goal, whose name is made by Rattle
     defined |= {n for n in walks if "-" not in n}
     whole = {n: APART.get(n) or (dashed(n, functions) if "-" in n else snake(n)) for n in defined - foreign if n[:1].islower()}
@@ -89,7 +94,7 @@ def names(texts):
         if whole[n] in held and "-" in n:
             whole[n] += "_lem"
         held.setdefault(whole[n], n)
-    part = {n: n if "-" not in n and not re.search("[A-Z]", n) else snake(n).replace("-", "_") for n in fields - foreign if n[:1].islower()}
+    part = {n: APART.get(n) or (n if "-" not in n and not re.search("[A-Z]", n) else snake(n).replace("-", "_")) for n in fields - foreign if n[:1].islower()}
     return {o: n for o, n in whole.items() if o != n}, {o: n for o, n in part.items() if o != n}
 
 
@@ -125,7 +130,7 @@ def respelled(text, path, whole, part):
         if to:
             out += [text[at : m.start()], to]
             at = m.end()
-    return "".join(out) + text[at:]
+    return re.sub("\u25cc([a-z]+[A-Z][A-Za-z]*)\u25cc", lambda m: "\u25cc" + snake(m.group(1)) + "\u25cc", "".join(out) + text[at:])
 
 
 def pages(root):

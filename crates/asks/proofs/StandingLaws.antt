@@ -14,7 +14,7 @@ use Rattle.wire.proofs.RegionLaws.{splice_take_drop}
 use Rattle.wire.proofs.ZeroLaws.{zeros_read}
 use Rattle.rules.specs.declared.Row.{Row}
 use Rattle.rules.specs.declared.Refusal.{Refusal}
-use Rattle.rules.specs.Basics.{is_some, anyPasses}
+use Rattle.rules.specs.Basics.{is_some, any_passes}
 use Rattle.rules.specs.Limits.{most_accounts, most_hours, most_rows, book_size}
 use Rattle.rules.specs.Books.{Book, with_asks, ask_at, no_asks, operator_of}
 use Rattle.rules.specs.Requests.{register}
@@ -95,7 +95,7 @@ module _ (s : List ℕ) (h : is_sound s ≡ true) where
       later-falls n = falls _ (in_wrong_phase (book_in s) (register_of r) register n)
 
       module _ (alone : some_ask_twin (book_in s) ≡ false) (first : (book_in s).phase ≡ 1) where
-        no_twin : anyPasses (alike r.proposer r.counterparty r.code) (book_in s).part.rows ≡ false
+        no_twin : any_passes (alike r.proposer r.counterparty r.code) (book_in s).part.rows ≡ false
         no_twin = none_twin (book_in s) alone r (ap (ask_at (book_in s)) ask-row.own_val ∙ there)
 
         -- and where no number is left

@@ -8,7 +8,7 @@ use lib.ListN.{length, get_or}
 use lib.Dec.{eqb}
 use borrow.Author.Tests.{eqb-true, eq-eqb, not-true}
 use Rattle.rules.specs.declared.Row.{Row}
-use Rattle.rules.specs.Basics.{anyPasses, Each}
+use Rattle.rules.specs.Basics.{any_passes, Each}
 use Rattle.rules.specs.Limits.{most_accounts}
 use Rattle.rules.specs.Books.{Book, ask_at, no_row}
 use Rattle.rules.specs.Requests.{register}
@@ -49,7 +49,7 @@ twin_tested s h r x low high e = go (eqb x.status 0) refl
 module _ (b : Book) where
   -- where no row is a twin of its proposer's ask, an ask has none
   pub none_twin : some_ask_twin b ≡ false → (x : Row) → ask_at b x.proposer ≡ some x
-      → anyPasses (alike x.proposer x.counterparty x.code) b.part.rows ≡ false
+      → any_passes (alike x.proposer x.counterparty x.code) b.part.rows ≡ false
   unfolding is_ask_twin
   none_twin e x held = none_any _ (each_map (λ r f. go r (alike x.proposer x.counterparty x.code r) refl f) (any_none _ _ e))
     where
@@ -64,7 +64,7 @@ module _ (b : Book) where
   -- where every ask stands, none has one
   module _ (stand : asks_stand b ≡ true) where
     free-of-twins : (a : ℕ) (x : Row) → 1 ≤ a → a ≤ most_accounts → ask_at b a ≡ some x
-        → anyPasses (has_twin b.part.rows) (register_of x ∷ []) ≡ false
+        → any_passes (has_twin b.part.rows) (register_of x ∷ []) ≡ false
     unfolding asks_stand would_register
     free-of-twins a x low high e =
         let accepts : would_register b x ≡ true = ap (ask_stands b) (sym e) ∙ every_up_to (λ a. ask_stands b (ask_at b a)) most_accounts stand a low high in

@@ -2,7 +2,7 @@
 use Rattle.std.specs.Prelude.{ℕ, ◌+◌, ◌≤◌, ◌≡◌, List, Bool, false, length, get_or}
 use Rattle.std.proofs.Math.Option.{Option, none, some}
 use Rattle.rules.specs.declared.Row.{Row}
-use Rattle.rules.specs.Basics.{anyPasses}
+use Rattle.rules.specs.Basics.{any_passes}
 use Rattle.rules.specs.Limits.{most_operators, most_hours}
 use Rattle.rules.specs.Books.{Book, operator_count, ask_at}
 use Rattle.rules.specs.Registration.{alike, exposure}
@@ -21,7 +21,7 @@ is_ask_twin b r = twin_of (ask_at b r.proposer) r
 
 -- some row of the book is
 abbrev pub some_ask_twin : Book → Bool
-some_ask_twin b = anyPasses (is_ask_twin b) b.part.rows
+some_ask_twin b = any_passes (is_ask_twin b) b.part.rows
 
 -- how many exposures there are: one for each operator that a book can have, and one for no operator
 abbrev pub exposures_size : ℕ

@@ -12,7 +12,7 @@ use Rattle.wire.specs.Regions.{zeros_from}
 use Rattle.wire.specs.Parts.{chunks}
 use Rattle.wire.proofs.SlotLaws.{length-chunks, chunks_front}
 use Rattle.rules.specs.declared.Row.{Row}
-use Rattle.rules.specs.Basics.{if◌then◌else◌, anyPasses, every, all_of, is_some}
+use Rattle.rules.specs.Basics.{if◌then◌else◌, any_passes, every, all_of, is_some}
 use Rattle.rules.specs.Limits.{most_hours, most_operators, most_schedules, book_size}
 use Rattle.rules.specs.Books.{Setup, Part, Book}
 use Rattle.rules.specs.Opening.{counts_in, setup_of}
@@ -35,8 +35,8 @@ use Rattle.audit.proofs.ValidityLaws.{fails_with, setup_known}
 
 -- ---- schedules
 
-schedule_count : (s : List ℕ) → length (book_at most_hours s).schedules ≡ number_at s schedule_count_offset 2
-schedule_count s =
+schedule_count_lem : (s : List ℕ) → length (book_at most_hours s).schedules ≡ number_at s schedule_count_offset 2
+schedule_count_lem s =
     let room : List ℕ = take (schedule_width * most_schedules) (drop schedules_offset s) in
     length-map (chunks schedule_width (number_at s schedule_count_offset 2) room) schedule_in ∙ length-chunks schedule_width (number_at s schedule_count_offset 2) room
 
@@ -165,11 +165,11 @@ module _ (s : List ℕ) where
   present_rows o t = ap (λ (p : Part). p.rows) (part_places most_hours s present_offset (counts_in s).operators o (few_rows most_hours s present_offset t))
 
   none_left : here.part.rows ≡ rows_of s present_offset
-      → (eqb phase 1 || not (anyPasses pending here.part.rows)) ≡ (eqb phase 1 || not (anyPasses pending (rows_of s present_offset)))
-  none_left e = ap (λ (r : List Row). eqb phase 1 || not (anyPasses pending r)) e
+      → (eqb phase 1 || not (any_passes pending here.part.rows)) ≡ (eqb phase 1 || not (any_passes pending (rows_of s present_offset)))
+  none_left e = ap (λ (r : List Row). eqb phase 1 || not (any_passes pending r)) e
 
   none_yet : (not (eqb phase 1) || eqb (length here.schedules) 0) ≡ (not (eqb phase 1) || eqb (number_at s schedule_count_offset 2) 0)
-  none_yet = ap (λ (n : ℕ). not (eqb phase 1) || eqb n 0) (schedule_count s)
+  none_yet = ap (λ (n : ℕ). not (eqb phase 1) || eqb n 0) (schedule_count_lem s)
 
   none_open : (eqb phase 1 || not (is_some here.saved)) ≡ (eqb phase 1 || eqb (get_or s flag_offset 0) 0)
   none_open = ap (λ (t : Bool). eqb phase 1 || t) (no_part (get_or s flag_offset 0) most_hours (counts_in s).operators (take (part_size most_hours) (drop (saved_offset most_hours) s)))
@@ -184,7 +184,7 @@ module _ (s : List ℕ) where
       let b : part_valid most_hours s present_offset ≡ true =
       (and_both (part_ok (setup_of s) here.part) (part_exact most_hours (counts_in s).operators s present_offset)).1 (ap (λ (u : Setup). part_ok u here.part) (sym f) ∙ part, exact) in
       let e = present_rows k.operators_high b in
-      let few : number_at s schedule_count_offset 2 ≤ most_schedules = omega (arith, schedule_count s, leb-true (length here.schedules) most_schedules count) in
+      let few : number_at s schedule_count_offset 2 ≤ most_schedules = omega (arith, schedule_count_lem s, leb-true (length here.schedules) most_schedules count) in
       let each : every (schedule_ok (setup_of s)) (schedules_from s schedules_offset (number_at s schedule_count_offset 2)) ≡ true =
       ap (every (schedule_ok (setup_of s))) (sym (schedules_there s few)) ∙ ap (λ (u : Setup). every (schedule_ok u) here.schedules) (sym f) ∙ schedules in
       let together =
@@ -220,7 +220,7 @@ module _ (s : List ℕ) where
       let part = ap (λ (u : Setup). part_ok u here.part) f ∙ b.0 in
       let saved =
       ap (λ (u : Setup). saved_ok u here.part.rows here.saved) f ∙ ap (λ (r : List Row). saved_ok (setup_of s) r here.saved) e ∙ c.0 in
-      let counted = ap (λ (m : ℕ). leb m most_schedules) (schedule_count s) ∙ count in
+      let counted = ap (λ (m : ℕ). leb m most_schedules) (schedule_count_lem s) ∙ count in
       let schedules = ap (λ (u : Setup). every (schedule_ok u) here.schedules) f ∙ ap (every (schedule_ok (setup_of s))) (schedules_there s few) ∙ each in (
         holds_all (book_tests here) (setup and phased and part and saved and counted and schedules and (none_left e ∙ ended) and (none_yet ∙ early) and (none_open ∙ batch) and (ap (λ (u : Setup). asks_ok u here.asks) f ∙ o.0) and no_more),
         holds_all (book_exact_tests most_hours book_size s) (behind-setup and bare and flagged and behind-schedules and b.1 and c.1 and o.1 and d.spare_zero and no_more),

@@ -14,7 +14,7 @@ use Rattle.rules.specs.Limits.{most_energy, most_price}
 use Rattle.rules.specs.Books.{Setup, account_count, point_count, periods}
 use Rattle.rules.proofs.Basics.Tests.{chained, chained_all}
 use Rattle.image.specs.Valid.{row_ok, schedule_ok}
-use Rattle.image.proofs.Reading.RowsFrom.{cellsFrom, every_done, every_step}
+use Rattle.image.proofs.Reading.RowsFrom.{cells_from, every_done, every_step}
 
 -- the tests of a row but its first, and but that of its code
 abbrev pub row_rest : ℕ → ℕ → Row → List Bool
@@ -48,7 +48,7 @@ schedule_by_counts u x points hours p h = chained_all (within 1 x.point points) 
 
 -- the test of all entries is what was tested so far, with the test of the n entries that are left from k on
 pub record TestsLeft {A : Type 0} (read : List ℕ → A) (w : ℕ) (test : A → Bool) (s : List ℕ) (all ok : Bool) (k n : ℕ) : Type 0 where
-  pub together : all ≡ (ok && every test (cellsFrom read w s k n))
+  pub together : all ≡ (ok && every test (cells_from read w s k n))
 
 module _ {A : Type 0} {read : List ℕ → A} {w : ℕ} {test : A → Bool} {s : List ℕ} {all ok : Bool} {k n : ℕ} (left : TestsLeft read w test s all ok k n)
   where

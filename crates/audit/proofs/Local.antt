@@ -105,8 +105,8 @@ module _ (top size : ℕ) (s : List ℕ) (b : Bytes s) (l : length s ≡ size) (
   spare_place : start_of ws spare_section ≡ used_size top
   spare_place = omega arith
 
-  abbrev scheduleCount : ℕ
-  scheduleCount = number_at s schedule_count_offset 2
+  abbrev schedule_count : ℕ
+  schedule_count = number_at s schedule_count_offset 2
 
   saved_test : (saved_bytes top (book_at top s).saved ≡ take (part_size top) (drop (saved_offset top) s)) ↔ (saved_exact (get_or s flag_offset 0) top (counts_in s).operators s ≡ true)
   saved_test =
@@ -115,11 +115,11 @@ module _ (top size : ℕ) (s : List ℕ) (b : Bytes s) (l : length s ≡ size) (
   flag_test : (le 1 (flag (book_at top s).saved) ≡ le 1 (get_or s flag_offset 0)) ↔ (leb (get_or s flag_offset 0) 1 ≡ true)
   flag_test = flag_exact (get_or s flag_offset 0) top (counts_in s).operators (take (part_size top) (drop (saved_offset top) s)) (bytes_at b flag_offset)
 
-  schedule_count : le 2 (length (book_at top s).schedules) ≡ take 2 (drop schedule_count_offset s)
+  schedule_count_lem : le 2 (length (book_at top s).schedules) ≡ take 2 (drop schedule_count_offset s)
   unfolding number_at
-  schedule_count =
+  schedule_count_lem =
       let room : List ℕ = take (schedule_width * most_schedules) (drop schedules_offset s) in
-      ap (le 2) (length-map (chunks schedule_width scheduleCount room) schedule_in ∙ length-chunks schedule_width scheduleCount room)
+      ap (le 2) (length-map (chunks schedule_width schedule_count room) schedule_in ∙ length-chunks schedule_width schedule_count room)
       ∙ le-number_wide (bytes_take 2 (bytes_drop schedule_count_offset b)) 2 (length-take-le 2 (drop schedule_count_offset s) (omega (arith, length-drop schedule_count_offset s)))
 
   in_places : flat (take setup_room s ∷ take 1 (drop phase_offset s) ∷ take 1 (drop flag_offset s) ∷ take 2 (drop schedule_count_offset s)
@@ -142,8 +142,8 @@ module _ (top size : ℕ) (s : List ℕ) (b : Bytes s) (l : length s ≡ size) (
       λ k. ap (λ (y : List (List ℕ)). get_or y k []) sec ∙ cut_at ws s k in
       let t0 = setup_exact s b (omega arith) known.setup_sound (at setup_section) in
       let t2 = flag_test.0 (at flag_section ∙ byte_at flag_offset (omega arith)) in
-      let z4 = slots_zero schedule_width most_schedules schedule_bytes length-schedule schedule_in scheduleCount (take (schedule_width * most_schedules) (drop schedules_offset s)) (at schedules_section) in
-      let t4 = rest_zeros_tested ws s schedules_section (schedule_width * scheduleCount) (omega arith) (omega arith) (ap (drop (schedule_width * scheduleCount)) (cut_at ws s schedules_section) ∙ z4) in
+      let z4 = slots_zero schedule_width most_schedules schedule_bytes length-schedule schedule_in schedule_count (take (schedule_width * most_schedules) (drop schedules_offset s)) (at schedules_section) in
+      let t4 = rest_zeros_tested ws s schedules_section (schedule_width * schedule_count) (omega arith) (omega arith) (ap (drop (schedule_width * schedule_count)) (cut_at ws s schedules_section) ∙ z4) in
       let t5 = part_exact top (counts_in s).operators s present_offset b (omega arith) few known.part_sound.rows_high (at present_section) in
       let t6 = saved_test.0 (at saved_section ∙ rw saved_place) in
       let t7 = asks-exact top s (omega arith) (at asks_section ∙ rw asks_place) in
@@ -158,10 +158,10 @@ module _ (top size : ℕ) (s : List ℕ) (b : Bytes s) (l : length s ≡ size) (
       let a0 = exact_setup s b (omega arith) known.setup_sound behind lodged in
       let a1 = sym (byte_at phase_offset (omega arith)) in
       let a2 = flag_test.1 flagged ∙ sym (byte_at flag_offset (omega arith)) in
-      let a3 = schedule_count in
-      let z4 = rest_zeros_read ws s schedules_section (schedule_width * scheduleCount) (omega arith) (omega arith) schedules in
-      let a4 = slots_again schedule_width schedule_bytes schedule_in schedule_again most_schedules scheduleCount (bytes_take (schedule_width * most_schedules) (bytes_drop schedules_offset b))
-      (length-take-le (schedule_width * most_schedules) (drop schedules_offset s) (omega (arith, length-drop schedules_offset s))) few_schedules (sym (ap (drop (schedule_width * scheduleCount)) (cut_at ws s schedules_section)) ∙ z4) in
+      let a3 = schedule_count_lem in
+      let z4 = rest_zeros_read ws s schedules_section (schedule_width * schedule_count) (omega arith) (omega arith) schedules in
+      let a4 = slots_again schedule_width schedule_bytes schedule_in schedule_again most_schedules schedule_count (bytes_take (schedule_width * most_schedules) (bytes_drop schedules_offset b))
+      (length-take-le (schedule_width * most_schedules) (drop schedules_offset s) (omega (arith, length-drop schedules_offset s))) few_schedules (sym (ap (drop (schedule_width * schedule_count)) (cut_at ws s schedules_section)) ∙ z4) in
       let a5 = exact_part top (counts_in s).operators s present_offset b (omega arith) few known.part_sound.rows_high part in
       let a6 = saved_test.1 saved in
       let a7 = exact-asks top s (omega arith) b asks in

@@ -101,51 +101,51 @@ module _ (top : ℕ) (s : List ℕ) (at operators : ℕ) where
 -- ---- the tests in the order in which code makes them
 
 module _ (u : Setup) (p : Part) (behind-guarantees behind-rows nets : Bool) where
-  abbrev ofPlaces : List Bool
-  ofPlaces = behind-guarantees ∷ behind-rows ∷ nets ∷ []
+  abbrev of_places : List Bool
+  of_places = behind-guarantees ∷ behind-rows ∷ nets ∷ []
 
-  abbrev ofGuarantees : List Bool
-  ofGuarantees = every (λ g. leb g.0 most_guarantee) p.guarantees ∷ behind-guarantees ∷ []
+  abbrev of_guarantees : List Bool
+  of_guarantees = every (λ g. leb g.0 most_guarantee) p.guarantees ∷ behind-guarantees ∷ []
 
-  abbrev ofRows : List Bool
-  ofRows = every (row_ok u) p.rows ∷ behind-rows ∷ no_twins p.rows ∷ []
+  abbrev of_rows : List Bool
+  of_rows = every (row_ok u) p.rows ∷ behind-rows ∷ no_twins p.rows ∷ []
 
-  abbrev ofSums : List Bool
-  ofSums = nets ∷ margins_kept u p.rows ∷ operators_covered u p ∷ []
+  abbrev of_sums : List Bool
+  of_sums = nets ∷ margins_kept u p.rows ∷ operators_covered u p ∷ []
 
-  to_order : Holds (part_tests u p) → Holds ofPlaces → (all_of ofGuarantees && all_of ofRows && all_of ofSums) ≡ true
+  to_order : Holds (part_tests u p) → Holds of_places → (all_of of_guarantees && all_of of_rows && all_of of_sums) ≡ true
   to_order (all and guarantees and few and rows and twins and margins and includes_hour and _) (z1 and z2 and held and _) =
       holds_chain (
-      holds_all ofGuarantees (guarantees and z1 and no_more)
-      and holds_all ofRows (rows and z2 and twins and no_more)
-      and holds_all ofSums (held and margins and includes_hour and no_more)
+      holds_all of_guarantees (guarantees and z1 and no_more)
+      and holds_all of_rows (rows and z2 and twins and no_more)
+      and holds_all of_sums (held and margins and includes_hour and no_more)
       and no_more
       )
 
-  from_order : length p.guarantees ≡ operator_count u → length p.rows ≤ most_rows → Holds ofGuarantees → Holds ofRows → Holds ofSums
-      → (all_of (part_tests u p) && all_of ofPlaces) ≡ true
+  from_order : length p.guarantees ≡ operator_count u → length p.rows ≤ most_rows → Holds of_guarantees → Holds of_rows → Holds of_sums
+      → (all_of (part_tests u p) && all_of of_places) ≡ true
   from_order all few (guarantees and z1 and _) (rows and z2 and twins and _) (held and margins and includes_hour and _) =
       holds_chain (
       holds_all (part_tests u p) (eq-eqb _ _ all and guarantees and le-leb _ _ few and rows and twins and margins and includes_hour and no_more)
-      and holds_all ofPlaces (z1 and z2 and held and no_more)
+      and holds_all of_places (z1 and z2 and held and no_more)
       and no_more
       )
 
   in_order : length p.guarantees ≡ operator_count u → length p.rows ≤ most_rows
-      → (part_ok u p && all_of ofPlaces) ≡ (all_of ofGuarantees && all_of ofRows && all_of ofSums)
+      → (part_ok u p && all_of of_places) ≡ (all_of of_guarantees && all_of of_rows && all_of of_sums)
   unfolding part_ok
   in_order all few = test_same _ _ valid-first places-first
     where
-      valid-first : (part_ok u p && all_of ofPlaces) ≡ true → (all_of ofGuarantees && all_of ofRows && all_of ofSums) ≡ true
+      valid-first : (part_ok u p && all_of of_places) ≡ true → (all_of of_guarantees && all_of of_rows && all_of of_sums) ≡ true
       valid-first t =
-          let (v, z) = (and_both (all_of (part_tests u p)) (all_of ofPlaces)).0 t in
-          to_order (all_holds (part_tests u p) v) (all_holds ofPlaces z)
+          let (v, z) = (and_both (all_of (part_tests u p)) (all_of of_places)).0 t in
+          to_order (all_holds (part_tests u p) v) (all_holds of_places z)
 
-      by-sections : Holds (all_of ofGuarantees ∷ all_of ofRows ∷ all_of ofSums ∷ []) → (part_ok u p && all_of ofPlaces) ≡ true
-      by-sections (g and r and m and _) = from_order all few (all_holds ofGuarantees g) (all_holds ofRows r) (all_holds ofSums m)
+      by-sections : Holds (all_of of_guarantees ∷ all_of of_rows ∷ all_of of_sums ∷ []) → (part_ok u p && all_of of_places) ≡ true
+      by-sections (g and r and m and _) = from_order all few (all_holds of_guarantees g) (all_holds of_rows r) (all_holds of_sums m)
 
-      places-first : (all_of ofGuarantees && all_of ofRows && all_of ofSums) ≡ true → (part_ok u p && all_of ofPlaces) ≡ true
-      places-first t = by-sections (chain_holds (all_of ofGuarantees) (all_of ofRows ∷ all_of ofSums ∷ []) t)
+      places-first : (all_of of_guarantees && all_of of_rows && all_of of_sums) ≡ true → (part_ok u p && all_of of_places) ≡ true
+      places-first t = by-sections (chain_holds (all_of of_guarantees) (all_of of_rows ∷ all_of of_sums ∷ []) t)
 
 -- the number of rows that a part that stands says is in range
 pub few_rows : (top : ℕ) (s : List ℕ) (at : ℕ) → part_valid top s at ≡ true → row_count s at ≤ most_rows

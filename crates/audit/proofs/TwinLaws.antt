@@ -14,7 +14,7 @@ use borrow.Author.Tests.{ltb-true, ltb-false, eqb-true, eqb-false, eq-eqb, ne_eq
 use Rattle.wire.specs.Numbers.{Bytes}
 use Rattle.wire.proofs.NumberLaws.{number_at_small}
 use Rattle.rules.specs.declared.Row.{Row}
-use Rattle.rules.specs.Basics.{anyPasses}
+use Rattle.rules.specs.Basics.{any_passes}
 use Rattle.rules.specs.Registration.{pending, alike}
 use Rattle.rules.proofs.Basics.Tests.{test_same, and_both, or_neither}
 use Rattle.rules.proofs.Rows.RowTests.{alike_by, alike_true}
@@ -175,14 +175,14 @@ module _ (x r : Row) (k i : ℕ) (apart : k ≡ i → ⊥) (px : Parties x) (pr 
 -- ---- keys apart are rows with no twins
 
 -- a test before a search is a test before each
-any_each : {A : Type 0} (b : Bool) (p : A → Bool) (x : A) (xs : List A) → (b && anyPasses p (x ∷ xs)) ≡ ((b && p x) || (b && anyPasses p xs))
-unfolding anyPasses
+any_each : {A : Type 0} (b : Bool) (p : A → Bool) (x : A) (xs : List A) → (b && any_passes p (x ∷ xs)) ≡ ((b && p x) || (b && any_passes p xs))
+unfolding any_passes
 any_each false p x xs = refl
 any_each true p x xs = go (p x) refl
   where
-    go : (t : Bool) → p x ≡ t → anyPasses p (x ∷ xs) ≡ (p x || anyPasses p xs)
-    go true e = rw (e, anyPasses)
-    go false e = rw (e, anyPasses)
+    go : (t : Bool) → p x ≡ t → any_passes p (x ∷ xs) ≡ (p x || any_passes p xs)
+    go true e = rw (e, any_passes)
+    go false e = rw (e, any_passes)
 
 module _ {s : List ℕ} (bytes : Bytes s) (at n : ℕ) (codes pairs : List ℕ) (keyed : Keyed s at n codes pairs) where
   abbrev row : ℕ → Row
@@ -193,8 +193,8 @@ module _ {s : List ℕ} (bytes : Bytes s) (at n : ℕ) (codes pairs : List ℕ) 
 
   among_rows : (i k m : ℕ) → i < k → k + m ≡ n
       → key_among codes pairs (row i).code (pair_of i (row i)) k m
-      ≡ (pending (row i) && anyPasses (alike (row i).proposer (row i).counterparty (row i).code) (rows_from s (at + row_width * k) m))
-  unfolding key_among anyPasses
+      ≡ (pending (row i) && any_passes (alike (row i).proposer (row i).counterparty (row i).code) (rows_from s (at + row_width * k) m))
+  unfolding key_among any_passes
   among_rows i k zero l e = rw (rows_done s (at + row_width * k) 0 (omega arith)) (sym (and-false (pending (row i))))
   among_rows i k (suc m) l e =
       let h : k < n = omega arith in

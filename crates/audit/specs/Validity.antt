@@ -4,7 +4,7 @@ use Rattle.std.specs.Prelude.{ℕ, ◌+◌, ◌-◌, ◌*◌, ◌≤◌, ◌≡�
 use Rattle.wire.specs.Numbers.{number_at}
 use Rattle.wire.specs.Regions.{zeros_from}
 use Rattle.rules.specs.declared.Row.{Row}
-use Rattle.rules.specs.Basics.{if◌then◌else◌, anyPasses, every, all_of, up_to, within, Each}
+use Rattle.rules.specs.Basics.{if◌then◌else◌, any_passes, every, all_of, up_to, within, Each}
 use Rattle.rules.specs.Limits.{most_guarantee, thousand, most_operators, most_accounts, most_rows, most_schedules, most_hours, book_size}
 use Rattle.rules.specs.Books.{Part, registration_phase, settled_phase}
 use Rattle.rules.specs.Opening.{counts_in, operators_offset, setup_length, setup_of, guarantee_width}
@@ -137,7 +137,7 @@ phase_valid_tests s =
     let flag = get_or s flag_offset 0 in
     within registration_phase phase settled_phase
     ∷ leb flag 1
-    ∷ (eqb phase registration_phase || not (anyPasses pending (rows_of s present_offset)))
+    ∷ (eqb phase registration_phase || not (any_passes pending (rows_of s present_offset)))
     ∷ (not (eqb phase registration_phase) || eqb (number_at s schedule_count_offset 2) 0)
     ∷ (eqb phase registration_phase || eqb flag 0)
     ∷ []

@@ -1,6 +1,6 @@
 // The tests of rows, schedules and guarantees, one by one and side by side in bytes.
 ghost use Rattle.std.specs.Prelude.{◌≡◌, not, ◌+◌, ◌*◌, ◌≤◌, length, leb};
-ghost use Rattle.rules.specs.Basics.{anyPasses, every};
+ghost use Rattle.rules.specs.Basics.{any_passes, every};
 ghost use Rattle.rules.specs.Limits.{most_guarantee};
 ghost use Rattle.rules.specs.Books.{Setup, account_count, point_count, periods};
 ghost use Rattle.rules.specs.Registration.{pending};
@@ -79,7 +79,7 @@ pub fn schedules_ok(s: &[u8], at: usize, n: usize, points: u8, hours: u8) -> boo
 // None of the `n` rows from `at` on is pending.
 pub fn none_pending(s: &[u8], at: usize, n: usize) -> bool
     requires { at + row_width * n ≤ length s.now }
-    ensures { result ≡ not (anyPasses pending (rows_from s.now at n)) }
+    ensures { result ≡ not (any_passes pending (rows_from s.now at n)) }
 {
     let mut ok = true;
     let mut k = at;

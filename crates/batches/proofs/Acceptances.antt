@@ -15,8 +15,8 @@ use Rattle.rules.specs.declared.Checked.{Checked}
 use Rattle.rules.specs.declared.Checked.TheVariants.{Clear, Fails}
 use Rattle.rules.specs.Limits.{most_hours, book_size}
 use Rattle.rules.specs.Verdicts.{accepted, checked}
-use Rattle.rules.specs.Requests.{open_batch, undo, keep, closeGate}
-use Rattle.rules.specs.Calls.{restored, given, savePart, restorePart, dropSaved, shut_gate}
+use Rattle.rules.specs.Requests.{open_batch, undo, keep, close_gate}
+use Rattle.rules.specs.Calls.{restored, given, save_part, restore_part, drop_saved, shut_gate}
 use Rattle.rules.proofs.Checks.Clearing.{checked-same}
 use Rattle.rules.proofs.Checks.Passed.{passed_11, passed_12, passed_13}
 use Rattle.image.specs.Layout.{row_width, phase_offset, present_offset, saved_offset, row_offset}
@@ -41,7 +41,7 @@ module _ (s t : List ℕ) (h : is_sound s ≡ true) where
       (e
       ∙ ap batch_opened (book_image s h)
       ∙ write_saved most_hours book_size (book_in s) (book_fits s h) (omega arith))
-      (apply_keeps savePart (book_in s) (book_is_sound s h) (passed_11 (book_in s) (q ∷ []) open_batch (decided_clear open_batch (book_in s) q (d q)))))
+      (apply_keeps save_part (book_in s) (book_is_sound s h) (passed_11 (book_in s) (q ∷ []) open_batch (decided_clear open_batch (book_in s) q (d q)))))
 
   -- by what is wrong with it
   pub opening_answered : (fault : Checked) → ((q : Request) → fault ≡ checked (decided open_batch (book_in s) q))
@@ -64,7 +64,7 @@ module _ (s t : List ℕ) (h : is_sound s ≡ true) where
       (e
       ∙ ap (λ (x : List ℕ). batch_ended (part_copied x (saved_offset most_hours) present_offset)) (book_image s h)
       ∙ write_restored most_hours book_size (book_in s) (book_fits s h) p (omega arith) saved)
-      (apply_keeps restorePart (book_in s) (book_is_sound s h) (passed_11 (book_in s) (q ∷ []) undo clear)))
+      (apply_keeps restore_part (book_in s) (book_is_sound s h) (passed_11 (book_in s) (q ∷ []) undo clear)))
 
   -- 7: the saved part cleared, and the flag
   pub kept_answered : ((q : Request) → decided keep (book_in s) q ≡ none) → t ≡ batch_ended s → AnsweredAll keep s (accepted 0) t
@@ -74,17 +74,17 @@ module _ (s t : List ℕ) (h : is_sound s ≡ true) where
       (e
       ∙ ap batch_ended (book_image s h)
       ∙ write_dropped most_hours book_size (book_in s) (book_fits s h))
-      (apply_keeps dropSaved (book_in s) (book_is_sound s h) (passed_11 (book_in s) (q ∷ []) keep (decided_clear keep (book_in s) q (d q)))))
+      (apply_keeps drop_saved (book_in s) (book_is_sound s h) (passed_11 (book_in s) (q ∷ []) keep (decided_clear keep (book_in s) q (d q)))))
 
   -- 8: a loop over the rows, and the phase
-  pub closed_answered : (n : ℕ) → ((q : Request) → decided closeGate (book_in s) q ≡ none) → n ≡ length (book_in s).part.rows
+  pub closed_answered : (n : ℕ) → ((q : Request) → decided close_gate (book_in s) q ≡ none) → n ≡ length (book_in s).part.rows
       → t ≡ splice (sweep ended row_width s (present_offset + row_offset 0) n) phase_offset (le 1 2)
-      → AnsweredAll closeGate s (accepted 0) t
+      → AnsweredAll close_gate s (accepted 0) t
   unfolding given
   closed_answered n d count e =
-      answered_all closeGate s (accepted 0) t (λ q. accepted_answered closeGate s q h t 0 (d q) refl
+      answered_all close_gate s (accepted 0) t (λ q. accepted_answered close_gate s q h t 0 (d q) refl
       (e
       ∙ ap (λ (x : List ℕ). splice (sweep ended row_width x (present_offset + row_offset 0) n) phase_offset (le 1 2)) (book_image s h)
       ∙ write_closed most_hours book_size (book_in s) (book_fits s h) n (present_offset + row_offset 0) count
       (statuses_small (book_is_sound s h).part_sound.rows_sound) refl)
-      (apply_keeps shut_gate (book_in s) (book_is_sound s h) (passed_12 (book_in s) (q ∷ []) closeGate refl (decided_clear closeGate (book_in s) q (d q)))))
+      (apply_keeps shut_gate (book_in s) (book_is_sound s h) (passed_12 (book_in s) (q ∷ []) close_gate refl (decided_clear close_gate (book_in s) q (d q)))))

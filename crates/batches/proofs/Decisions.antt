@@ -12,8 +12,8 @@ use Rattle.rules.specs.declared.Refusal.TheVariants.{BatchOpen, NoBatch}
 use Rattle.rules.specs.Basics.{is_some}
 use Rattle.rules.specs.Verdicts.{first_to_apply}
 use Rattle.rules.specs.Books.{Book}
-use Rattle.rules.specs.Requests.{Kind, open_batch, undo, keep, closeGate, kind_number}
-use Rattle.rules.specs.Calls.{◌oneOf◌, phase_of, state_checks}
+use Rattle.rules.specs.Requests.{Kind, open_batch, undo, keep, close_gate, kind_number}
+use Rattle.rules.specs.Calls.{◌one_of◌, phase_of, state_checks}
 use Rattle.rules.proofs.Checks.KindTables.{same_kind}
 use Rattle.rules.proofs.Checks.Passed.{passed_13}
 use Rattle.book.specs.Kinds.{decided}
@@ -37,15 +37,15 @@ module _ (P : Kind → Type 0) (i j k : Kind) where
 module _ (b : Book) (q : Request) where
   module _ (first : b.phase ≡ 1) where
     -- refusal 12 of opening a batch and of closing the gate
-    pub with-batch : (k : Kind) → k one_of (open_batch ∷ closeGate ∷ []) ≡ true → is_some b.saved ≡ true → decided k b q ≡ some BatchOpen
+    pub with-batch : (k : Kind) → k one_of (open_batch ∷ close_gate ∷ []) ≡ true → is_some b.saved ≡ true → decided k b q ≡ some BatchOpen
     unfolding decided state_checks first_to_apply
     with-batch k m o =
-        of_two (λ i. decided i b q ≡ some BatchOpen) open_batch closeGate k m (rw (eq-eqb _ 1 first, o)) (rw (eq-eqb _ 1 first, o))
+        of_two (λ i. decided i b q ≡ some BatchOpen) open_batch close_gate k m (rw (eq-eqb _ 1 first, o)) (rw (eq-eqb _ 1 first, o))
 
-    pub outside-batch : (k : Kind) → k one_of (open_batch ∷ closeGate ∷ []) ≡ true → is_some b.saved ≡ false → decided k b q ≡ none
+    pub outside-batch : (k : Kind) → k one_of (open_batch ∷ close_gate ∷ []) ≡ true → is_some b.saved ≡ false → decided k b q ≡ none
     unfolding decided state_checks first_to_apply
     outside-batch k m o =
-        of_two (λ i. decided i b q ≡ none) open_batch closeGate k m (rw (eq-eqb _ 1 first, o)) (rw (eq-eqb _ 1 first, o))
+        of_two (λ i. decided i b q ≡ none) open_batch close_gate k m (rw (eq-eqb _ 1 first, o)) (rw (eq-eqb _ 1 first, o))
 
     -- refusal 13 of undo and of keep
     pub without-batch : (k : Kind) → k one_of (undo ∷ keep ∷ []) ≡ true → is_some b.saved ≡ false → decided k b q ≡ some NoBatch
@@ -59,8 +59,8 @@ module _ (b : Book) (q : Request) where
         of_two (λ i. decided i b q ≡ none) undo keep k m (rw (eq-eqb _ 1 first, o)) (rw (eq-eqb _ 1 first, o))
 
 -- the phase of the two kinds that want no open batch, and of the two that want one
-pub phase_outside : (k : Kind) → k one_of (open_batch ∷ closeGate ∷ []) ≡ true → phase_of k ≡ 1
-phase_outside k m = of_two (λ i. phase_of i ≡ 1) open_batch closeGate k m refl refl
+pub phase_outside : (k : Kind) → k one_of (open_batch ∷ close_gate ∷ []) ≡ true → phase_of k ≡ 1
+phase_outside k m = of_two (λ i. phase_of i ≡ 1) open_batch close_gate k m refl refl
 
 pub phase_inside : (k : Kind) → k one_of (undo ∷ keep ∷ []) ≡ true → phase_of k ≡ 1
 phase_inside k m = of_two (λ i. phase_of i ≡ 1) undo keep k m refl refl

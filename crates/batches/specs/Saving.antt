@@ -11,7 +11,7 @@ use Rattle.rules.specs.Limits.{most_hours}
 use Rattle.rules.specs.Verdicts.{accepted, refused, checked}
 use Rattle.rules.specs.Books.{Book}
 use Rattle.rules.specs.Requests.{Kind}
-use Rattle.rules.specs.Calls.{◌oneOf◌}
+use Rattle.rules.specs.Calls.{◌one_of◌}
 use Rattle.image.specs.Layout.{flag_offset, present_offset, saved_offset}
 use Rattle.book.specs.Kinds.{decided}
 use Rattle.batches.specs.Rooms.{part_copied, part_cleared}

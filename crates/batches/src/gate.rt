@@ -3,7 +3,7 @@ ghost use Rattle.std.specs.Prelude.{◌≡◌, true, ◌+◌, ◌*◌, ◌≤◌
 ghost use Rattle.wire.specs.Regions.{splice};
 ghost use Rattle.wire.specs.Parts.{sweep};
 ghost use Rattle.rules.specs.declared.Request.{Request};
-ghost use Rattle.rules.specs.Requests.{closeGate};
+ghost use Rattle.rules.specs.Requests.{close_gate};
 ghost use Rattle.image.specs.Layout.{row_width};
 ghost use Rattle.image.specs.Changes.{ended};
 ghost use Rattle.image.specs.Valid.{is_sound, book_in, book_bytes};
@@ -45,8 +45,8 @@ fn end_rows(s: &mut [u8], from: usize, n: u16)
 // Kind 8: withdraws all pending rows and goes over to schedules.
 pub fn close_gate(book: &mut [u8]) -> Outcome
     requires { is_sound book.old ≡ true }
-    ensures answer { (q : Request) → result ≡ outcome_on closeGate (book_in book.old) q }
-    ensures bytes { (q : Request) → book.new ≡ book_bytes (book_after closeGate (book_in book.old) q) }
+    ensures answer { (q : Request) → result ≡ outcome_on close_gate (book_in book.old) q }
+    ensures bytes { (q : Request) → book.new ≡ book_bytes (book_after close_gate (book_in book.old) q) }
     ensures still { is_sound book.new ≡ true }
 {
     if let Checked::Fails(r) = outside_batch(book) {

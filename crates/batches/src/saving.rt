@@ -3,7 +3,7 @@ ghost use Rattle.std.specs.Prelude.{◌≡◌, true, [], ◌∷◌, ◌≤◌, l
 ghost use Rattle.wire.specs.Regions.{Apart};
 ghost use Rattle.rules.specs.declared.Request.{Request};
 ghost use Rattle.rules.specs.Limits.{most_hours, most_rows, book_size};
-ghost use Rattle.rules.specs.Requests.{open_batch, undo, keep, closeGate};
+ghost use Rattle.rules.specs.Requests.{open_batch, undo, keep, close_gate};
 ghost use Rattle.image.specs.Layout.{saved_offset, part_size};
 ghost use Rattle.image.specs.Valid.{is_sound, book_in, book_bytes};
 ghost use Rattle.book.specs.Kinds.{outcome_on, book_after};
@@ -22,7 +22,7 @@ use wire::regions::{clear_at, copy_within};
 // What opening a batch and closing the gate are refused for.
 pub fn outside_batch(book: &[u8]) -> Checked
     requires { is_sound book.now ≡ true }
-    ensures { FaultOfEach (open_batch ∷ closeGate ∷ []) (book_in book.now) result }
+    ensures { FaultOfEach (open_batch ∷ close_gate ∷ []) (book_in book.now) result }
 {
     if phase(book) != REGISTRATION {
         return Checked::Fails(Refusal::WrongPhase);

@@ -14,7 +14,7 @@ use Rattle.rules.specs.declared.Refusal.TheVariants.{WrongPhase}
 use Rattle.rules.specs.Limits.{most_hours, book_size}
 use Rattle.rules.specs.Verdicts.{first_to_apply, accepted, refused}
 use Rattle.rules.specs.Books.{Book}
-use Rattle.rules.specs.Requests.{Kind, register, confirm, withdraw, guarantee, open_batch, undo, keep, closeGate, schedule, settle, strip, ask, commit, request_of}
+use Rattle.rules.specs.Requests.{Kind, register, confirm, withdraw, guarantee, open_batch, undo, keep, close_gate, schedule, settle, strip, ask, commit, request_of}
 use Rattle.rules.specs.Calls.{phase_of, checked_as, state_checks, changed, given}
 use Rattle.rules.proofs.Checks.Clearing.{Clear, clear}
 use Rattle.image.specs.Valid.{is_sound, book_in, book_bytes}
@@ -37,7 +37,7 @@ phase_checked guarantee = refl
 phase_checked open_batch = refl
 phase_checked undo = refl
 phase_checked keep = refl
-phase_checked closeGate = refl
+phase_checked close_gate = refl
 phase_checked schedule = refl
 phase_checked settle = refl
 phase_checked strip = refl

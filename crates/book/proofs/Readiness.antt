@@ -11,7 +11,7 @@ use Rattle.rules.specs.Basics.{bit, nil, cons}
 use Rattle.rules.specs.Limits.{most_rows}
 use Rattle.rules.specs.Books.{Book, counts_of, operator_count}
 use Rattle.rules.specs.Requests.{Kind, withdraw, guarantee, settle, strip, kind_number, wanted_map, field_count, in_range, faulty_bit_among}
-use Rattle.rules.specs.Calls.{Call, ◌oneOf◌, input_checks}
+use Rattle.rules.specs.Calls.{Call, ◌one_of◌, input_checks}
 use Rattle.rules.proofs.Basics.Tests.{within_true}
 use Rattle.rules.proofs.Checks.Clearing.{Clear}
 use Rattle.rules.proofs.Checks.Passed.{Asked, field_in_range}

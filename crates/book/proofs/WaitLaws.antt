@@ -12,7 +12,7 @@ use lib.Dec.{eqb}
 use borrow.Author.Tests.{eq-eqb, ne_eqb}
 use Rattle.wire.specs.Numbers.{number_at}
 use Rattle.rules.specs.declared.Row.{Row}
-use Rattle.rules.specs.Basics.{if◌then◌else◌, total, anyPasses, nth}
+use Rattle.rules.specs.Basics.{if◌then◌else◌, total, any_passes, nth}
 use Rattle.rules.specs.Limits.{most_energy, most_hours}
 use Rattle.rules.specs.Books.{no_row}
 use Rattle.rules.specs.Registration.{pending, includes_hour, alike, waiting}
@@ -175,17 +175,17 @@ own_alike r a counterparty code e d = rw (e, eq-eqb r.proposer a d)
 
 module _ (p : Row → Bool) (rows : List Row) where
   pub told_next : (n : ℕ) (found here : Bool) → 1 ≤ n → n ≤ length rows → here ≡ p (nth rows n no_row)
-      → found || anyPasses p (drop (n - 1) rows) ≡ anyPasses p rows → (found || here) || anyPasses p (drop (n + 1 - 1) rows) ≡ anyPasses p rows
+      → found || any_passes p (drop (n - 1) rows) ≡ any_passes p rows → (found || here) || any_passes p (drop (n + 1 - 1) rows) ≡ any_passes p rows
   told_next zero found here low high e h = absurd (omega arith)
   told_next (suc i) found here low high e h =
       let this : suc i - 1 ≡ i = omega arith in
       let next : suc i + 1 - 1 ≡ suc i = omega arith in
-      let split : anyPasses p (drop i rows) ≡ here || anyPasses p (drop (suc i) rows) =
+      let split : any_passes p (drop i rows) ≡ here || any_passes p (drop (suc i) rows) =
       rw (drop-cons rows i no_row (omega arith), e) (any_step p (get_or rows i no_row) (drop (suc i) rows)) in
-      rw next (or_assoc found here (anyPasses p (drop (suc i) rows)) ∙ ap (λ (b : Bool). found || b) (sym split) ∙ rw this at h)
+      rw next (or_assoc found here (any_passes p (drop (suc i) rows)) ∙ ap (λ (b : Bool). found || b) (sym split) ∙ rw this at h)
 
-  pub told_last : (k : ℕ) (found : Bool) → k ≡ length rows → found || anyPasses p (drop k rows) ≡ anyPasses p rows → found ≡ anyPasses p rows
-  unfolding anyPasses
+  pub told_last : (k : ℕ) (found : Bool) → k ≡ length rows → found || any_passes p (drop k rows) ≡ any_passes p rows → found ≡ any_passes p rows
+  unfolding any_passes
   told_last k found e h = sym (or-false found) ∙ rw (e, drop-length rows) at h
 
 -- a side and an hour of the set-up have their cell

@@ -36,23 +36,23 @@ at_price price q true false false false = mul-zero price
 -- ---- amounts of energy by account and hour, at estimated prices
 
 module _ (u : Setup) (o : ℕ) where
-  unfoldable worthOf : (ℕ → ℕ → ℕ) → ℕ
-  worthOf f = of_operator u (λ a. total (λ h. (estimate_at u h).0 * f a h) (up_to (periods u))) o
+  unfoldable worth_of : (ℕ → ℕ → ℕ) → ℕ
+  worth_of f = of_operator u (λ a. total (λ h. (estimate_at u h).0 * f a h) (up_to (periods u))) o
 
-  worth_cong : (f g : ℕ → ℕ → ℕ) → ((a h : ℕ) → f a h ≡ g a h) → worthOf f ≡ worthOf g
-  unfolding worthOf
+  worth_cong : (f g : ℕ → ℕ → ℕ) → ((a h : ℕ) → f a h ≡ g a h) → worth_of f ≡ worth_of g
+  unfolding worth_of
   worth_cong f g e =
       operator_cong u o _ _ (λ a. total_cong _ _ (up_to (periods u)) (λ h. ap (λ (x : ℕ). (estimate_at u h).0 * x) (e a h)))
 
-  worth_add : (f g : ℕ → ℕ → ℕ) → worthOf (λ a h. f a h + g a h) ≡ worthOf f + worthOf g
-  unfolding worthOf
+  worth_add : (f g : ℕ → ℕ → ℕ) → worth_of (λ a h. f a h + g a h) ≡ worth_of f + worth_of g
+  unfolding worth_of
   worth_add f g =
       operator_cong u o _ _ (λ a.
       total_cong _ _ (up_to (periods u)) (λ h. mul-add (estimate_at u h).0 (f a h) (g a h)) ∙ total_add _ _ (up_to (periods u)))
       ∙ operator_add u o _ _
 
-  worth_none : worthOf (λ a h. 0) ≡ 0
-  unfolding worthOf
+  worth_none : worth_of (λ a h. 0) ≡ 0
+  unfolding worth_of
   worth_none =
       operator_cong u o _ (λ a. 0) (λ a.
       total_cong _ (λ h. 0) (up_to (periods u)) (λ h. mul-zero (estimate_at u h).0) ∙ total_zero (up_to (periods u)))
@@ -65,12 +65,12 @@ module _ (u : Setup) (o : ℕ) where
   Known r = pending r ≡ true → (1 ≤ r.proposer) × (r.proposer ≤ account_count u)
 
   -- the quantity of a row in the hour where it is a pending sale of the account, and else nothing
-  abbrev saleShare : Row → ℕ → ℕ → ℕ
-  saleShare r a h = counted (pending_of 1 a h) r
+  abbrev sale_share : Row → ℕ → ℕ → ℕ
+  sale_share r a h = counted (pending_of 1 a h) r
 
   -- its sum over the hours, at estimated prices
   account_sale : (r : Row) (a : ℕ)
-      → total (λ h. (estimate_at u h).0 * saleShare r a h) (up_to (periods u))
+      → total (λ h. (estimate_at u h).0 * sale_share r a h) (up_to (periods u))
       ≡ (if pending r && eqb r.side 1 && eqb r.proposer a then r.quantity.0 * span_price u r else 0)
   unfolding span_price
   account_sale r a =
@@ -83,24 +83,24 @@ module _ (u : Setup) (o : ℕ) where
       go false = total_zero (up_to (periods u))
 
   -- its sum over the operator's accounts is what the row adds to the exposure
-  sale_worth : (r : Row) → Known r → worthOf (saleShare r) ≡ sale_worth u o r
-  unfolding worthOf sale_worth
+  sale_worth : (r : Row) → Known r → worth_of (sale_share r) ≡ sale_worth u o r
+  unfolding worth_of sale_worth
   sale_worth r known =
       operator_cong u o _ _ (account_sale r)
       ∙ operator_one u o r.proposer (r.quantity.0 * span_price u r) (pending r) (eqb r.side 1) known
 
   -- the pending sales of rows are the sum of what each row adds
-  sales_worth : {rows : List Row} → Each Known rows → worthOf (pending_sales rows) ≡ total (sale_worth u o) rows
+  sales_worth : {rows : List Row} → Each Known rows → worth_of (pending_sales rows) ≡ total (sale_worth u o) rows
   unfolding waiting total
   sales_worth nil = worth_none
   sales_worth (cons {x = r} {xs = rows} known e) =
-      worth_add (saleShare r) (pending_sales rows) ∙ omega (arith, sale_worth r known, sales_worth e)
+      worth_add (sale_share r) (pending_sales rows) ∙ omega (arith, sale_worth r known, sales_worth e)
 
   -- ---- the exposure with rows that are to be added
 
   -- an exposure is what lies below zero, and what each row adds as a pending sale
   exposure_parts : {rows : List Row} → Each Known rows → exposure u rows o ≡ short_worth u (net_of rows) o + total (sale_worth u o) rows
-  unfolding exposure_of worthOf short_worth account_short
+  unfolding exposure_of worth_of short_worth account_short
   exposure_parts {rows} known =
       let below : ℕ → ℕ → ℕ = λ a h. sold rows a h - bought rows a h in
       omega (arith, worth_add below (pending_sales rows), sales_worth known)
@@ -123,7 +123,7 @@ module _ (u : Setup) (o : ℕ) where
 
   -- an hour that takes a row once confirmed, while the pending row is still counted, is exposed to that row twice
   confirmed_hour : (rows : List Row) (n a h : ℕ) → pending (nth rows n no_row) ≡ true
-      → exposed (after_trade a h (account_hour rows a h) (with_status 2 (nth rows n no_row))) ≡ exposed (account_hour (mark n 2 rows) a h) + saleShare (nth rows n no_row) a h
+      → exposed (after_trade a h (account_hour rows a h) (with_status 2 (nth rows n no_row))) ≡ exposed (account_hour (mark n 2 rows) a h) + sale_share (nth rows n no_row) a h
   unfolding after_trade
   confirmed_hour rows n a h e =
       rw e (omega (arith, moved_confirm buyer a h (λ status r. refl) rows n e, moved_confirm seller a h (λ status r. refl) rows n e, waiting_end 1 a h rows n 2 e refl))
@@ -131,9 +131,9 @@ module _ (u : Setup) (o : ℕ) where
   pub with_confirmed : (rows : List Row) (row : Row) (n : ℕ) → 1 ≤ n → n ≤ length rows → row ≡ nth rows n no_row → pending row ≡ true
       → (1 ≤ row.proposer) × (row.proposer ≤ account_count u)
       → exposure_with u rows (with_status 2 row ∷ []) o ≡ exposure u (mark n 2 rows) o + sale_worth u o row
-  unfolding exposure_of worthOf
+  unfolding exposure_of worth_of
   with_confirmed rows row n low high e p known =
-      worth_cong (λ a h. exposed (after_trade a h (account_hour rows a h) (with_status 2 row))) (λ a h. exposed (account_hour (mark n 2 rows) a h) + saleShare row a h)
+      worth_cong (λ a h. exposed (after_trade a h (account_hour rows a h) (with_status 2 row))) (λ a h. exposed (account_hour (mark n 2 rows) a h) + sale_share row a h)
       (λ a h. rw e (confirmed_hour rows n a h (rw e at p)))
-      ∙ worth_add (λ a h. exposed (account_hour (mark n 2 rows) a h)) (saleShare row)
+      ∙ worth_add (λ a h. exposed (account_hour (mark n 2 rows) a h)) (sale_share row)
       ∙ ap (λ (x : ℕ). exposure u (mark n 2 rows) o + x) (sale_worth row (λ q. known))

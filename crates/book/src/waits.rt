@@ -1,6 +1,6 @@
 // The pending rows of one account in a table: for each hour the sum of its pending sales, then for each hour that of its pending purchases.
 ghost use Rattle.std.specs.Prelude.{◌≡◌, true, ◌+◌, ◌-◌, ◌≤◌, length, get_or};
-ghost use Rattle.rules.specs.Basics.{anyPasses};
+ghost use Rattle.rules.specs.Basics.{any_passes};
 ghost use Rattle.rules.specs.Limits.{most_energy, most_hours};
 ghost use Rattle.rules.specs.Registration.{alike};
 ghost use Rattle.image.specs.Valid.{is_sound, book_in};
@@ -78,7 +78,7 @@ pub fn no_waits() -> [u32; WAITS_SIZE]
 pub fn fill_waits(table: &mut [u32], book: &[u8], account: u8, counterparty: u8, code: u64) -> bool
     requires { (table.old ≡ no_waits) × (is_sound book.now ≡ true) }
     ensures waits { WaitsOf (book_in book.now).part.rows account table.new }
-    ensures tells { result ≡ anyPasses (alike account counterparty code) (book_in book.now).part.rows }
+    ensures tells { result ≡ any_passes (alike account counterparty code) (book_in book.now).part.rows }
 {
     let n = row_count(book);
     let mut found = false;

@@ -17,7 +17,7 @@ use Rattle.rules.specs.Limits.{most_hours, book_size}
 use Rattle.rules.specs.Verdicts.{refused}
 use Rattle.rules.specs.Books.{Book, with_asks, no_asks}
 use Rattle.rules.specs.Requests.{settle, room, field_in, reading, is_strip, field_bytes, write, unless_refused}
-use Rattle.rules.specs.Calls.{Call, Answer, Gives, call_kind, call_requests, changed, ◌oneOf◌, refusal, step, uncleared}
+use Rattle.rules.specs.Calls.{Call, Answer, Gives, call_kind, call_requests, changed, ◌one_of◌, refusal, step, uncleared}
 use Rattle.rules.specs.Asks.{clears_asks}
 use Rattle.rules.proofs.Records.RoundTrip.{read_writes_back}
 use Rattle.rules.proofs.Checks.Passed.{passed, passed_asked}
@@ -97,10 +97,10 @@ strip-given s c is o t x =
 
 -- of a settle
 pub settle-given : (s bytes prices results balances : List ℕ) (q : Request) → Bytes bytes → reading bytes ≡ Read q → q.kind ≡ 10
-    → (o : Outcome) (t newResults newBalances : List ℕ)
-    → GivesSound (settle_answer s prices results balances) o t newResults newBalances
-    → GivesSound (change_answer s (call_with bytes prices results balances)) o t newResults newBalances
-settle-given s bytes prices results balances q b e k o t newResults newBalances x =
+    → (o : Outcome) (t new_results new_balances : List ℕ)
+    → GivesSound (settle_answer s prices results balances) o t new_results new_balances
+    → GivesSound (change_answer s (call_with bytes prices results balances)) o t new_results new_balances
+settle-given s bytes prices results balances q b e k o t new_results new_balances x =
     rw (settle_answered s bytes prices results balances q b e k) x
 
 -- ---- asks cleared

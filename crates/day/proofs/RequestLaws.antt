@@ -22,7 +22,7 @@ use Rattle.rules.specs.Verdicts.{◌⇒◌, ◌⇒↑◌, first_to_apply, checke
 use Rattle.rules.specs.Books.{Book, counts_of}
 use Rattle.rules.specs.Opening.{counts_in}
 use Rattle.rules.specs.Requests.{Kind, register, settle, strip, ask, is_single, kind_number, kind_of, field_in, request_of, read_checks, reading_of, reading, is_strip, Fits, faulty_bit, faulty_bit_among, same_accounts, range_checks}
-use Rattle.rules.specs.Calls.{Call, Answer, refused_on, call_requests, call_kind, ◌oneOf◌, checked_as, bytes_checks, input_checks, refusal}
+use Rattle.rules.specs.Calls.{Call, Answer, refused_on, call_requests, call_kind, ◌one_of◌, checked_as, bytes_checks, input_checks, refusal}
 use Rattle.rules.proofs.Basics.Tests.{and_both}
 use Rattle.rules.proofs.Checks.Clearing.{checked-same, clear, spared, spared↑}
 use Rattle.rules.proofs.Checks.Passed.{kind_number_lem, single_requests}

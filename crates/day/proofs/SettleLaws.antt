@@ -17,8 +17,8 @@ use Rattle.rules.specs.Books.{Book, operator_count}
 use Rattle.rules.specs.Requests.{Kind, settle, filled}
 use Rattle.rules.specs.Registration.{net_of}
 use Rattle.rules.specs.Settlement.{prices_in, settled, balance, results, balances, balance_figure, balance_bytes, figures_in}
-use Rattle.rules.specs.Calls.{Call, Settled, drawn_up, call_kind, call_requests, worked_out, settles, refusal, answer, balances_after, ◌oneOf◌, input_checks, step, settlement}
-use Rattle.rules.specs.Lists.{is_acceptance, accepts, acceptsAs}
+use Rattle.rules.specs.Calls.{Call, Settled, drawn_up, call_kind, call_requests, worked_out, settles, refusal, answer, balances_after, ◌one_of◌, input_checks, step, settlement}
+use Rattle.rules.specs.Lists.{is_acceptance, accepts, accepts_as}
 use Rattle.rules.proofs.Basics.Tests.{and_both}
 use Rattle.rules.proofs.Basics.Searches.{each_map, any_none, counting-length}
 use Rattle.rules.proofs.Basics.Differences.{difference_most}
@@ -37,15 +37,15 @@ each_made f (x ∷ xs) h = cons (h x) (each_made f xs h)
 
 module _ (b : Book) (c : Call) where
   -- the prices that settle is lent
-  abbrev pub lentPrices : List CentsPerMwh
-  lentPrices = prices_in b.setup c.prices
+  abbrev pub lent_prices : List CentsPerMwh
+  lent_prices = prices_in b.setup c.prices
 
   -- what settle works out on the book
   abbrev pub worked : Settled
   worked =
       record {
-        results = results b.setup (net_of b.part.rows) lentPrices b.schedules;
-        balances = balances b.setup (net_of b.part.rows) lentPrices b.schedules;
+        results = results b.setup (net_of b.part.rows) lent_prices b.schedules;
+        balances = balances b.setup (net_of b.part.rows) lent_prices b.schedules;
       }
 
   pub balances_many : length worked.balances ≡ operator_count b.setup
@@ -63,7 +63,7 @@ module _ (b : Book) (c : Call) where
   writes_go none e h =
       let w = worked_go (call_kind c) e in (w, ap (λ (o : Option Settled). balances_after o c.balances) w)
 
-  module _ (h : acceptsAs step (settle ∷ []) b c ≡ true) where
+  module _ (h : accepts_as step (settle ∷ []) b c ≡ true) where
     both : (accepts step b c ≡ true) × (call_kind c one_of (settle ∷ []) ≡ true)
     both = (and_both (accepts step b c) (call_kind c one_of (settle ∷ []))).0 h
 
@@ -75,11 +75,11 @@ module _ (b : Book) (c : Call) where
     settle-writes = writes_go (refusal b c) is-settle both.0
 
     -- every price is in range
-    pub prices-in-range : Each (λ p. p.0 ≤ most_price) lentPrices
+    pub prices-in-range : Each (λ p. p.0 ≤ most_price) lent_prices
     prices-in-range =
         let p = accepts_passed b c both.0 in
         let i : Clear (input_checks b c settle (call_requests c)) = rw is-settle at p.input in
-        each_map (λ x e. ltb-false _ _ e) (any_none _ lentPrices (passed_6_prices b c (call_requests c) i))
+        each_map (λ x e. ltb-false _ _ e) (any_none _ lent_prices (passed_6_prices b c (call_requests c) i))
 
     module _ (v : valid b ≡ true) where
       -- no balance goes beyond what a day can move
@@ -87,10 +87,10 @@ module _ (b : Book) (c : Call) where
       unfolding balances
       balances-small =
           let ok = book_sound b (valid_sound b v) in
-          let js = settled b.setup (net_of b.part.rows) lentPrices b.schedules in
-          let figure : ℕ → ℤ = λ o. balance_figure (balance b.setup (net_of b.part.rows) lentPrices js o) in
+          let js = settled b.setup (net_of b.part.rows) lent_prices b.schedules in
+          let figure : ℕ → ℤ = λ o. balance_figure (balance b.setup (net_of b.part.rows) lent_prices js o) in
           rw map-map (each_made {P = λ z. nat_abs z ≤ most_money} figure (up_to (operator_count b.setup)) (λ o.
-          difference_most _ _ most_money (settled-gained-most b ok lentPrices prices-in-range o) (settled-lost-most b ok lentPrices prices-in-range o)))
+          difference_most _ _ most_money (settled-gained-most b ok lent_prices prices-in-range o) (settled-lost-most b ok lent_prices prices-in-range o)))
 
       -- the figures in the buffer sum to what the balances sum to
       pub written-total : sum_of (figures_in (operator_count b.setup) (step b c).balances) ≡ sum_of (map balance_figure worked.balances)

@@ -9,7 +9,7 @@ use Rattle.rules.specs.Limits.{most_hours, book_size}
 use Rattle.rules.specs.Verdicts.{outcome_of}
 use Rattle.rules.specs.Books.{Book}
 use Rattle.rules.specs.Requests.{Kind, settle, unless_refused}
-use Rattle.rules.specs.Calls.{Call, refused_on, call_requests, call_kind, changed, given, ◌oneOf◌, refusal, settles, answer, step, uncleared}
+use Rattle.rules.specs.Calls.{Call, refused_on, call_requests, call_kind, changed, given, ◌one_of◌, refusal, settles, answer, step, uncleared}
 use Rattle.image.specs.Valid.{is_sound, book_bytes, book_in}
 use Rattle.image.proofs.Round.{sound_is_image}
 use Rattle.day.specs.Answers.{change_answer}

@@ -13,15 +13,15 @@ use Rattle.rules.specs.Books.{Setup, Book, account_count, operator_count}
 use Rattle.rules.specs.Opening.{setup_of, setup_refusal, open_refusal, opened}
 use Rattle.rules.specs.Requests.{settle}
 use Rattle.rules.specs.Registration.{net_of, figure}
-use Rattle.rules.specs.Settlement.{prices_in, registeredTotal, figures_in}
+use Rattle.rules.specs.Settlement.{prices_in, registered_total, figures_in}
 use Rattle.rules.specs.Calls.{Call, Answer, step}
-use Rattle.rules.specs.Lists.{runs, after, acceptsAs, UndoneBatch, EmptyKeptBatch, Matched}
+use Rattle.rules.specs.Lists.{runs, after, accepts_as, UndoneBatch, EmptyKeptBatch, Matched}
 use Rattle.rules.specs.Asks.{AskCommitted, CommittedAsAsked}
 use Rattle.rules.specs.Ledger.{new_ledger, fed_all, ledger_after, ledger_net}
 use Rattle.rules.proofs.Checks.Clearing.{clear, clear_applies}
 use Rattle.rules.proofs.Ledgers.Agreement.{day_agrees}
 use Rattle.rules.proofs.Ledgers.LedgerReadings.{net_is_the_ledgers, hour_is_the_ledgers, exposure_is_the_ledgers, available_is_the_ledgers}
-use Rattle.rules.proofs.Ledgers.LedgerDay.{dayBook, dayLedger, day_setup, day_settled}
+use Rattle.rules.proofs.Ledgers.LedgerDay.{day_book, day_ledger, day_setup, day_settled}
 use Rattle.rules.proofs.Settling.SettledTotal.{Owned}
 use Rattle.rules.proofs.Basics.Searches.{first_and_rest, each_map}
 use Rattle.rules.proofs.Lists.CallLists.{matched}
@@ -58,38 +58,38 @@ module _ (setup : List ℕ) (h : setup_refusal setup ≡ none) where
       }
 
   module _ (cs : List Call) (bytes : OfBytes cs) where
-    bytes-are : after call_answer fresh cs ≡ book_bytes (dayBook setup cs)
+    bytes-are : after call_answer fresh cs ≡ book_bytes (day_book setup cs)
     bytes-are = after-carried books_in_bytes (opened setup) cs bytes (opened_valid setup h)
 
-    ledger-is : ledger_after call_answer setup fresh cs ≡ dayLedger setup cs
+    ledger-is : ledger_after call_answer setup fresh cs ≡ day_ledger setup cs
     ledger-is = ap (fed_all (new_ledger setup)) (heard-carried books_in_bytes (opened setup) cs bytes (opened_valid setup h))
 
-    nets-are : net_of (dayBook setup cs).part.rows ≡ ledger_net (dayLedger setup cs)
-    nets-are = fun_ext (λ a. fun_ext (λ k. net_is_the_ledgers (dayBook setup cs) (dayLedger setup cs) (day_agrees setup cs) a k))
+    nets-are : net_of (day_book setup cs).part.rows ≡ ledger_net (day_ledger setup cs)
+    nets-are = fun_ext (λ a. fun_ext (λ k. net_is_the_ledgers (day_book setup cs) (day_ledger setup cs) (day_agrees setup cs) a k))
 
     -- in each hour net positions sum to zero
-    nets_cancel : (k : ℕ) → sum_of (map (λ a. figure (ledger_net (dayLedger setup cs) a k)) (up_to (account_count (setup_of setup)))) ≡ pos 0
+    nets_cancel : (k : ℕ) → sum_of (map (λ a. figure (ledger_net (day_ledger setup cs) a k)) (up_to (account_count (setup_of setup)))) ≡ pos 0
     nets_cancel k =
         ap (λ (net : ℕ → ℕ → Net). sum_of (map (λ a. figure (net a k)) (up_to (account_count (setup_of setup))))) (sym nets-are)
-        ∙ ap (λ (u : Setup). sum_of (map (λ a. figure (net_of (dayBook setup cs).part.rows a k)) (up_to (account_count u)))) (sym (reachable_setup setup h cs bytes))
+        ∙ ap (λ (u : Setup). sum_of (map (λ a. figure (net_of (day_book setup cs).part.rows a k)) (up_to (account_count u)))) (sym (reachable_setup setup h cs bytes))
         ∙ reachable_nets_cancel setup h cs bytes k
 
     -- an accepted settle on the bytes after the list
-    settle-total : (c : Call) → acceptsAs call_answer (settle ∷ []) (after call_answer fresh cs) c ≡ true
+    settle-total : (c : Call) → accepts_as call_answer (settle ∷ []) (after call_answer fresh cs) c ≡ true
         → sum_of (figures_in (operator_count (setup_of setup)) (call_answer (after call_answer fresh cs) c).balances)
-        ≡ registeredTotal (setup_of setup) (ledger_net (dayLedger setup cs)) (prices_in (setup_of setup) c.prices) (dayLedger setup cs).page.schedules
+        ≡ registered_total (setup_of setup) (ledger_net (day_ledger setup cs)) (prices_in (setup_of setup) c.prices) (day_ledger setup cs).page.schedules
     settle-total c e =
-        let b = dayBook setup cs in
+        let b = day_book setup cs in
         let v = reachable_valid setup h cs bytes in
-        let accepted : acceptsAs step (settle ∷ []) b c ≡ true = sym (accepts_carried books_in_bytes (settle ∷ []) b c v) ∙ (rw bytes-are at e) in
+        let accepted : accepts_as step (settle ∷ []) b c ≡ true = sym (accepts_carried books_in_bytes (settle ∷ []) b c v) ∙ (rw bytes-are at e) in
         let answer = ap (λ (s : List ℕ). call_answer s c) bytes-are ∙ call_on_image b v c in
         let count : operator_count (setup_of setup) ≡ operator_count b.setup = ap (λ (u : Setup). operator_count u) (sym (reachable_setup setup h cs bytes)) in
-        let l = dayLedger setup cs in
+        let l = day_ledger setup cs in
         ap (λ (x : Answer (List ℕ)). sum_of (figures_in (operator_count (setup_of setup)) x.balances)) answer
         ∙ ap (λ (n : ℕ). sum_of (figures_in n (step b c).balances)) count
         ∙ written-total b c accepted v
         ∙ (day_settled setup cs owned c _ (settle-writes b c accepted).0).total
-        ∙ ap (λ (u : Setup). registeredTotal u (ledger_net l) (prices_in u c.prices) l.page.schedules) (day_setup setup cs)
+        ∙ ap (λ (u : Setup). registered_total u (ledger_net l) (prices_in u c.prices) l.page.schedules) (day_setup setup cs)
 
   -- an undone batch in the list, matched with an empty kept one
   batch_matched : (before : List Call) (opening : Call) (between : List Call) (undoing : Call) (rest : List Call)
@@ -100,7 +100,7 @@ module _ (setup : List ℕ) (h : setup_refusal setup ≡ none) where
   batch_matched before opening between undoing rest bytes batch other keeping others empty =
       let calls : List Call = opening ∷ between ++ undoing ∷ [] in
       let instead : List Call = other ∷ keeping ∷ [] in
-      let b : Book = dayBook setup before in
+      let b : Book = day_book setup before in
       let parts = each_split before calls (each_split (before ++ calls) rest bytes).0 in
       let v = reachable_valid setup h before parts.0 in
       let there = bytes-are before parts.0 in
@@ -121,7 +121,7 @@ module _ (setup : List ℕ) (h : setup_refusal setup ≡ none) where
       → CommittedAsAsked call_answer (after call_answer fresh before) asking between committing
   ask_committed before asking between committing rest bytes pair =
       let calls : List Call = asking ∷ between ++ committing ∷ [] in
-      let b : Book = dayBook setup before in
+      let b : Book = day_book setup before in
       let parts = each_split before calls (each_split (before ++ calls) rest bytes).0 in
       let v = reachable_valid setup h before parts.0 in
       let there = bytes-are before parts.0 in
@@ -131,8 +131,8 @@ module _ (setup : List ℕ) (h : setup_refusal setup ≡ none) where
 
   fresh_promise : (cs : List Call) → OfBytes cs → Promise setup fresh cs
   fresh_promise cs bytes =
-      let b = dayBook setup cs in
-      let l = dayLedger setup cs in
+      let b = day_book setup cs in
+      let l = day_ledger setup cs in
       let g = day_agrees setup cs in
       let v = reachable_valid setup h cs bytes in
       let at = bytes-are cs bytes in

@@ -8,9 +8,9 @@ use Rattle.rules.specs.Opening.{setup_of}
 use Rattle.rules.specs.Requests.{settle}
 use Rattle.rules.specs.Registration.{figure, low, high}
 use Rattle.rules.specs.Readings.{net_read_out, exposure_read_out}
-use Rattle.rules.specs.Settlement.{prices_in, registeredTotal, figures_in}
+use Rattle.rules.specs.Settlement.{prices_in, registered_total, figures_in}
 use Rattle.rules.specs.Calls.{Call}
-use Rattle.rules.specs.Lists.{after, acceptsAs, UndoneBatch, EmptyKeptBatch, Matched}
+use Rattle.rules.specs.Lists.{after, accepts_as, UndoneBatch, EmptyKeptBatch, Matched}
 use Rattle.rules.specs.Asks.{AskCommitted, CommittedAsAsked}
 use Rattle.rules.specs.Ledger.{Ledger, ledger_after, ledger_net, ledger_hour, ledger_exposure, ledger_available}
 use Rattle.book.specs.Answers.{net_answer, exposure_answer, hourly_exposure_answer}
@@ -67,9 +67,9 @@ module _ (setup start : List ℕ) where
     -- the ledger's schedules and net: injections and mixed withdrawals at zone price, other withdrawals at PUN, withdrawals negative
     pub balances-total : (before : List Call) (c : Call) (rest : List Call)
         → cs ≡ before ++ c ∷ rest
-        → acceptsAs call_answer (settle ∷ []) (book before) c ≡ true
+        → accepts_as call_answer (settle ∷ []) (book before) c ≡ true
         → sum_of (figures_in (operator_count (setup_of setup)) (call_answer (book before) c).balances)
-        ≡ registeredTotal
+        ≡ registered_total
         (setup_of setup)
         (ledger_net (ledger before))
         (prices_in (setup_of setup) c.prices)

@@ -4,7 +4,7 @@ use Rattle.std.proofs.Math.Option.{Option, none, some}
 use Rattle.units.specs.Units.{cents}
 use Rattle.rules.specs.declared.Row.{Row}
 use Rattle.rules.specs.declared.Schedule.{Schedule}
-use Rattle.rules.specs.Basics.{anyPasses, every, all_of, is_some, nth, up_to, within}
+use Rattle.rules.specs.Basics.{any_passes, every, all_of, is_some, nth, up_to, within}
 use Rattle.rules.specs.Limits.{most_energy, most_price, most_guarantee, most_rows, most_schedules, most_accounts, most_hours, book_size}
 use Rattle.rules.specs.Books.{Account, Setup, Part, Book, counts_of, operator_count, account_count, point_count, periods, margins_at, selling_side, buying_side, pending_status, withdrawn_status, injecting_side, withdrawing_side, registration_phase, settled_phase}
 use Rattle.rules.specs.Opening.{bad_counts, operators_of, faulty_offset}
@@ -64,7 +64,7 @@ schedule_ok u x = all_of (schedule_tests u x)
 -- no two pending rows are alike in proposer, counterparty and code
 unfoldable pub no_twins : List Row → Bool
 no_twins [] = true
-no_twins (r ∷ rs) = not (pending r && anyPasses (alike r.proposer r.counterparty r.code) rs) && no_twins rs
+no_twins (r ∷ rs) = not (pending r && any_passes (alike r.proposer r.counterparty r.code) rs) && no_twins rs
 
 -- the account keeps its margins in every hour, each with the pair of that hour
 abbrev pub account_keeps : Setup → List Row → ℕ → Bool
@@ -122,7 +122,7 @@ book_tests b =
     ∷ saved_ok b.setup b.part.rows b.saved
     ∷ leb (length b.schedules) most_schedules
     ∷ every (schedule_ok b.setup) b.schedules
-    ∷ (eqb b.phase registration_phase || not (anyPasses pending b.part.rows))
+    ∷ (eqb b.phase registration_phase || not (any_passes pending b.part.rows))
     ∷ (not (eqb b.phase registration_phase) || eqb (length b.schedules) 0)
     ∷ (eqb b.phase registration_phase || not (is_some b.saved))
     ∷ asks_ok b.setup b.asks

@@ -1,7 +1,7 @@
 // One line of the replay, put into a lent buffer. Each function gives the offset past the line.
 ghost use Rattle.std.specs.Prelude.{◌+◌, ◌≤◌, length};
 ghost use Rattle.rules.specs.Settlement.{balance_figure};
-ghost use Rattle.rules.specs.Replay.{line_text, answered, result as resultLine, balance as balanceLine, sum, cut, long};
+ghost use Rattle.rules.specs.Replay.{line_text, answered, result as result_line, balance as balance_line, sum, cut, long};
 ghost use Rattle.items.specs.Written.{Written, line_room};
 
 use crate::text::{put_bytes, put_figure, put_number};
@@ -22,7 +22,7 @@ pub fn put_answered(out: &mut [u8], at: usize, item: u64, numbers: Numbers) -> u
 // Puts `s place result`.
 pub fn put_result(out: &mut [u8], at: usize, place: u64, res: u8) -> usize
     requires { at + line_room ≤ length out.old }
-    ensures written { Written out.old at (line_text (resultLine place res)) out.new result }
+    ensures written { Written out.old at (line_text (result_line place res)) out.new result }
     ensures upper_bound { result ≤ at + line_room }
 {
     let place_at = put_bytes(out, at, b"s ");
@@ -33,7 +33,7 @@ pub fn put_result(out: &mut [u8], at: usize, place: u64, res: u8) -> usize
 // Puts `o operator balance`.
 pub fn put_balance(out: &mut [u8], at: usize, operator: u64, balance: Balance) -> usize
     requires { at + line_room ≤ length out.old }
-    ensures written { Written out.old at (line_text (balanceLine operator (balance_figure balance))) out.new result }
+    ensures written { Written out.old at (line_text (balance_line operator (balance_figure balance))) out.new result }
     ensures upper_bound { result ≤ at + line_room }
 {
     let operator_at = put_bytes(out, at, b"o ");

@@ -1,7 +1,7 @@
 // Text put into a lent buffer: bytes, numbers in decimal, and signed figures. Each function gives the offset past what it put.
 ghost use Rattle.std.specs.Prelude.{[], ◌∷◌, ◌++◌, ◌+◌, ◌≤◌, length};
 ghost use Rattle.rules.specs.Settlement.{balance_figure};
-ghost use Rattle.rules.specs.Replay.{decimal as decimalText, signed_decimal};
+ghost use Rattle.rules.specs.Replay.{decimal as decimal_text, signed_decimal};
 ghost use Rattle.items.specs.Written.{Written};
 
 use io::decimal;
@@ -20,7 +20,7 @@ pub fn put_bytes(out: &mut [u8], at: usize, bytes: &[u8]) -> usize
 // Puts the number in decimal.
 pub fn put_decimal(out: &mut [u8], at: usize, n: u64) -> usize
     requires { at + 20 ≤ length out.old }
-    ensures written { Written out.old at (decimalText n) out.new result }
+    ensures written { Written out.old at (decimal_text n) out.new result }
     ensures upper_bound { result ≤ at + 20 }
 {
     let mut digits = [0u8; 20];
@@ -31,7 +31,7 @@ pub fn put_decimal(out: &mut [u8], at: usize, n: u64) -> usize
 // Puts the number in decimal, and `end` behind it.
 pub fn put_number(out: &mut [u8], at: usize, n: u64, end: u8) -> usize
     requires { at + 21 ≤ length out.old }
-    ensures written { Written out.old at (decimalText n ++ end ∷ []) out.new result }
+    ensures written { Written out.old at (decimal_text n ++ end ∷ []) out.new result }
     ensures upper_bound { result ≤ at + 21 }
 {
     let past = put_decimal(out, at, n);

@@ -4,7 +4,7 @@ use mathlib.Core.Option.{none, some}
 use borrow.Author.Tests.{lt-leb}
 use Rattle.rules.specs.declared.Request.{Request}
 use Rattle.rules.specs.declared.Refusal.TheVariants.{WrongPhase, AlreadyPending, StripTwins, RowsFull, MarginBroken, Uncovered}
-use Rattle.rules.specs.Basics.{anyPasses}
+use Rattle.rules.specs.Basics.{any_passes}
 use Rattle.rules.specs.Limits.{most_rows}
 use Rattle.rules.specs.Verdicts.{first_to_apply}
 use Rattle.rules.specs.Books.{Book, operator_of}
@@ -29,11 +29,11 @@ module _ (b : Book) (qs : List Request) where
 
   module _ (first : b.phase ≡ 1) where
     -- refusal 14: a pending row is like one of them
-    pub twin_pending : anyPasses (has_twin b.part.rows) qs ≡ true → first_to_apply (state_checks b register qs) ≡ some AlreadyPending
+    pub twin_pending : any_passes (has_twin b.part.rows) qs ≡ true → first_to_apply (state_checks b register qs) ≡ some AlreadyPending
     unfolding state_checks first_to_apply
     twin_pending e = rw (eq-eqb _ 1 first, e)
 
-    module _ (alone : anyPasses (has_twin b.part.rows) qs ≡ false) where
+    module _ (alone : any_passes (has_twin b.part.rows) qs ≡ false) where
       -- refusal 22: two of them are alike
       pub twins-among : twins qs ≡ true → first_to_apply (state_checks b register qs) ≡ some StripTwins
       unfolding state_checks first_to_apply

@@ -5,7 +5,7 @@ use mathlib.Core.Option.{none, some}
 use Rattle.rules.specs.declared.Row.{Row}
 use Rattle.rules.specs.declared.Request.{Request}
 use Rattle.rules.specs.declared.Refusal.TheVariants.{AlreadyPending, RowsFull, MarginBroken, Uncovered}
-use Rattle.rules.specs.Basics.{anyPasses, nil, cons}
+use Rattle.rules.specs.Basics.{any_passes, nil, cons}
 use Rattle.rules.specs.Limits.{most_hours, most_rows, book_size}
 use Rattle.rules.specs.Verdicts.{accepted}
 use Rattle.rules.specs.Books.{Book, operator_of}
@@ -44,14 +44,14 @@ ready_proposes k b q e r =
 
 -- one request is like no other
 one_alone : (q : Request) → twins (q ∷ []) ≡ false
-unfolding twins anyPasses
+unfolding twins any_passes
 one_alone q = refl
 
 -- a row is like it, or none is
-one_standing : (rows : List Row) (q : Request) (t : Bool) → has_twin rows q ≡ t → anyPasses (has_twin rows) (q ∷ []) ≡ t
-unfolding anyPasses
-one_standing rows q true e = rw (e, anyPasses)
-one_standing rows q false e = rw (e, anyPasses)
+one_standing : (rows : List Row) (q : Request) (t : Bool) → has_twin rows q ≡ t → any_passes (has_twin rows) (q ∷ []) ≡ t
+unfolding any_passes
+one_standing rows q true e = rw (e, any_passes)
+one_standing rows q false e = rw (e, any_passes)
 
 pub proposing : (b : Book) (q : Request) → Proposing b q → Addable b (q ∷ [])
 proposing b q p =
@@ -64,12 +64,12 @@ proposing b q p =
 
 module _ (b : Book) (q : Request) (first : b.phase ≡ 1) where
   -- refusal 14: a pending row has the same parties and code
-  pub twin_pending : anyPasses (alike q.account q.other q.code) b.part.rows ≡ true → decided register b q ≡ some AlreadyPending
+  pub twin_pending : any_passes (alike q.account q.other q.code) b.part.rows ≡ true → decided register b q ≡ some AlreadyPending
   unfolding decided
   twin_pending e = Adding.twin_pending b (q ∷ []) first (one_standing b.part.rows q true e)
 
   -- refusal 15: no number is left
-  pub no_number_left : anyPasses (alike q.account q.other q.code) b.part.rows ≡ false → most_rows ≤ length b.part.rows
+  pub no_number_left : any_passes (alike q.account q.other q.code) b.part.rows ≡ false → most_rows ≤ length b.part.rows
       → decided register b q ≡ some RowsFull
   unfolding decided
   no_number_left alone h = Adding.no-numbers-left b (q ∷ []) first (one_standing b.part.rows q false alone) (one_alone q) (omega arith)

@@ -4,7 +4,7 @@ use Rattle.wire.specs.Numbers.{le}
 use Rattle.wire.specs.Regions.{splice}
 use Rattle.rules.specs.declared.Row.{Row}
 use Rattle.rules.specs.declared.Request.{Request}
-use Rattle.rules.specs.Basics.{anyPasses}
+use Rattle.rules.specs.Basics.{any_passes}
 use Rattle.rules.specs.Limits.{most_rows}
 use Rattle.rules.specs.Books.{Book, registration_phase}
 use Rattle.rules.specs.Registration.{proposed, alike, has_twin, twins}
@@ -15,7 +15,7 @@ use Rattle.image.specs.Valid.{row_ok}
 -- in the phase of registration, requests whose rows are like none that is pending and like no other, and there is a number for each
 pub record Addable (b : Book) (qs : List Request) : Type 0 where
   pub in_registration : b.phase ≡ registration_phase
-  pub none_standing : anyPasses (has_twin b.part.rows) qs ≡ false
+  pub none_standing : any_passes (has_twin b.part.rows) qs ≡ false
   pub none_alike : twins qs ≡ false
   pub has_room : length b.part.rows + length qs ≤ most_rows
 
@@ -27,7 +27,7 @@ ProposesRow b q = row_ok b.setup (proposed q) ≡ true
 pub record Proposing (b : Book) (q : Request) : Type 0 where
   pub proposes : ProposesRow b q
   pub in_registration : b.phase ≡ registration_phase
-  pub no_twin : anyPasses (alike q.account q.other q.code) b.part.rows ≡ false
+  pub no_twin : any_passes (alike q.account q.other q.code) b.part.rows ≡ false
   pub has_room : length b.part.rows < most_rows
 
 -- the row put after the n that there are, and counted

@@ -17,8 +17,8 @@ use Rattle.rules.specs.Verdicts.{Numbers, numbers}
 use Rattle.rules.specs.Books.{Book, operator_count}
 use Rattle.rules.specs.Requests.{Kind, settle, kind_number}
 use Rattle.rules.specs.Settlement.{results, figures_in}
-use Rattle.rules.specs.Calls.{Call, call_kind, settles, refusal, answer, results_after, ◌oneOf◌, step, worked_out, settlement}
-use Rattle.rules.specs.Lists.{is_acceptance, accepts, acceptsAs}
+use Rattle.rules.specs.Calls.{Call, call_kind, settles, refusal, answer, results_after, ◌one_of◌, step, worked_out, settlement}
+use Rattle.rules.specs.Lists.{is_acceptance, accepts, accepts_as}
 use Rattle.rules.specs.Replay.{call_of, answered, answer_lines, settled_lines, line_text, text}
 use Rattle.rules.proofs.Basics.Searches.{each_map, counting-length}
 use Rattle.rules.proofs.Checks.Passed.{Passed, bytes_kind, readable}
@@ -56,7 +56,7 @@ module _ (b : Book) (item : List ℕ) where
   settles_go false e = refl
 
   -- an item settles where it is accepted and its third byte is 10
-  pub settles_by_third : acceptsAs step (settle ∷ []) b (call_of item) ≡ (accepts step b (call_of item) && eqb (get_or item 2 0) 10)
+  pub settles_by_third : accepts_as step (settle ∷ []) b (call_of item) ≡ (accepts step b (call_of item) && eqb (get_or item 2 0) 10)
   settles_by_third = settles_go (accepts step b (call_of item)) refl
 
 -- nothing without a third byte does
@@ -81,7 +81,7 @@ module _ (b : Book) (c : Call) where
   unsettled_go none h = others (call_kind c) h
 
   -- a call that is no accepted settle works out nothing
-  unsettled : acceptsAs step (settle ∷ []) b c ≡ false → settlement b c ≡ none
+  unsettled : accepts_as step (settle ∷ []) b c ≡ false → settlement b c ≡ none
   unfolding step settlement
   unsettled h = unsettled_go (refusal b c) h
 
@@ -98,7 +98,7 @@ module _ (b : Book) (c : Call) where
   unfolding results
   results_many = length-map (up_to (length b.schedules)) _ ∙ counting-length (length b.schedules) 1
 
-  module _ (v : valid b ≡ true) (h : acceptsAs step (settle ∷ []) b c ≡ true) where
+  module _ (v : valid b ≡ true) (h : accepts_as step (settle ∷ []) b c ≡ true) where
     small : SmallBalances (worked b c).balances
     small = each_map (λ z m. omega arith) (balances-small b c h v)
 
@@ -129,7 +129,7 @@ module _ (number : ℕ) (o : Outcome) (v : Numbers) (t : Bool) (n : ℕ) (rs : L
 -- ---- an item
 
 module _ (b : Book) (v : valid b ≡ true) (item : List ℕ) where
-  prints_go : (number : ℕ) (t : Bool) → acceptsAs step (settle ∷ []) b (call_of item) ≡ t
+  prints_go : (number : ℕ) (t : Bool) → accepts_as step (settle ∷ []) b (call_of item) ≡ t
       → answer_text number (step b (call_of item)).outcome t (length b.schedules) (step b (call_of item)).results (operator_count b.setup) (step b (call_of item)).balances
       ≡ text (answer_lines number b (call_of item))
   unfolding answer_text answer_lines text
@@ -138,7 +138,7 @@ module _ (b : Book) (v : valid b ≡ true) (item : List ℕ) where
 
   module _ {o : Outcome} {t : Bool} (outcome : o ≡ (step b (call_of item)).outcome) (flag : t ≡ (is_acceptance o.verdict && eqb (get_or item 2 0) 10)) where
     -- the test of the code is whether the item settles
-    flagged : acceptsAs step (settle ∷ []) b (call_of item) ≡ t
+    flagged : accepts_as step (settle ∷ []) b (call_of item) ≡ t
     flagged = settles_by_third b item ∙ sym (flag ∙ rw outcome)
 
     -- what the code prints is the answer's lines

@@ -11,7 +11,7 @@ use Rattle.rules.specs.Requests.{register, ask, commit, kind_number, field_in, r
 use Rattle.rules.specs.Registration.{proposed, register_of}
 use Rattle.rules.specs.Calls.{Call, Answer, state_checks}
 use Rattle.rules.specs.Strips.{with_bytes}
-use Rattle.rules.specs.Lists.{is_acceptance, wasAccepted, wasAcceptedAs, runs, after, acceptsAs}
+use Rattle.rules.specs.Lists.{is_acceptance, was_accepted, was_accepted_as, runs, after, accepts_as}
 
 -- ---- the asks of a book
 
@@ -51,22 +51,22 @@ call_account c = (request_of c.bytes).account
 
 module _ {B : Type 0} (answer : B → Call → Answer B) where
   -- no accepted call of the list is an ask of the account
-  unfoldable pub noAskOf : ℕ → B → List Call → Bool
-  noAskOf a b cs = every (λ x. not (wasAcceptedAs (ask ∷ []) x && eqb (call_account x.call) a)) (runs answer b cs)
+  unfoldable pub no_ask_of : ℕ → B → List Call → Bool
+  no_ask_of a b cs = every (λ x. not (was_accepted_as (ask ∷ []) x && eqb (call_account x.call) a)) (runs answer b cs)
 
   -- every accepted call of the list is an ask
-  unfoldable pub onlyAsks : B → List Call → Bool
-  onlyAsks b cs = every (λ x. not (wasAccepted x) || wasAcceptedAs (ask ∷ []) x) (runs answer b cs)
+  unfoldable pub only_asks : B → List Call → Bool
+  only_asks b cs = every (λ x. not (was_accepted x) || was_accepted_as (ask ∷ []) x) (runs answer b cs)
 
   -- an accepted ask, calls of which none is an accepted ask of its account, and an accepted commit of that account
   pub record AskCommitted (b : B) (asking : Call) (between : List Call) (committing : Call) : Type 0 where
-    pub asks : acceptsAs answer (ask ∷ []) b asking ≡ true
-    pub latest : noAskOf (call_account asking) (after answer b (asking ∷ [])) between ≡ true
-    pub commits : acceptsAs answer (commit ∷ []) (after answer b (asking ∷ between)) committing ≡ true
+    pub asks : accepts_as answer (ask ∷ []) b asking ≡ true
+    pub latest : no_ask_of (call_account asking) (after answer b (asking ∷ [])) between ≡ true
+    pub commits : accepts_as answer (commit ∷ []) (after answer b (asking ∷ between)) committing ≡ true
     pub own : call_account committing ≡ call_account asking
 
   -- every accepted call between them is an ask, and the commit is answered as its ask was
   pub record CommittedAsAsked (b : B) (asking : Call) (between : List Call) (committing : Call) : Type 0 where
-    pub only-asks : onlyAsks (after answer b (asking ∷ [])) between ≡ true
+    pub only-asks : only_asks (after answer b (asking ∷ [])) between ≡ true
     pub same_answer : (answer (after answer b (asking ∷ between)) committing).outcome ≡ (answer b asking).outcome
     pub same_row : proposed (request_of committing.bytes) ≡ proposed (request_of asking.bytes)

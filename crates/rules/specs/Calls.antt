@@ -10,11 +10,11 @@ use Rattle.rules.specs.declared.Request.{Request}
 use Rattle.rules.specs.declared.Outcome.{Outcome}
 use Rattle.rules.specs.declared.Refusal.{Refusal}
 use Rattle.rules.specs.declared.Refusal.TheVariants.{WrongLength, OutOfRange, SameAccount, BufferShort, WrongPhase, BatchOpen, NoBatch, AlreadyPending, RowsFull, NoSuchRow, NotMirrored, MarginBroken, Uncovered, SchedulesFull, StripTwins, NoStandingAsk}
-use Rattle.rules.specs.Basics.{if◌then◌else◌, anyPasses, is_some, nth, put}
+use Rattle.rules.specs.Basics.{if◌then◌else◌, any_passes, is_some, nth, put}
 use Rattle.rules.specs.Limits.{most_price, most_schedules}
 use Rattle.rules.specs.Verdicts.{Check, ◌⇒◌, ◌⇒↑◌, first_to_apply, accepted, refused}
 use Rattle.rules.specs.Books.{Setup, Part, Book, with_phase, with_part, with_schedules, with_saved, with_asks, with_guarantees, with_rows, no_row, ask_at, no_asks, operator_of, operator_count, counts_of, confirmed_status, withdrawn_status, registration_phase, schedules_phase, settled_phase}
-use Rattle.rules.specs.Requests.{Kind, register, confirm, withdraw, guarantee, open_batch, undo, keep, closeGate, schedule, settle, strip, ask, commit, kind_number, kind_of, field_in, is_strip, read_checks, strip_checks, requests_of, first_of, faulty_bit_among, same_accounts, filled, unless_refused}
+use Rattle.rules.specs.Requests.{Kind, register, confirm, withdraw, guarantee, open_batch, undo, keep, close_gate, schedule, settle, strip, ask, commit, kind_number, kind_of, field_in, is_strip, read_checks, strip_checks, requests_of, first_of, faulty_bit_among, same_accounts, filled, unless_refused}
 use Rattle.rules.specs.Registration.{proposed, stands_with, has_twin, twins, rows_pass, confirms, withdraws, mirrors, mark, closed, broken_hour, covered, net_of}
 use Rattle.rules.specs.Settlement.{price_count, prices_in, results, balances, balance_bytes}
 
@@ -34,8 +34,8 @@ abbrev pub call_requests : Call → List Request
 call_requests c = requests_of c.bytes
 
 -- the kind is one of these
-infix 40 ◌oneOf◌
-abbrev pub ◌oneOf◌ : Kind → List Kind → Bool
+infix 40 ◌one_of◌
+abbrev pub ◌one_of◌ : Kind → List Kind → Bool
 k one_of [] = false
 k one_of (j ∷ js) = eqb (kind_number k) (kind_number j) || k one_of js
 
@@ -49,7 +49,7 @@ pub data Change : Type 0 where
   -- the operator's guarantee is replaced
   set_guarantee : ℕ → Cents → Change
   -- a batch opens, is undone, is kept
-  savePart restorePart dropSaved : Change
+  save_part restore_part drop_saved : Change
   -- the gate closes: all pending rows are withdrawn
   shut_gate : Change
   -- a schedule gets the next place
@@ -76,10 +76,10 @@ change register b qs = add_rows (map proposed qs)
 change confirm b qs = set_status (confirmed_number b (first_of qs)) confirmed_status
 change withdraw b qs = set_status (first_of qs).number withdrawn_status
 change guarantee b qs = set_guarantee (first_of qs).operator (first_of qs).guarantee
-change open_batch b qs = savePart
-change undo b qs = restorePart
-change keep b qs = dropSaved
-change closeGate b qs = shut_gate
+change open_batch b qs = save_part
+change undo b qs = restore_part
+change keep b qs = drop_saved
+change close_gate b qs = shut_gate
 change schedule b qs = add_schedule (scheduled (first_of qs))
 change settle b qs = end_day
 change strip b qs = add_rows (map proposed qs)
@@ -96,9 +96,9 @@ unfoldable pub apply : Change → Book → Book
 apply (add_rows rows) b = with_rows b (b.part.rows ++ rows)
 apply (set_status number status) b = with_rows b (mark number status b.part.rows)
 apply (set_guarantee o g) b = with_guarantees b (put b.part.guarantees o g)
-apply savePart b = with_saved b (some b.part)
-apply restorePart b = with_saved (with_part b (restored b.saved b.part)) none
-apply dropSaved b = with_saved b none
+apply save_part b = with_saved b (some b.part)
+apply restore_part b = with_saved (with_part b (restored b.saved b.part)) none
+apply drop_saved b = with_saved b none
 apply shut_gate b = with_phase (with_rows b (closed b.part.rows)) schedules_phase
 apply (add_schedule x) b = with_schedules b (b.schedules ++ x ∷ [])
 apply end_day b = with_phase b settled_phase
@@ -126,7 +126,7 @@ given guarantee b qs = 0
 given open_batch b qs = 0
 given undo b qs = length b.part.rows - length (restored b.saved b.part).rows
 given keep b qs = 0
-given closeGate b qs = 0
+given close_gate b qs = 0
 given schedule b qs = suc (length b.schedules)
 given settle b qs = 0
 given strip b qs = suc (length b.part.rows)
@@ -157,7 +157,7 @@ unfoldable pub input_checks : Book → Call → Kind → List Request → List C
 input_checks b c k qs =
     (k one_of (settle ∷ []) && not (eqb (length c.prices) (4 * price_count b.setup)) ⇒ WrongLength)
     ∷ map (λ q. faulty_bit_among (counts_of b.setup) (first_of qs).account q ⇒↑ OutOfRange) qs
-    ++ (k one_of (settle ∷ []) && anyPasses (λ p. ltb most_price p.0) (prices_in b.setup c.prices) ⇒ OutOfRange 12)
+    ++ (k one_of (settle ∷ []) && any_passes (λ p. ltb most_price p.0) (prices_in b.setup c.prices) ⇒ OutOfRange 12)
     ∷ map (λ q. same_accounts q ⇒ SameAccount) qs
     ++ (k one_of (settle ∷ [])
     && (ltb (length c.results) (length b.schedules) || ltb (length c.balances) (8 * operator_count b.setup))
@@ -177,10 +177,10 @@ unfoldable pub state_checks : Book → Kind → List Request → List Check
 state_checks b k qs =
     let q = first_of qs in
     (not (eqb b.phase (phase_of k)) ⇒ WrongPhase)
-    ∷ (k one_of (open_batch ∷ closeGate ∷ []) && is_some b.saved ⇒ BatchOpen)
+    ∷ (k one_of (open_batch ∷ close_gate ∷ []) && is_some b.saved ⇒ BatchOpen)
     ∷ (k one_of (undo ∷ keep ∷ []) && not (is_some b.saved) ⇒ NoBatch)
     ∷ (k one_of (commit ∷ []) && not (stands_with (proposed q) (ask_at b q.account)) ⇒ NoStandingAsk)
-    ∷ (k one_of adding && anyPasses (has_twin b.part.rows) qs ⇒ AlreadyPending)
+    ∷ (k one_of adding && any_passes (has_twin b.part.rows) qs ⇒ AlreadyPending)
     ∷ (k one_of adding && twins qs ⇒ StripTwins)
     ∷ (k one_of adding && not (rows_pass b.part.rows (length qs)) ⇒ RowsFull)
     ∷ (k one_of (confirm ∷ []) && not (is_some (confirms b.part.rows q)) ⇒ NoSuchRow)

@@ -13,11 +13,11 @@ use Rattle.rules.specs.declared.Request.{Request}
 use Rattle.rules.specs.Basics.{if◌then◌else◌, total, put, within}
 use Rattle.rules.specs.Books.{Setup, estimate_at, guarantee_at, selling_side, buying_side}
 use Rattle.rules.specs.Opening.{setup_of, guarantees_of}
-use Rattle.rules.specs.Requests.{Kind, register, confirm, withdraw, guarantee, open_batch, undo, keep, closeGate, schedule, settle, strip, ask, commit, kind_of, requests_of}
+use Rattle.rules.specs.Requests.{Kind, register, confirm, withdraw, guarantee, open_batch, undo, keep, close_gate, schedule, settle, strip, ask, commit, kind_of, requests_of}
 use Rattle.rules.specs.Registration.{proposed, alike, counted, includes_hour, exposure_of, hourly_exposure_of, available_of}
 use Rattle.rules.specs.Settlement.{Judged, settled}
 use Rattle.rules.specs.Lists.{heard}
-use Rattle.rules.specs.Calls.{Call, Answer, ◌oneOf◌, scheduled}
+use Rattle.rules.specs.Calls.{Call, Answer, ◌one_of◌, scheduled}
 
 -- a trade: who sells to whom, in which hours, how much in each
 pub record Trade : Type 0 where
@@ -108,7 +108,7 @@ page_after guarantee q copy p = page_guarantees p (put p.guarantees q.operator q
 page_after open_batch q copy p = p
 page_after undo q copy p = copy
 page_after keep q copy p = p
-page_after closeGate q copy p = page_pending p []
+page_after close_gate q copy p = page_pending p []
 page_after schedule q copy p = page_schedules p (p.schedules ++ scheduled q ∷ [])
 page_after settle q copy p = p
 page_after strip q copy p = p

@@ -11,7 +11,7 @@ use Rattle.rules.specs.declared.Row.{Row}
 use Rattle.rules.specs.declared.Net.{Net}
 use Rattle.rules.specs.declared.AccountHour.{AccountHour}
 use Rattle.rules.specs.declared.Request.{Request}
-use Rattle.rules.specs.Basics.{if◌then◌else◌, total, anyPasses, find, those, index_of, nth, put, up_to, within}
+use Rattle.rules.specs.Basics.{if◌then◌else◌, total, any_passes, find, those, index_of, nth, put, up_to, within}
 use Rattle.rules.specs.Limits.{thousand, most_rows}
 use Rattle.rules.specs.Requests.{register, kind_number}
 use Rattle.rules.specs.Books.{Setup, Part, periods, margins_at, estimate_at, maintenance_at, guarantee_at, operator_of, account_count, no_row, pending_status, confirmed_status, withdrawn_status, selling_side, buying_side}
@@ -114,7 +114,7 @@ alike proposer counterparty code r =
 
 -- a row that stands is alike the one that the request proposes
 abbrev pub has_twin : List Row → Request → Bool
-has_twin rows q = anyPasses (alike q.account q.other q.code) rows
+has_twin rows q = any_passes (alike q.account q.other q.code) rows
 
 -- a request with this counterparty and code
 abbrev pub of_code : ℕ → ℕ → Request → Bool
@@ -123,7 +123,7 @@ of_code counterparty code q = eqb q.other counterparty && eqb q.code code
 -- two of the requests are alike in counterparty and code
 unfoldable pub twins : List Request → Bool
 twins [] = false
-twins (q ∷ qs) = anyPasses (of_code q.other q.code) qs || twins qs
+twins (q ∷ qs) = any_passes (of_code q.other q.code) qs || twins qs
 
 -- numbers enough are left for n rows more; withdrawn rows keep theirs
 abbrev pub rows_pass : List Row → ℕ → Bool

@@ -1,6 +1,6 @@
 // Verdicts by the paper's numbers.
 ghost use Rattle.std.specs.Prelude.{◌≡◌};
-ghost use Rattle.rules.specs.Verdicts.{Numbers as Triple, refusal_numbers, numbers as outcomeNumbers};
+ghost use Rattle.rules.specs.Verdicts.{Numbers as Triple, refusal_numbers, numbers as outcome_numbers};
 
 use crate::{Numbers, Outcome, Refusal, Verdict};
 
@@ -48,7 +48,7 @@ pub fn refusal_numbers(r: Refusal) -> Numbers
 
 // The number and details of an answer: 0 is acceptance.
 pub fn outcome_numbers(o: Outcome) -> Numbers
-    ensures { (result.number, result.first, result.second) ≡ outcomeNumbers o }
+    ensures { (result.number, result.first, result.second) ≡ outcome_numbers o }
 {
     let verdict = o.verdict;
     match verdict {

@@ -11,7 +11,7 @@ use Rattle.rules.specs.declared.Checked.TheVariants.{Clear, Fails}
 use Rattle.rules.specs.declared.Counts.{Counts}
 use Rattle.rules.specs.declared.Refusal.{Refusal}
 use Rattle.rules.specs.declared.Request.{Request}
-use Rattle.rules.specs.Basics.{anyPasses, bit}
+use Rattle.rules.specs.Basics.{any_passes, bit}
 use Rattle.rules.specs.Verdicts.{first_to_apply, checked, or_else}
 use Rattle.rules.specs.Requests.{kind_number, register, first_of, faulty_bit, faulty_bit_among, same_accounts}
 use Rattle.rules.specs.Registration.{of_code, twins}
@@ -67,12 +67,12 @@ module _ (n : Counts) {proposer : ℕ} (qs : List Request) (same : proposer ≡ 
 
 module _ (q : Request) (qs : List Request) where
   -- another is alike the first
-  pub twins_here : anyPasses (of_code q.other q.code) qs ≡ true → twins (q ∷ qs) ≡ true
+  pub twins_here : any_passes (of_code q.other q.code) qs ≡ true → twins (q ∷ qs) ≡ true
   unfolding twins
   twins_here e = rw (twins, e)
 
   -- none is, and the others decide
-  pub twins_next : anyPasses (of_code q.other q.code) qs ≡ false → twins (q ∷ qs) ≡ twins qs
+  pub twins_next : any_passes (of_code q.other q.code) qs ≡ false → twins (q ∷ qs) ≡ twins qs
   unfolding twins
   twins_next e = rw (twins, e)
 

@@ -1,6 +1,6 @@
 // The requests that the rows of a strip say: 6 and 7 over all of them, and those that are alike in counterparty and code.
 ghost use Rattle.std.specs.Prelude.{◌≡◌, map, length};
-ghost use Rattle.rules.specs.Basics.{anyPasses};
+ghost use Rattle.rules.specs.Basics.{any_passes};
 ghost use Rattle.rules.specs.Verdicts.{applies, first_to_apply, checked};
 ghost use Rattle.rules.specs.Requests.{head_length, row_length, kind_number, register, request_of};
 ghost use Rattle.rules.specs.Registration.{of_code, twins};
@@ -109,7 +109,7 @@ fn is_of_code(row: &[u8], other: u8, code: u64) -> bool
 // Whether one of the `n` rows from `at` on has this counterparty and code.
 pub fn has_code(bytes: &[u8], at: usize, n: usize, other: u8, code: u64) -> bool
     requires { RegisterRows bytes.now at n }
-    ensures { result ≡ anyPasses (of_code other code) (requests_from bytes.now at n) }
+    ensures { result ≡ any_passes (of_code other code) (requests_from bytes.now at n) }
 {
     let mut k = at;
     let mut left = n;

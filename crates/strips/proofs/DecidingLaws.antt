@@ -9,7 +9,7 @@ use Rattle.rules.specs.declared.Checked.TheVariants.{Clear, Fails}
 use Rattle.rules.specs.declared.Request.{Request}
 use Rattle.rules.specs.declared.Refusal.{Refusal}
 use Rattle.rules.specs.declared.Refusal.TheVariants.{WrongPhase, AlreadyPending, StripTwins, RowsFull, MarginBroken, Uncovered}
-use Rattle.rules.specs.Basics.{anyPasses}
+use Rattle.rules.specs.Basics.{any_passes}
 use Rattle.rules.specs.Limits.{most_rows}
 use Rattle.rules.specs.Verdicts.{first_to_apply, checked}
 use Rattle.rules.specs.Books.{Book, operator_of}
@@ -33,10 +33,10 @@ module _ (b : Book) (qs : List Request) where
 
   module _ (first : b.phase ≡ 1) where
     -- 14
-    pub standing-decides : anyPasses (has_twin b.part.rows) qs ≡ true → Fails AlreadyPending ≡ checked (first_to_apply (state_checks b strip qs))
+    pub standing-decides : any_passes (has_twin b.part.rows) qs ≡ true → Fails AlreadyPending ≡ checked (first_to_apply (state_checks b strip qs))
     standing-decides e = decides (some AlreadyPending) (Adding.twin_pending b qs first e)
 
-    module _ (alone : anyPasses (has_twin b.part.rows) qs ≡ false) where
+    module _ (alone : any_passes (has_twin b.part.rows) qs ≡ false) where
       -- 22
       pub twins-decide : twins qs ≡ true → Fails StripTwins ≡ checked (first_to_apply (state_checks b strip qs))
       twins-decide e = decides (some StripTwins) (Adding.twins-among b qs first alone e)

@@ -7,7 +7,7 @@ use lib.Dec.{eqb}
 use borrow.Author.Tests.{eqb-true, eq-eqb}
 use Rattle.rules.specs.declared.Row.{Row}
 use Rattle.rules.specs.declared.Request.{Request}
-use Rattle.rules.specs.Basics.{anyPasses, Each}
+use Rattle.rules.specs.Basics.{any_passes, Each}
 use Rattle.rules.specs.Registration.{alike, has_twin, of_code}
 use Rattle.rules.proofs.Basics.Tests.{test_same}
 use Rattle.rules.proofs.Basics.Searches.{each_any, each_map, none_any, any_cong, any_swap}
@@ -29,14 +29,14 @@ ended_none r account x qs e n =
 
 -- a pending row of the account is alike those of its counterparty and code
 pub own_among : (r : Row) (account : ℕ) (qs : List Request) → r.status ≡ 1 → r.proposer ≡ account
-    → anyPasses (of_code r.counterparty r.code) qs ≡ alike_among account qs r
+    → any_passes (of_code r.counterparty r.code) qs ≡ alike_among account qs r
 own_among r account qs e d =
     any_cong _ _ (each_any qs (λ q.
     rw (eqb_turned q.other r.counterparty, eqb_turned q.code r.code) (own_alike r account q.other q.code e d)))
 
 -- some request has a twin among the rows exactly where some row is alike one of the requests, which all have that account
 pub standing_twin : (rows : List Row) (qs : List Request) (account : ℕ) → Each (λ q. q.account ≡ account) qs
-    → anyPasses (alike_among account qs) rows ≡ anyPasses (has_twin rows) qs
+    → any_passes (alike_among account qs) rows ≡ any_passes (has_twin rows) qs
 standing_twin rows qs account own =
     any_swap (λ r q. alike account q.other q.code r) rows qs
-    ∙ any_cong _ (has_twin rows) (each_map (λ q e. ap (λ (a : ℕ). anyPasses (alike a q.other q.code) rows) (sym e)) own)
+    ∙ any_cong _ (has_twin rows) (each_map (λ q e. ap (λ (a : ℕ). any_passes (alike a q.other q.code) rows) (sym e)) own)

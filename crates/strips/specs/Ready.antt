@@ -3,7 +3,7 @@ use Rattle.std.specs.Prelude.{ℕ, ◌≡◌, List, map, Bool, false}
 use Rattle.std.proofs.Math.Option.{none}
 use Rattle.rules.specs.declared.Row.{Row}
 use Rattle.rules.specs.declared.Request.{Request}
-use Rattle.rules.specs.Basics.{anyPasses, Each}
+use Rattle.rules.specs.Basics.{any_passes, Each}
 use Rattle.rules.specs.Books.{Book, counts_of}
 use Rattle.rules.specs.Requests.{head_length, first_of, faulty_bit, same_accounts}
 use Rattle.rules.specs.Registration.{proposed, alike}
@@ -30,4 +30,4 @@ pub record ReadyStrip (b : Book) (s : List ℕ) (n : ℕ) : Type 0 where
 
 -- the row, pending with this proposer, has counterparty and code of one of the requests
 abbrev pub alike_among : ℕ → List Request → Row → Bool
-alike_among account qs r = anyPasses (λ q. alike account q.other q.code r) qs
+alike_among account qs r = any_passes (λ q. alike account q.other q.code r) qs

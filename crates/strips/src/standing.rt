@@ -1,6 +1,6 @@
 // The rows that stand compared with those of a strip: whether a pending one is like one of them.
 ghost use Rattle.std.specs.Prelude.{◌≡◌, true};
-ghost use Rattle.rules.specs.Basics.{anyPasses};
+ghost use Rattle.rules.specs.Basics.{any_passes};
 ghost use Rattle.rules.specs.Requests.{head_length};
 ghost use Rattle.image.specs.Valid.{is_sound, book_in};
 ghost use Rattle.book.specs.Members.{IsRow, numbered_row};
@@ -34,7 +34,7 @@ fn row_is_alike(book: &[u8], number: u16, bytes: &[u8], n: usize, account: u8) -
 // Whether some row of the book is.
 pub fn any_is_alike(book: &[u8], bytes: &[u8], n: usize, account: u8) -> bool
     requires { (is_sound book.now ≡ true) × RegisterRows bytes.now head_length n }
-    ensures { result ≡ anyPasses (alike_among account (strip_requests bytes.now n)) (book_in book.now).part.rows }
+    ensures { result ≡ any_passes (alike_among account (strip_requests bytes.now n)) (book_in book.now).part.rows }
 {
     let rows = row_count(book);
     let mut found = false;

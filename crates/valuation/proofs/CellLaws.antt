@@ -16,7 +16,7 @@ use Rattle.rules.specs.declared.Schedule.{Schedule}
 use Rattle.rules.specs.Basics.{if◌then◌else◌, total, Each, nil, cons}
 use Rattle.rules.specs.Limits.{most_energy, most_schedules, most_points, most_accounts}
 use Rattle.rules.specs.Books.{Setup}
-use Rattle.rules.specs.Settlement.{Judged, congruous, used, accountOf}
+use Rattle.rules.specs.Settlement.{Judged, congruous, used, account_of}
 use Rattle.rules.proofs.Basics.Tests.{test_same, and_both}
 use Rattle.rules.proofs.Basics.Totals.{total-same}
 use Rattle.rules.proofs.Basics.Searches.{each_map}
@@ -107,8 +107,8 @@ shifted n a b =
 
 -- the table in which it has its share at its point and at its account
 pub used-next : (u : Setup) (net : ℕ → ℕ → Net) (t : List CentsPerMwh) {before : List Judged} (table middle after : List ℕ) (j : Judged) (q p a : ℕ)
-    → InCells most_points j.schedule.point j.schedule → InCells most_accounts (accountOf u net t j.schedule) j.schedule
-    → q ≡ used_up j → p ≡ cell_for j.schedule.point j.schedule → a ≡ cell_for (accountOf u net t j.schedule) j.schedule
+    → InCells most_points j.schedule.point j.schedule → InCells most_accounts (account_of u net t j.schedule) j.schedule
+    → q ≡ used_up j → p ≡ cell_for j.schedule.point j.schedule → a ≡ cell_for (account_of u net t j.schedule) j.schedule
     → middle ≡ set table p (get_or table p 0 + q) → after ≡ set middle (point_cells + a) (get_or middle (point_cells + a) 0 + q)
     → UsedBy u net t before table → UsedBy u net t (j ∷ before) after
 used-next u net t {before} table middle after j q p a ip ia eq ep ea em ef by =
@@ -178,7 +178,7 @@ used_room u net t {js} table q by each few l k low =
     (λ (v : k < point_cells + account_cells).
     let i : ℕ = k - point_cells in
     let here : point_cells + i ≡ k = omega arith in
-    let falls = falls_low (λ j. cell_for (accountOf u net t j.schedule) j.schedule) i small in
+    let falls = falls_low (λ j. cell_for (account_of u net t j.schedule) j.schedule) i small in
     omega (arith, rw here at (by.by_account i (omega arith)), falls))
     (λ (v : point_cells + account_cells ≤ k). omega (arith, get_or-eq_default table 0 {n = k} (omega (arith, by.whole))))
     (lt_or_ge k (point_cells + account_cells)))

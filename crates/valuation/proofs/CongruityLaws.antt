@@ -18,7 +18,7 @@ use Rattle.rules.specs.Basics.{if◌then◌else◌, nth, Each}
 use Rattle.rules.specs.Limits.{most_points, most_accounts}
 use Rattle.rules.specs.Books.{Setup, no_point, account_count, point_at, periods}
 use Rattle.rules.specs.Opening.{counts_in, points_in, setup_of, price_width}
-use Rattle.rules.specs.Settlement.{Judged, used, accountOf, sameHourSide, pointLimit, accountLimit, metPrice, taken, judge, price_count}
+use Rattle.rules.specs.Settlement.{Judged, used, account_of, same_hour_side, point_limit, account_limit, met_price, taken, judge, price_count}
 use Rattle.rules.proofs.Basics.Searches.{each_nth, each_map}
 use Rattle.setup.specs.Faults.{Whole}
 use Rattle.image.specs.Valid.{is_sound, schedule_ok}
@@ -100,10 +100,10 @@ module _ (s : List ℕ) (h : is_sound s ≡ true) (x : Schedule) (ok : schedule_
 -- ---- the result by what is used up
 
 -- the price of the number is the price that is met
-met_price : (b : Bool) (t : List CentsPerMwh) (m n : ℕ)
+met_price_lem : (b : Bool) (t : List CentsPerMwh) (m n : ℕ)
     → (nth t (if b then m else n) (cents_per_mwh 0)).0 ≡ (if b then (nth t m (cents_per_mwh 0)).0 else (nth t n (cents_per_mwh 0)).0)
-met_price true t m n = refl
-met_price false t m n = refl
+met_price_lem true t m n = refl
+met_price_lem false t m n = refl
 
 -- taken at a price, by its amount
 taken_at_lem : (b : Bool) (price m n : ℕ) → m ≡ n → (if b then leb price m else leb m price) ≡ (if b then leb price n else leb n price)
@@ -113,33 +113,33 @@ module _ (u : Setup) (net : ℕ → ℕ → Net) (t : List CentsPerMwh) (x : Sch
   where
     -- what is used up of its point and of its account stands in their cells
     used-of-point : InCells most_points x.point x → Each (λ j. InCells most_points j.schedule.point j.schedule) before
-        → used (λ y. sameHourSide u net t x y && eqb x.point y.point) before ≡ get_or table (cell_for x.point x) 0
+        → used (λ y. same_hour_side u net t x y && eqb x.point y.point) before ≡ get_or table (cell_for x.point x) 0
     used-of-point i e = used_in_cell most_points (λ y. y.point) x i e ∙ sym (by.by-point (cell_for x.point x) (omega arith))
 
-    used-of-account : InCells most_accounts (accountOf u net t x) x → Each (λ j. InCells most_accounts (accountOf u net t j.schedule) j.schedule) before
-        → used (λ y. sameHourSide u net t x y && eqb (accountOf u net t x) (accountOf u net t y)) before
-        ≡ get_or table (point_cells + cell_for (accountOf u net t x) x) 0
+    used-of-account : InCells most_accounts (account_of u net t x) x → Each (λ j. InCells most_accounts (account_of u net t j.schedule) j.schedule) before
+        → used (λ y. same_hour_side u net t x y && eqb (account_of u net t x) (account_of u net t y)) before
+        ≡ get_or table (point_cells + cell_for (account_of u net t x) x) 0
     used-of-account i e =
-        used_in_cell most_accounts (accountOf u net t) x i e ∙ sym (by.by_account (cell_for (accountOf u net t x) x) (omega arith))
+        used_in_cell most_accounts (account_of u net t) x i e ∙ sym (by.by_account (cell_for (account_of u net t x) x) (omega arith))
 
     -- a result by the three tests is the schedule's
     judged-by-tests : {a b c : Bool} (p : Point) → p ≡ point_at u x.point
-        → used (λ y. sameHourSide u net t x y && eqb x.point y.point) before ≡ get_or table (cell_for x.point x) 0
-        → used (λ y. sameHourSide u net t x y && eqb (accountOf u net t x) (accountOf u net t y)) before
-        ≡ get_or table (point_cells + cell_for (accountOf u net t x) x) 0
+        → used (λ y. same_hour_side u net t x y && eqb x.point y.point) before ≡ get_or table (cell_for x.point x) 0
+        → used (λ y. same_hour_side u net t x y && eqb (account_of u net t x) (account_of u net t y)) before
+        ≡ get_or table (point_cells + cell_for (account_of u net t x) x) 0
         → a ≡ ltb (greatest p x.side) (get_or table (cell_for x.point x) 0 + x.quantity.0)
         → b ≡ ltb (left_by (net p.account x.hour) x.side) (get_or table (point_cells + cell_for p.account x) 0 + x.quantity.0)
         → c ≡ taken_at x (nth t (price_number (periods u) p x) (cents_per_mwh 0))
         → result_by a b c ≡ judge u net t before x
     unfolding judge
     judged-by-tests {a} {b} {c} p e up ua ta tb tc =
-        let pa : a ≡ ltb (pointLimit u net t x) (used (λ y. sameHourSide u net t x y && eqb x.point y.point) before + x.quantity.0) =
+        let pa : a ≡ ltb (point_limit u net t x) (used (λ y. same_hour_side u net t x y && eqb x.point y.point) before + x.quantity.0) =
         ta ∙ rw (e, up) in
         let pb : b
-        ≡ ltb (accountLimit u net t x) (used (λ y. sameHourSide u net t x y && eqb (accountOf u net t x) (accountOf u net t y)) before + x.quantity.0) =
+        ≡ ltb (account_limit u net t x) (used (λ y. same_hour_side u net t x y && eqb (account_of u net t x) (account_of u net t y)) before + x.quantity.0) =
         tb ∙ rw (e, ua) in
         let pc : c ≡ taken u net t x =
-        tc ∙ rw e (taken_at_lem (eqb x.side 1) x.price.0 _ (metPrice u net t x) (met_price (eqb x.side 1 || eqb (point_at u x.point).kind 3) t _ _)) in
+        tc ∙ rw e (taken_at_lem (eqb x.side 1) x.price.0 _ (met_price u net t x) (met_price_lem (eqb x.side 1 || eqb (point_at u x.point).kind 3) t _ _)) in
         rw (pa, pb, pc)
 
 -- the result of a schedule in a book, after those that used up what the table says

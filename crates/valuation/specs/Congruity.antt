@@ -7,7 +7,7 @@ use Rattle.rules.specs.declared.Schedule.{Schedule}
 use Rattle.rules.specs.Basics.{if◌then◌else◌}
 use Rattle.rules.specs.Limits.{most_hours}
 use Rattle.rules.specs.Books.{Setup, injecting_side, mixed_kind}
-use Rattle.rules.specs.Settlement.{Judged, accountOf}
+use Rattle.rules.specs.Settlement.{Judged, account_of}
 use Rattle.valuation.specs.Tables.{setup_in, nets_in, cell_for, point_cells, used_cells, judged_as, JudgedInRange, UsedBy, UsedIn, judge_in}
 
 -- the table has a cell for the holder of a limit, of so many at most, in the schedule's hour and side
@@ -60,6 +60,6 @@ ResultIn book prices used x result =
 -- `after` is the table `used` with the schedule of that result counted, wherever its account is that of its point
 abbrev pub UsedWith : ℕ → Schedule → ℕ → List ℕ → List ℕ → Type 0
 UsedWith account x result used after =
-    (u : Setup) (net : ℕ → ℕ → Net) (t : List CentsPerMwh) (before : List Judged) (place : ℕ) → accountOf u net t x ≡ account
+    (u : Setup) (net : ℕ → ℕ → Net) (t : List CentsPerMwh) (before : List Judged) (place : ℕ) → account_of u net t x ≡ account
     → UsedBy u net t before used
     → UsedBy u net t (judged_as place x result ∷ before) after

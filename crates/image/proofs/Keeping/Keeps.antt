@@ -12,13 +12,13 @@ use Rattle.rules.specs.declared.Request.{Request}
 use Rattle.rules.specs.declared.Refusal.{Refusal}
 use Rattle.rules.specs.Limits.{most_accounts}
 use Rattle.rules.specs.Books.{Part, Book, with_asks, ask_at, no_asks}
-use Rattle.rules.specs.Requests.{Kind, register, confirm, withdraw, guarantee, open_batch, undo, keep, closeGate, schedule, settle, strip, ask, commit, is_strip, request_of, requests_of, first_of}
+use Rattle.rules.specs.Requests.{Kind, register, confirm, withdraw, guarantee, open_batch, undo, keep, close_gate, schedule, settle, strip, ask, commit, is_strip, request_of, requests_of, first_of}
 use Rattle.rules.specs.Registration.{proposed, twins}
-use Rattle.rules.specs.Calls.{Call, call_requests, call_kind, change, changed, next, ◌oneOf◌, checked_as, input_checks, state_checks, step, apply}
+use Rattle.rules.specs.Calls.{Call, call_requests, call_kind, change, changed, next, ◌one_of◌, checked_as, input_checks, state_checks, step, apply}
 use Rattle.rules.specs.Asks.{would_register, ask_stands, asks_stand}
 use Rattle.rules.proofs.Checks.Clearing.{Clear, clear_applies}
 use Rattle.rules.proofs.Checks.Passed.{Asked, cleared_either, single_requests, strip_requests_lem, Passed, Kept, passed_asked, step_cases}
-use Rattle.rules.specs.Basics.{anyPasses, is_some, nth, put, nil, cons}
+use Rattle.rules.specs.Basics.{any_passes, is_some, nth, put, nil, cons}
 use Rattle.rules.proofs.Basics.Searches.{put_place, each_map, each_image}
 use Rattle.rules.proofs.Lists.Batches.{the_kind}
 use Rattle.rules.proofs.Lists.Asks.{none_there}
@@ -89,7 +89,7 @@ stood_stands b r old new =
 
 -- an accepted ask is one that register would accept
 ask_would_register : (b : Book) (qs : List Request) → Asked ask qs → Clear (state_checks b register qs) → would_register b (proposed (first_of qs)) ≡ true
-unfolding would_register state_checks apply anyPasses twins
+unfolding would_register state_checks apply any_passes twins
 ask_would_register b qs asked state =
     let q : Request = first_of qs in
     let alone : Clear (state_checks b register (q ∷ [])) = rw (asked.alone refl) at state in
@@ -138,7 +138,7 @@ next_saved guarantee b qs e = refl
 next_saved open_batch b qs e = cc
 next_saved undo b qs e = cc
 next_saved keep b qs e = cc
-next_saved closeGate b qs e = refl
+next_saved close_gate b qs e = refl
 next_saved schedule b qs e = refl
 next_saved settle b qs e = refl
 next_saved strip b qs e = refl

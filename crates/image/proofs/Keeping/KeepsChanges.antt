@@ -9,11 +9,11 @@ use native.Mathlib.Omega.{arith}
 use lib.ListN.{length, length-append}
 use Rattle.rules.specs.declared.Row.{Row}
 use Rattle.rules.specs.declared.Schedule.{Schedule}
-use Rattle.rules.specs.Basics.{anyPasses, nth, put, Each}
+use Rattle.rules.specs.Basics.{any_passes, nth, put, Each}
 use Rattle.rules.specs.Limits.{most_accounts, most_schedules}
 use Rattle.rules.specs.Books.{Setup, Part, Book, no_asks, with_phase, with_part, with_schedules, with_saved, with_asks}
 use Rattle.rules.specs.Registration.{pending}
-use Rattle.rules.specs.Calls.{Change, add_rows, set_status, set_guarantee, savePart, restorePart, dropSaved, shut_gate, add_schedule, end_day, stand_ask, restored, apply}
+use Rattle.rules.specs.Calls.{Change, add_rows, set_status, set_guarantee, save_part, restore_part, drop_saved, shut_gate, add_schedule, end_day, stand_ask, restored, apply}
 use Rattle.rules.proofs.Basics.Differences.{lt_or_ge}
 use Rattle.rules.proofs.Basics.Searches.{put_place, each_snoc}
 use Rattle.rules.proofs.Lists.Asks.{none_there}
@@ -34,9 +34,9 @@ abbrev pub Allowed : Book → Change → Type 0
 Allowed b (add_rows rows) = (b.phase ≡ 1) × Addable b.setup b.part rows
 Allowed b (set_status number status) = (b.phase ≡ 1) × Endable b.setup b.part number status
 Allowed b (set_guarantee o g) = (b.phase ≡ 1) × Coverable b.setup b.part o g
-Allowed b savePart = b.phase ≡ 1
-Allowed b restorePart = b.phase ≡ 1
-Allowed b dropSaved = b.phase ≡ 1
+Allowed b save_part = b.phase ≡ 1
+Allowed b restore_part = b.phase ≡ 1
+Allowed b drop_saved = b.phase ≡ 1
 Allowed b shut_gate = b.saved ≡ none
 Allowed b (add_schedule x) = Placeable b x
 Allowed b end_day = b.phase ≡ 1 → ⊥
@@ -63,7 +63,7 @@ in_registration b p saved s first part batch =
 
 -- after phase 1, with no batch open, a sound part in which no row is pending and sound schedules make a sound book
 after_registration : (b : Book) (phase : ℕ) (p : Part) (xs : List Schedule) → SoundBook b → 2 ≤ phase → phase ≤ 3 → b.saved ≡ none
-    → SoundPart b.setup p → anyPasses pending p.rows ≡ false → length xs ≤ most_schedules → Each (SoundSchedule b.setup) xs
+    → SoundPart b.setup p → any_passes pending p.rows ≡ false → length xs ≤ most_schedules → Each (SoundSchedule b.setup) xs
     → SoundBook (with_schedules (with_part (with_phase b phase) p) xs)
 after_registration b phase p xs s later known batch part ended few schedules =
     record {
@@ -139,12 +139,12 @@ apply_keeps (set_status number status) b s w =
     (saved_followed_lem b.setup b.part.rows _ b.saved (λ xs h. follows-mark xs b.part.rows number status w.1.waits h) s.saved_sound)
 apply_keeps (set_guarantee o g) b s w =
     in_registration b _ b.saved s w.0 (part_guaranteed b.setup b.part s.part_sound o g w.1) s.saved_sound
-apply_keeps savePart b s w =
+apply_keeps save_part b s w =
     in_registration b b.part (some b.part) s w s.part_sound (s.part_sound, follows_refl b.part.rows)
 -- undo restores a part that was sound
-apply_keeps restorePart b s w =
+apply_keeps restore_part b s w =
     in_registration b _ none s w (saved_part b.setup b.part.rows b.saved b.part s.saved_sound s.part_sound) tt
-apply_keeps dropSaved b s w = in_registration b b.part none s w s.part_sound tt
+apply_keeps drop_saved b s w = in_registration b b.part none s w s.part_sound tt
 apply_keeps shut_gate b s w =
     after_registration b 2 _ b.schedules s (omega arith) (omega arith) w (part_closed b.setup b.part s.part_sound) (closed_none_pending b.part.rows) s.schedules_high s.schedules_sound
 apply_keeps (add_schedule x) b s w =
@@ -160,9 +160,9 @@ unfolding apply
 apply_setup (add_rows rows) b = refl
 apply_setup (set_status number status) b = refl
 apply_setup (set_guarantee o g) b = refl
-apply_setup savePart b = refl
-apply_setup restorePart b = refl
-apply_setup dropSaved b = refl
+apply_setup save_part b = refl
+apply_setup restore_part b = refl
+apply_setup drop_saved b = refl
 apply_setup shut_gate b = refl
 apply_setup (add_schedule x) b = refl
 apply_setup end_day b = refl

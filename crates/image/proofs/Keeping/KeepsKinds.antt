@@ -11,9 +11,9 @@ use Rattle.rules.specs.declared.Request.{Request}
 use Rattle.rules.specs.Basics.{bit, Each, nil, cons}
 use Rattle.rules.specs.Limits.{most_energy, most_price, most_guarantee}
 use Rattle.rules.specs.Books.{Setup, Book, part_rows, operator_of, registration_phase, counts_of, periods, account_count, point_count}
-use Rattle.rules.specs.Requests.{Kind, register, confirm, withdraw, guarantee, open_batch, undo, keep, closeGate, schedule, settle, strip, ask, commit, kind_number, wanted_map, first_of, field_count, in_range, faulty_bit, same_accounts}
+use Rattle.rules.specs.Requests.{Kind, register, confirm, withdraw, guarantee, open_batch, undo, keep, close_gate, schedule, settle, strip, ask, commit, kind_number, wanted_map, first_of, field_count, in_range, faulty_bit, same_accounts}
 use Rattle.rules.specs.Registration.{proposed, broken_hour, covered}
-use Rattle.rules.specs.Calls.{Call, confirmed_number, scheduled, change, add_rows, apply, ◌oneOf◌, adding, checked_as, phase_of, input_checks, state_checks}
+use Rattle.rules.specs.Calls.{Call, confirmed_number, scheduled, change, add_rows, apply, ◌one_of◌, adding, checked_as, phase_of, input_checks, state_checks}
 use Rattle.rules.proofs.Basics.Tests.{within_true}
 use Rattle.rules.proofs.Checks.Clearing.{Clear}
 use Rattle.rules.proofs.Checks.Passed.{Asked, TradeFields, trade_fields, first_has, first_kind, field_in_range, two_accounts, passed_6, passed_6_proposer, passed_7, passed_11, passed_12, passed_14, passed_22, passed_15, passed_18, passed_19, passed_20}
@@ -186,6 +186,6 @@ change_allowed guarantee b c qs asked codes s input state = guarantee_allowed b 
 change_allowed open_batch b c qs asked codes s input state = passed_11 b qs open_batch state
 change_allowed undo b c qs asked codes s input state = passed_11 b qs undo state
 change_allowed keep b c qs asked codes s input state = passed_11 b qs keep state
-change_allowed closeGate b c qs asked codes s input state = passed_12 b qs closeGate refl state
+change_allowed close_gate b c qs asked codes s input state = passed_12 b qs close_gate refl state
 change_allowed schedule b c qs asked codes s input state = schedule_allowed b qs s c asked input state
 change_allowed settle b c qs asked codes s input state = settle_allowed b qs s state

@@ -13,7 +13,7 @@ use borrow.Author.Tests.{eqb-true, eqb-false, not-false}
 use Rattle.units.specs.declared.Cents.{Cents}
 use Rattle.rules.specs.declared.Row.{Row}
 use Rattle.rules.specs.declared.Request.{Request}
-use Rattle.rules.specs.Basics.{anyPasses, nth, put, up_to, Each}
+use Rattle.rules.specs.Basics.{any_passes, nth, put, up_to, Each}
 use Rattle.rules.specs.Limits.{most_guarantee, most_rows}
 use Rattle.rules.specs.Books.{Setup, Part, part_guarantees, part_rows, no_row, operator_of, periods, margins_at}
 use Rattle.rules.specs.Registration.{pending, has_twin, twins, mark, closed, proposed, account_hour, keeps_margins, broken_hour, available, covered}
@@ -166,7 +166,7 @@ module _ (u : Setup) (p : Part) (sound : SoundPart u p) where
 
   -- what a register and a strip propose
   pub requests_addable : (qs : List Request) (caller : ℕ) → Each (λ q. q.account ≡ caller) qs → Each (λ q. SoundRow u (proposed q)) qs
-      → anyPasses (has_twin p.rows) qs ≡ false → twins qs ≡ false → length p.rows + length qs ≤ most_rows
+      → any_passes (has_twin p.rows) qs ≡ false → twins qs ≡ false → length p.rows + length qs ≤ most_rows
       → broken_hour u (p.rows ++ map proposed qs) caller ≡ none
       → covered u (part_rows p (p.rows ++ map proposed qs)) (operator_of u caller) ≡ true
       → Addable u p (map proposed qs)

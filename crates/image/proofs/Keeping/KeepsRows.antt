@@ -11,7 +11,7 @@ use lib.Dec.{eqb}
 use borrow.Author.Tests.{eqb-true, eq-eqb, not-true}
 use Rattle.rules.specs.declared.Row.{Row}
 use Rattle.rules.specs.declared.Request.{Request}
-use Rattle.rules.specs.Basics.{if◌then◌else◌, anyPasses, nth, Each, nil, cons}
+use Rattle.rules.specs.Basics.{if◌then◌else◌, any_passes, nth, Each, nil, cons}
 use Rattle.rules.specs.Books.{Setup, no_row}
 use Rattle.rules.specs.Registration.{pending, proposed, same_terms, alike, has_twin, twins, with_status, mark, closed}
 use Rattle.rules.proofs.Basics.Tests.{and_both}
@@ -63,7 +63,7 @@ each_ended [] = nil
 each_ended (r ∷ rs) = cons (closed_go r (pending r) refl) (each_ended rs)
 
 -- none is pending after the close of the gate
-pub closed_none_pending : (rows : List Row) → anyPasses pending (closed rows) ≡ false
+pub closed_none_pending : (rows : List Row) → any_passes pending (closed rows) ≡ false
 closed_none_pending rows = none_any pending (each_ended rows)
 
 -- ---- no two pending rows are alike
@@ -73,7 +73,7 @@ abbrev Apart : Row → List Row → Type 0
 Apart r rs = Each (λ x. alike r.proposer r.counterparty r.code x ≡ false) rs
 
 apart_go : (r : Row) (rs : List Row) (t : Bool) → pending r ≡ t
-    → (not (t && anyPasses (alike r.proposer r.counterparty r.code) rs) ≡ true) ↔ (pending r ≡ true → Apart r rs)
+    → (not (t && any_passes (alike r.proposer r.counterparty r.code) rs) ≡ true) ↔ (pending r ≡ true → Apart r rs)
 apart_go r rs true e = ((λ h p. any_none _ rs (not-true _ h)), (λ f. rw (none_any _ (f e))))
 apart_go r rs false e = ((λ h p. absurd (never p e)), (λ f. refl))
 
@@ -81,7 +81,7 @@ twins_cons : (r : Row) (rs : List Row) → (no_twins (r ∷ rs) ≡ true) ↔ ((
 unfolding no_twins
 twins_cons r rs =
     let a = apart_go r rs (pending r) refl in
-    let b = and_both (not (pending r && anyPasses (alike r.proposer r.counterparty r.code) rs)) (no_twins rs) in
+    let b = and_both (not (pending r && any_passes (alike r.proposer r.counterparty r.code) rs)) (no_twins rs) in
     ((λ h. (a.0 (b.0 h).0, (b.0 h).1)), (λ w. b.1 (a.1 w.0, w.1)))
 
 -- of two pending rows each is like the other or neither is
@@ -104,7 +104,7 @@ twins_go r h (cons {x = x} {xs = xs} a rest) =
 
 -- one row more, like none that is pending
 pub twins_snoc : (rows : List Row) (r : Row) → no_twins rows ≡ true
-    → anyPasses (alike r.proposer r.counterparty r.code) rows ≡ false → no_twins (rows ++ r ∷ []) ≡ true
+    → any_passes (alike r.proposer r.counterparty r.code) rows ≡ false → no_twins (rows ++ r ∷ []) ≡ true
 twins_snoc rows r h n = twins_go r h (any_none _ rows n)
 
 -- rows more, of requests of which none is like another or like a row that stands

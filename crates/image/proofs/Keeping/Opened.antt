@@ -10,7 +10,7 @@ use lib.ListN.{length-map}
 use lib.Dec.{eqb}
 use borrow.Author.Tests.{le-leb}
 use Rattle.rules.specs.declared.Operator.{Operator}
-use Rattle.rules.specs.Basics.{if◌then◌else◌, total, anyPasses, up_to, Each, nil, cons}
+use Rattle.rules.specs.Basics.{if◌then◌else◌, total, any_passes, up_to, Each, nil, cons}
 use Rattle.rules.specs.Limits.{most_guarantee}
 use Rattle.rules.specs.Books.{Setup, estimate_at, operator_of, account_count, periods, lower_at, upper_at}
 use Rattle.rules.specs.Opening.{operators_in, setup_of, guarantees_of, setup_refusal, opened}
@@ -57,7 +57,7 @@ module _ (s : List ℕ) (h : setup_refusal s ≡ none) where
       }
 
   pub opened_sound : SoundBook (opened s)
-  unfolding opened anyPasses
+  unfolding opened any_passes
   opened_sound =
       record {
         setup_sound = sound_setup (setup_of s) (accepted_sound s h);

@@ -10,7 +10,7 @@ use lib.Seq.{drop-drop}
 use Rattle.wire.specs.Parts.{chunks}
 use Rattle.wire.proofs.SlotLaws.{length-chunks, chunk_at, map_get}
 use Rattle.rules.specs.declared.Row.{Row}
-use Rattle.rules.specs.Basics.{anyPasses, every}
+use Rattle.rules.specs.Basics.{any_passes, every}
 use Rattle.image.specs.Image.{row_in}
 use Rattle.image.specs.Cells.{rows_from}
 use Rattle.image.specs.Layout.{row_width}
@@ -19,38 +19,38 @@ use Rattle.image.specs.Layout.{row_width}
 
 module _ {A : Type 0} (say : List ℕ → A) (w : ℕ) where
   -- what n cells from `at` on say
-  abbrev pub cellsFrom : List ℕ → ℕ → ℕ → List A
-  cellsFrom s at n = map say (chunks w n (drop at s))
+  abbrev pub cells_from : List ℕ → ℕ → ℕ → List A
+  cells_from s at n = map say (chunks w n (drop at s))
 
-  pub from_done : (s : List ℕ) (at n : ℕ) → n ≤ 0 → cellsFrom s at n ≡ []
+  pub from_done : (s : List ℕ) (at n : ℕ) → n ≤ 0 → cells_from s at n ≡ []
   unfolding chunks
   from_done s at zero h = refl
   from_done s at (suc n) h = absurd (omega arith)
 
-  pub from_step : (s : List ℕ) (at n m : ℕ) → n ≡ m + 1 → cellsFrom s at n ≡ say (take w (drop at s)) ∷ cellsFrom s (at + w) m
+  pub from_step : (s : List ℕ) (at n m : ℕ) → n ≡ m + 1 → cells_from s at n ≡ say (take w (drop at s)) ∷ cells_from s (at + w) m
   unfolding chunks
   from_step s at n m e = rw (e, add-one m, chunks, drop-drop w at s)
 
   -- a test of all is what was tested so far, with the test of those left: none is left
-  pub every_done : {all : Bool} (ok : Bool) (p : A → Bool) (s : List ℕ) (at n : ℕ) → n ≤ 0 → all ≡ (ok && every p (cellsFrom s at n)) → ok ≡ all
+  pub every_done : {all : Bool} (ok : Bool) (p : A → Bool) (s : List ℕ) (at n : ℕ) → n ≤ 0 → all ≡ (ok && every p (cells_from s at n)) → ok ≡ all
   unfolding every
   every_done ok p s at n h e = sym (e ∙ rw (from_done s at n h, every) (and-true ok))
 
   -- and one more is tested
   pub every_step : {all t : Bool} {x : A} (ok : Bool) (p : A → Bool) (s : List ℕ) (at n m : ℕ) → n ≡ m + 1 → x ≡ say (take w (drop at s))
-      → t ≡ p x → all ≡ (ok && every p (cellsFrom s at n)) → all ≡ ((ok && t) && every p (cellsFrom s (at + w) m))
+      → t ≡ p x → all ≡ (ok && every p (cells_from s at n)) → all ≡ ((ok && t) && every p (cells_from s (at + w) m))
   unfolding every
   every_step ok p s at n m d r h e = e ∙ rw (from_step s at n m d, every, h, r) (sym (and_assoc ok _ _))
 
 -- none passes a test where each fails it
-pub not_any : {A : Type 0} (p : A → Bool) (xs : List A) → not (anyPasses p xs) ≡ every (λ x. not (p x)) xs
-unfolding anyPasses every
+pub not_any : {A : Type 0} (p : A → Bool) (xs : List A) → not (any_passes p xs) ≡ every (λ x. not (p x)) xs
+unfolding any_passes every
 not_any p [] = refl
 not_any p (x ∷ xs) = go (p x) refl (not_any p xs)
   where
-    go : (t : Bool) → p x ≡ t → not (anyPasses p xs) ≡ every (λ y. not (p y)) xs → not (anyPasses p (x ∷ xs)) ≡ every (λ y. not (p y)) (x ∷ xs)
-    go true e ih = rw (e, anyPasses, every)
-    go false e ih = rw (e, anyPasses, every) ih
+    go : (t : Bool) → p x ≡ t → not (any_passes p xs) ≡ every (λ y. not (p y)) xs → not (any_passes p (x ∷ xs)) ≡ every (λ y. not (p y)) (x ∷ xs)
+    go true e ih = rw (e, any_passes, every)
+    go false e ih = rw (e, any_passes, every) ih
 
 -- ---- rows
 

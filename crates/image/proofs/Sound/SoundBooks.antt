@@ -9,7 +9,7 @@ use lib.ListN.{length}
 use lib.Dec.{eqb}
 use borrow.Author.Tests.{eqb-true, eqb-false, leb-true, eq-eqb, ne_eqb, le-leb, not-false, not-true}
 use Rattle.rules.specs.declared.Row.{Row}
-use Rattle.rules.specs.Basics.{anyPasses, is_some, Each}
+use Rattle.rules.specs.Basics.{any_passes, is_some, Each}
 use Rattle.rules.specs.Limits.{most_guarantee, most_rows, most_schedules, most_accounts}
 use Rattle.rules.specs.Books.{Setup, Part, Book, ask_at, operator_count, account_count, periods, margins_at}
 use Rattle.rules.specs.Registration.{pending, account_hour, keeps_margins, covered}
@@ -85,7 +85,7 @@ pub record SoundBook (b : Book) : Type 0 where
   pub saved_sound : SavedSound b.setup b.part.rows b.saved
   pub schedules_high : length b.schedules ≤ most_schedules
   pub schedules_sound : Each (SoundSchedule b.setup) b.schedules
-  pub none_pending : (b.phase ≡ 1 → ⊥) → anyPasses pending b.part.rows ≡ false
+  pub none_pending : (b.phase ≡ 1 → ⊥) → any_passes pending b.part.rows ≡ false
   pub no_schedules : b.phase ≡ 1 → length b.schedules ≡ 0
   pub no_batch : (b.phase ≡ 1 → ⊥) → b.saved ≡ none
   pub asks_all : length b.asks ≡ most_accounts
@@ -147,7 +147,7 @@ book_sound b s =
     and saved_sound b.setup b.part.rows b.saved s.saved_sound
     and le-leb _ _ s.schedules_high
     and each_every _ (each_map (schedule_sound b.setup) s.schedules_sound)
-    and or_by (eqb b.phase 1) (not (anyPasses pending b.part.rows)) (λ e. rw (s.none_pending (eqb-false _ _ e)))
+    and or_by (eqb b.phase 1) (not (any_passes pending b.part.rows)) (λ e. rw (s.none_pending (eqb-false _ _ e)))
     and or_by _ _ (λ e. eq-eqb _ _ (s.no_schedules (eqb-true _ _ (not-false _ e))))
     and or_by (eqb b.phase 1) (not (is_some b.saved)) (λ e. rw (s.no_batch (eqb-false _ _ e)))
     and (and_both (eqb (length b.asks) most_accounts) _).1

@@ -23,7 +23,7 @@ use Rattle.rules.specs.Basics.{nth, Each}
 use Rattle.rules.specs.Limits.{most_rows, most_schedules, most_accounts}
 use Rattle.rules.specs.Books.{Part, Book, no_row, no_asks, with_rows, with_phase, with_part, with_asks}
 use Rattle.rules.specs.Registration.{pending, seller, buyer, closed}
-use Rattle.rules.specs.Calls.{add_rows, set_status, set_guarantee, savePart, restorePart, dropSaved, shut_gate, add_schedule, end_day, stand_ask, restored, apply}
+use Rattle.rules.specs.Calls.{add_rows, set_status, set_guarantee, save_part, restore_part, drop_saved, shut_gate, add_schedule, end_day, stand_ask, restored, apply}
 use Rattle.rules.specs.Opening.{guarantee_width}
 use Rattle.rules.proofs.Rows.RowChanges.{length-closed}
 use Rattle.rules.proofs.Rows.AccountHours.{pending_inside}
@@ -168,7 +168,7 @@ module _ (top size : ℕ) (b : Book) (f : Fits b) where
 
   pub write_saved : used_size top ≤ size
       → splice (pasted (image top size b) (saved_offset top) (drop present_offset (image top size b)) (part_size top)) flag_offset (le 1 1)
-      ≡ image top size (apply savePart b)
+      ≡ image top size (apply save_part b)
   unfolding apply image sections sections_with saved_bytes
   write_saved g =
       let ws : List ℕ = book_widths top size in
@@ -187,7 +187,7 @@ module _ (top size : ℕ) (b : Book) (f : Fits b) where
 
   pub write_restored : (p : Part) → used_size top ≤ size → b.saved ≡ some p
       → splice (splice (pasted (image top size b) present_offset (drop (saved_offset top) (image top size b)) (part_size top)) (saved_offset top) (zeros (part_size top))) flag_offset (le 1 0)
-      ≡ image top size (apply restorePart b)
+      ≡ image top size (apply restore_part b)
   unfolding apply image sections sections_with saved_bytes
   write_restored p g e =
       let ws : List ℕ = book_widths top size in
@@ -213,7 +213,7 @@ module _ (top size : ℕ) (b : Book) (f : Fits b) where
 
   -- ---- a saved part dropped: it is cleared, then the flag
 
-  pub write_dropped : splice (splice (image top size b) (saved_offset top) (zeros (part_size top))) flag_offset (le 1 0) ≡ image top size (apply dropSaved b)
+  pub write_dropped : splice (splice (image top size b) (saved_offset top) (zeros (part_size top))) flag_offset (le 1 0) ≡ image top size (apply drop_saved b)
   unfolding apply image sections sections_with saved_bytes
   write_dropped =
       let ws : List ℕ = book_widths top size in

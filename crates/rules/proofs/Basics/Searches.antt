@@ -8,7 +8,7 @@ use mathlib.Core.Bool.{Bool, true, false, ◌||◌}
 use native.Mathlib.Omega.{arith}
 use lib.ListN.{length, get_or}
 use Rattle.rules.proofs.Basics.Tests.{and_both}
-use Rattle.rules.specs.Basics.{anyPasses, every, find, index_of, is_some, nth, put, counting, Each, nil, cons}
+use Rattle.rules.specs.Basics.{any_passes, every, find, index_of, is_some, nth, put, counting, Each, nil, cons}
 
 -- an option that holds something
 pub some_of {ℓ} : {A : Type ℓ} (o : Option A) → is_some o ≡ true → (x : A) × (o ≡ some x)
@@ -120,38 +120,38 @@ pub record First {ℓ} {A : Type ℓ} (p : A → Bool) (xs : List A) (d : A) (i 
 
 module _ {ℓ} {A : Type ℓ} (p : A → Bool) where
   -- the first passes, or one of the others
-  pub any_step : (x : A) (xs : List A) → anyPasses p (x ∷ xs) ≡ p x || anyPasses p xs
-  unfolding anyPasses
+  pub any_step : (x : A) (xs : List A) → any_passes p (x ∷ xs) ≡ p x || any_passes p xs
+  unfolding any_passes
   any_step x xs = go (p x) refl
     where
-      go : (t : Bool) → p x ≡ t → anyPasses p (x ∷ xs) ≡ t || anyPasses p xs
-      go true e = rw (e, anyPasses)
-      go false e = rw (e, anyPasses)
+      go : (t : Bool) → p x ≡ t → any_passes p (x ∷ xs) ≡ t || any_passes p xs
+      go true e = rw (e, any_passes)
+      go false e = rw (e, any_passes)
 
-  any_go : (x : A) (xs : List A) (t : Bool) → p x ≡ t → anyPasses p (x ∷ xs) ≡ false → (p x ≡ false) × (anyPasses p xs ≡ false)
-  unfolding anyPasses
-  any_go x xs true e h = let z : true ≡ false = rw (e, anyPasses) at h in (cc, cc)
-  any_go x xs false e h = (e, rw (e, anyPasses) at h)
+  any_go : (x : A) (xs : List A) (t : Bool) → p x ≡ t → any_passes p (x ∷ xs) ≡ false → (p x ≡ false) × (any_passes p xs ≡ false)
+  unfolding any_passes
+  any_go x xs true e h = let z : true ≡ false = rw (e, any_passes) at h in (cc, cc)
+  any_go x xs false e h = (e, rw (e, any_passes) at h)
 
   -- none passes
-  pub any_none : (xs : List A) → anyPasses p xs ≡ false → Each (λ x. p x ≡ false) xs
+  pub any_none : (xs : List A) → any_passes p xs ≡ false → Each (λ x. p x ≡ false) xs
   any_none [] h = nil
   any_none (x ∷ xs) h = let w = any_go x xs (p x) refl h in cons w.0 (any_none xs w.1)
 
-  pub none_any : {xs : List A} → Each (λ x. p x ≡ false) xs → anyPasses p xs ≡ false
-  unfolding anyPasses
+  pub none_any : {xs : List A} → Each (λ x. p x ≡ false) xs → any_passes p xs ≡ false
+  unfolding any_passes
   none_any nil = refl
-  none_any (cons e es) = rw (e, anyPasses) (none_any es)
+  none_any (cons e es) = rw (e, any_passes) (none_any es)
 
   -- the same where the tests are the same on each element
-  pub any_cong : (r : A → Bool) {xs : List A} → Each (λ x. p x ≡ r x) xs → anyPasses p xs ≡ anyPasses r xs
-  unfolding anyPasses
+  pub any_cong : (r : A → Bool) {xs : List A} → Each (λ x. p x ≡ r x) xs → any_passes p xs ≡ any_passes r xs
+  unfolding any_passes
   any_cong r nil = refl
   any_cong r (cons {x = x} {xs = xs} e es) = go (r x) refl (any_cong r es)
     where
-      go : (t : Bool) → r x ≡ t → anyPasses p xs ≡ anyPasses r xs → anyPasses p (x ∷ xs) ≡ anyPasses r (x ∷ xs)
-      go true f rest = rw (e, f, anyPasses)
-      go false f rest = rw (e, f, anyPasses) rest
+      go : (t : Bool) → r x ≡ t → any_passes p xs ≡ any_passes r xs → any_passes p (x ∷ xs) ≡ any_passes r (x ∷ xs)
+      go true f rest = rw (e, f, any_passes)
+      go false f rest = rw (e, f, any_passes) rest
 
   -- all pass
   pub every_each : (xs : List A) → every p xs ≡ true → Each (λ x. p x ≡ true) xs
@@ -212,13 +212,13 @@ module _ {A B : Type 0} (f : A → B → Bool) where
   each_swap ys nil = each_any ys (λ y. nil)
   each_swap ys (cons e es) = each_both (λ y p rest. cons p rest) e (each_swap ys es)
 
-  none_swap : (xs : List A) (ys : List B) → anyPasses (λ x. anyPasses (f x) ys) xs ≡ false → anyPasses (λ y. anyPasses (λ x. f x y) xs) ys ≡ false
+  none_swap : (xs : List A) (ys : List B) → any_passes (λ x. any_passes (f x) ys) xs ≡ false → any_passes (λ y. any_passes (λ x. f x y) xs) ys ≡ false
   none_swap xs ys h =
       none_any _ (each_map (λ y e. none_any _ e) (each_swap ys (each_map (λ x e. any_none (f x) ys e) (any_none _ xs h))))
 
 -- some pair passes, whichever list is gone through first
 pub any_swap : {A B : Type 0} (f : A → B → Bool) (xs : List A) (ys : List B)
-    → anyPasses (λ x. anyPasses (f x) ys) xs ≡ anyPasses (λ y. anyPasses (λ x. f x y) xs) ys
+    → any_passes (λ x. any_passes (f x) ys) xs ≡ any_passes (λ y. any_passes (λ x. f x y) xs) ys
 any_swap f xs ys =
     both_false _ _ (none_swap f xs ys) (none_swap (λ y x. f x y) ys xs)
   where

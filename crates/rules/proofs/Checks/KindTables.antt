@@ -6,7 +6,7 @@ use native.Mathlib.Omega.{arith}
 use lib.Dec.{eqb, ltb}
 use borrow.Author.Tests.{eqb-true, ltb-true, not-true}
 use Rattle.rules.specs.Basics.{total, every, counting, up_to, bit}
-use Rattle.rules.specs.Requests.{Kind, register, confirm, withdraw, guarantee, open_batch, undo, keep, closeGate, schedule, settle, strip, ask, commit, kind_number, kind_of, is_kind, is_single, wanted_map, wanted_length, field_count, room, offset}
+use Rattle.rules.specs.Requests.{Kind, register, confirm, withdraw, guarantee, open_batch, undo, keep, close_gate, schedule, settle, strip, ask, commit, kind_number, kind_of, is_kind, is_single, wanted_map, wanted_length, field_count, room, offset}
 use Rattle.rules.proofs.Basics.Tests.{and_both, within_true}
 use Rattle.rules.proofs.Basics.Searches.{every_each, counted_has}
 
@@ -19,7 +19,7 @@ kind_again guarantee = refl
 kind_again open_batch = refl
 kind_again undo = refl
 kind_again keep = refl
-kind_again closeGate = refl
+kind_again close_gate = refl
 kind_again schedule = refl
 kind_again settle = refl
 kind_again strip = refl

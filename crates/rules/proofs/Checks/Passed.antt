@@ -15,15 +15,15 @@ use Rattle.rules.specs.declared.Counts.{Counts}
 use Rattle.rules.specs.declared.Request.{Request}
 use Rattle.rules.specs.declared.Refusal.{Refusal}
 use Rattle.rules.specs.declared.Refusal.TheVariants.{Unreadable, UnknownKind, OutOfRange, SameAccount, BufferShort}
-use Rattle.rules.specs.Basics.{if◌then◌else◌, anyPasses, every, nth, counting, up_to, bit, Each, nil, cons}
+use Rattle.rules.specs.Basics.{if◌then◌else◌, any_passes, every, nth, counting, up_to, bit, Each, nil, cons}
 use Rattle.rules.specs.Limits.{most_price, most_rows, most_strip, most_schedules}
 use Rattle.rules.specs.Verdicts.{Check, ◌⇒◌, ◌⇒↑◌, applies, accepted, refused}
 use Rattle.rules.specs.Books.{Part, Book, with_asks, no_row, ask_at, no_asks, operator_count, counts_of}
-use Rattle.rules.specs.Requests.{Kind, register, confirm, withdraw, guarantee, open_batch, undo, keep, closeGate, schedule, settle, strip, ask, commit, kind_number, kind_of, is_single, wanted_map, wanted_length, map_of, field_in, request_of, unreadable, map_check, read_checks, is_strip, head_length, row_length, strip_count, strip_rows, row_checks, strip_checks, requests_of, first_of, field_count, bits, in_range, faulty_field, faulty_bit, faulty_bit_among, same_accounts}
+use Rattle.rules.specs.Requests.{Kind, register, confirm, withdraw, guarantee, open_batch, undo, keep, close_gate, schedule, settle, strip, ask, commit, kind_number, kind_of, is_single, wanted_map, wanted_length, map_of, field_in, request_of, unreadable, map_check, read_checks, is_strip, head_length, row_length, strip_count, strip_rows, row_checks, strip_checks, requests_of, first_of, field_count, bits, in_range, faulty_field, faulty_bit, faulty_bit_among, same_accounts}
 use Rattle.rules.specs.Registration.{proposed, stands_with, has_twin, twins, confirms, withdraws, mirrors, broken_hour, covered}
 use Rattle.rules.specs.Settlement.{price_count, prices_in}
 use Rattle.rules.specs.Strips.{IsRegister}
-use Rattle.rules.specs.Calls.{Call, call_kind, call_requests, changed, cleared_by, next, given, confirmed_number, ◌oneOf◌, adding, checked_as, phase_of, exposed_operator, bytes_checks, input_checks, state_checks, checks, refusal, answer, step}
+use Rattle.rules.specs.Calls.{Call, call_kind, call_requests, changed, cleared_by, next, given, confirmed_number, ◌one_of◌, adding, checked_as, phase_of, exposed_operator, bytes_checks, input_checks, state_checks, checks, refusal, answer, step}
 use Rattle.rules.proofs.Basics.Tests.{within_true, or_neither, and_spared}
 use Rattle.rules.proofs.Basics.Searches.{some_of, none_of, every_each, counted_has, find_none, each_nth, each_map, each_both, each_image}
 use Rattle.rules.proofs.Checks.KindTables.{single_kind}
@@ -133,7 +133,7 @@ fields_of_lem guarantee e = cc
 fields_of_lem open_batch e = cc
 fields_of_lem undo e = cc
 fields_of_lem keep e = cc
-fields_of_lem closeGate e = cc
+fields_of_lem close_gate e = cc
 fields_of_lem schedule e = cc
 fields_of_lem settle e = cc
 
@@ -226,7 +226,7 @@ module _ (b : Book) (c : Call) (qs : List Request) where
   accounts = map (λ q. same_accounts q ⇒ SameAccount) qs
 
   abbrev prices : Kind → Check
-  prices k = k one_of (settle ∷ []) && anyPasses (λ p. ltb most_price p.0) (prices_in b.setup c.prices) ⇒ OutOfRange 12
+  prices k = k one_of (settle ∷ []) && any_passes (λ p. ltb most_price p.0) (prices_in b.setup c.prices) ⇒ OutOfRange 12
 
   abbrev buffers : Kind → List Check
   buffers k =
@@ -255,7 +255,7 @@ module _ (b : Book) (c : Call) (qs : List Request) where
   passed_6_proposer k h = each_map (λ q e. e.0) (among k h)
 
   -- and every price
-  pub passed_6_prices : Clear (input_checks b c settle qs) → anyPasses (λ p. ltb most_price p.0) (prices_in b.setup c.prices) ≡ false
+  pub passed_6_prices : Clear (input_checks b c settle qs) → any_passes (λ p. ltb most_price p.0) (prices_in b.setup c.prices) ≡ false
   passed_6_prices h = spared _ _ (parts settle h).1.0
 
   pub passed_7 : (k : Kind) → Clear (input_checks b c k qs) → Each (λ q. same_accounts q ≡ false) qs
@@ -276,7 +276,7 @@ module _ (b : Book) (qs : List Request) where
   passed_11 k h = eqb-true _ _ (not-false _ (spared _ _ (clear_at 0 (state_checks b k qs) h)))
 
   -- no batch is open
-  pub passed_12 : (k : Kind) → k one_of (open_batch ∷ closeGate ∷ []) ≡ true → Clear (state_checks b k qs) → b.saved ≡ none
+  pub passed_12 : (k : Kind) → k one_of (open_batch ∷ close_gate ∷ []) ≡ true → Clear (state_checks b k qs) → b.saved ≡ none
   unfolding state_checks
   passed_12 k e h = none_of b.saved (spared_for _ _ _ e (clear_at 1 (state_checks b k qs) h))
 
@@ -292,7 +292,7 @@ module _ (b : Book) (qs : List Request) where
   passed_23 h = not-false _ (spared _ _ (clear_at 3 (state_checks b commit qs) h))
 
   -- no pending row is alike
-  pub passed_14 : (k : Kind) → k one_of adding ≡ true → Clear (state_checks b k qs) → anyPasses (has_twin b.part.rows) qs ≡ false
+  pub passed_14 : (k : Kind) → k one_of adding ≡ true → Clear (state_checks b k qs) → any_passes (has_twin b.part.rows) qs ≡ false
   unfolding state_checks
   passed_14 k e h = spared_for _ _ _ e (clear_at 4 (state_checks b k qs) h)
 
@@ -357,10 +357,10 @@ pub record Kept (b : Book) (c : Call) : Type 0 where
 
 -- what holds of a book, and of it without its asks, holds whatever kind of call was accepted
 pub cleared_either : (P : Book → Type 0) (k : Kind) (b : Book) → P b → P (with_asks b no_asks) → P (cleared_by k b)
-cleared_either P k b with_asks without = go (k one_of (ask ∷ []))
+cleared_either P k b with_asks_lem without = go (k one_of (ask ∷ []))
   where
     go : (t : Bool) → P (if t then b else with_asks b no_asks)
-    go true = with_asks
+    go true = with_asks_lem
     go false = without
 
 -- the requests say the call's kind

@@ -12,9 +12,9 @@ use Rattle.rules.specs.declared.Request.{Request}
 use Rattle.rules.specs.Basics.{total, nth, Each, nil, cons}
 use Rattle.rules.specs.Books.{Part, Book, no_row}
 use Rattle.rules.specs.Opening.{opened}
-use Rattle.rules.specs.Requests.{Kind, register, confirm, withdraw, guarantee, open_batch, undo, keep, closeGate, schedule, settle, strip, ask, commit, kind_number, kind_of, first_of}
+use Rattle.rules.specs.Requests.{Kind, register, confirm, withdraw, guarantee, open_batch, undo, keep, close_gate, schedule, settle, strip, ask, commit, kind_number, kind_of, first_of}
 use Rattle.rules.specs.Registration.{moved, proposed, confirms}
-use Rattle.rules.specs.Calls.{Call, call_kind, call_requests, changed, cleared_by, number_from, confirmed_number, scheduled, ◌oneOf◌, adding, checked_as, input_checks, state_checks, step, apply, add_rows}
+use Rattle.rules.specs.Calls.{Call, call_kind, call_requests, changed, cleared_by, number_from, confirmed_number, scheduled, ◌one_of◌, adding, checked_as, input_checks, state_checks, step, apply, add_rows}
 use Rattle.rules.specs.Lists.{accepts, after, runs, heard}
 use Rattle.rules.specs.Ledger.{Page, Ledger, blank, new_ledger, trade_of, page_after, feed, feed_each, fed, fed_all, traded, ledger_after}
 use Rattle.rules.proofs.Basics.Searches.{each_nth, each_any, each_map, each_image}
@@ -100,7 +100,7 @@ entry_kind guarantee e q l = cc
 entry_kind open_batch e q l = cc
 entry_kind undo e q l = cc
 entry_kind keep e q l = cc
-entry_kind closeGate e q l = cc
+entry_kind close_gate e q l = cc
 entry_kind schedule e q l = cc
 entry_kind settle e q l = cc
 entry_kind ask e q l = cc
@@ -181,12 +181,12 @@ change_agrees undo b c qs l a i h r g =
     rw (single_fed undo qs l refl a) (record { setup = g.setup; part = rw o s.part; schedules = s.schedules; saved = tt })
 change_agrees keep b c qs l a i h r g =
     rw (single_fed keep qs l refl a) (record { setup = g.setup; part = g.part; schedules = g.schedules; saved = tt })
-change_agrees closeGate b c qs l a i h r g =
-    rw (single_fed closeGate qs l refl a) (record {
+change_agrees close_gate b c qs l a i h r g =
+    rw (single_fed close_gate qs l refl a) (record {
       setup = g.setup;
       part = closed_agrees b.part l.page g.part;
       schedules = g.schedules;
-      saved = saved_none 2 b.schedules b.saved l.copy (passed_12 b qs closeGate refl h);
+      saved = saved_none 2 b.schedules b.saved l.copy (passed_12 b qs close_gate refl h);
     })
 change_agrees schedule b c qs l a i h r g =
     rw (single_fed schedule qs l refl a) (record {

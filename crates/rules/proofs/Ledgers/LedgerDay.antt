@@ -17,8 +17,8 @@ use Rattle.rules.specs.Opening.{opened, setup_of}
 use Rattle.rules.specs.Requests.{settle, kind_of, requests_of}
 use Rattle.rules.specs.Registration.{net_of, available}
 use Rattle.rules.specs.Readings.{position, net_reading, exposure_reading, hourly_exposure_reading}
-use Rattle.rules.specs.Settlement.{prices_in, results, balances, registeredTotal, balance_figure}
-use Rattle.rules.specs.Calls.{Call, drawn_up, Settled, call_kind, ◌oneOf◌, worked_out, settles, refusal, step, settlement}
+use Rattle.rules.specs.Settlement.{prices_in, results, balances, registered_total, balance_figure}
+use Rattle.rules.specs.Calls.{Call, drawn_up, Settled, call_kind, ◌one_of◌, worked_out, settles, refusal, step, settlement}
 use Rattle.rules.specs.Lists.{after, heard}
 use Rattle.rules.specs.Ledger.{Ledger, new_ledger, feed, feed_each, fed, fed_all, ledger_net, ledger_exposure, ledger_hourly_exposure, ledger_available, ledger_after}
 use Rattle.rules.proofs.Ledgers.Ranged.{Ranged, opened_ranged, last_ranged}
@@ -33,7 +33,7 @@ pub record SettledBy (l : Ledger) (c : Call) (w : Settled) : Type 0 where
   pub results : w.results ≡ results l.setup (ledger_net l) (prices_in l.setup c.prices) l.page.schedules
   pub balances : w.balances ≡ balances l.setup (ledger_net l) (prices_in l.setup c.prices) l.page.schedules
   -- the balances total what the ledger's registered schedules are worth
-  pub total : sum_of (map balance_figure w.balances) ≡ registeredTotal l.setup (ledger_net l) (prices_in l.setup c.prices) l.page.schedules
+  pub total : sum_of (map balance_figure w.balances) ≡ registered_total l.setup (ledger_net l) (prices_in l.setup c.prices) l.page.schedules
 
 never : (w : Settled) → none ≡ some w → ⊥
 never w h = let z : ◌≡◌ {A = ℕ} 0 1 = cc in omega arith
@@ -86,40 +86,40 @@ fed_all_setup l (x ∷ xs) = fed_all_setup (fed x.0 x.1 l) xs ∙ fed_setup x.0 
 
 module _ (s : List ℕ) (cs : List Call) where
   -- the book after the calls
-  abbrev pub dayBook : Book
-  dayBook = after step (opened s) cs
+  abbrev pub day_book : Book
+  day_book = after step (opened s) cs
 
   -- the ledger, fed only the set-up, the records and whether each was accepted
-  abbrev pub dayLedger : Ledger
-  dayLedger = ledger_after step s (opened s) cs
+  abbrev pub day_ledger : Ledger
+  day_ledger = ledger_after step s (opened s) cs
 
-  agrees : Agrees dayBook dayLedger
+  agrees : Agrees day_book day_ledger
   agrees = day_agrees s cs
 
-  pub day_setup : dayLedger.setup ≡ setup_of s
+  pub day_setup : day_ledger.setup ≡ setup_of s
   unfolding new_ledger
   day_setup = fed_all_setup (new_ledger s) (heard step (opened s) cs)
 
   -- every reading of net
   pub day_net : (a h : ℕ) → within 1 a (account_count (setup_of s)) ≡ true → within 1 h (periods (setup_of s)) ≡ true
-      → net_reading dayBook a h ≡ NetReading.Read (position (ledger_net dayLedger a h))
-  day_net a h i j = net_read_is_the_ledgers dayBook dayLedger agrees a h (rw day_setup i) (rw day_setup j)
+      → net_reading day_book a h ≡ NetReading.Read (position (ledger_net day_ledger a h))
+  day_net a h i j = net_read_is_the_ledgers day_book day_ledger agrees a h (rw day_setup i) (rw day_setup j)
 
   -- every reading of exposure
   pub day_exposure : (o : ℕ) → within 1 o (operator_count (setup_of s)) ≡ true
-      → exposure_reading dayBook o ≡ ExposureReading.Read (milli_cents (ledger_exposure dayLedger o))
-  day_exposure o i = exposure_read_is_the_ledgers dayBook dayLedger agrees o (rw day_setup i)
+      → exposure_reading day_book o ≡ ExposureReading.Read (milli_cents (ledger_exposure day_ledger o))
+  day_exposure o i = exposure_read_is_the_ledgers day_book day_ledger agrees o (rw day_setup i)
 
   -- every reading of hourly exposure
   pub day_hourly_exposure : (o h : ℕ) → within 1 o (operator_count (setup_of s)) ≡ true → within 1 h (periods (setup_of s)) ≡ true
-      → hourly_exposure_reading dayBook o h ≡ ExposureReading.Read (milli_cents (ledger_hourly_exposure dayLedger o h))
-  day_hourly_exposure o h i j = hourly_exposure_read_is_the_ledgers dayBook dayLedger agrees o h (rw day_setup i) (rw day_setup j)
+      → hourly_exposure_reading day_book o h ≡ ExposureReading.Read (milli_cents (ledger_hourly_exposure day_ledger o h))
+  day_hourly_exposure o h i j = hourly_exposure_read_is_the_ledgers day_book day_ledger agrees o h (rw day_setup i) (rw day_setup j)
 
   -- what is available
-  pub day_available : (o : ℕ) → available dayBook.setup dayBook.part o ≡ ledger_available dayLedger o
-  day_available o = available_is_the_ledgers dayBook dayLedger agrees o
+  pub day_available : (o : ℕ) → available day_book.setup day_book.part o ≡ ledger_available day_ledger o
+  day_available o = available_is_the_ledgers day_book day_ledger agrees o
 
   -- an accepted settle
-  pub day_settled : Owned (setup_of s) → (c : Call) (w : Settled) → settlement dayBook c ≡ some w → SettledBy dayLedger c w
+  pub day_settled : Owned (setup_of s) → (c : Call) (w : Settled) → settlement day_book c ≡ some w → SettledBy day_ledger c w
   day_settled owned c w h =
-      settled_by dayBook c dayLedger w (rw (agrees.setup, day_setup) owned) (last_ranged (opened s) cs (opened_ranged s)) agrees h
+      settled_by day_book c day_ledger w (rw (agrees.setup, day_setup) owned) (last_ranged (opened s) cs (opened_ranged s)) agrees h

@@ -15,7 +15,7 @@ use Rattle.rules.specs.Verdicts.{first_to_apply}
 use Rattle.rules.specs.Books.{Book, account_count, operator_count, periods}
 use Rattle.rules.specs.Registration.{includes_hour, counted, pending, waiting, net_of, account_hour, exposure, hourly_exposure, available}
 use Rattle.rules.specs.Readings.{position, net_reading, exposure_reading, hourly_exposure_reading}
-use Rattle.rules.specs.Settlement.{settled, results, balances, registeredTotal}
+use Rattle.rules.specs.Settlement.{settled, results, balances, registered_total}
 use Rattle.rules.specs.Ledger.{Ledger, ledger_net, ledger_waiting, ledger_hour, ledger_exposure, ledger_hourly_exposure, ledger_available, ledger_settled}
 use Rattle.rules.proofs.Ledgers.Entries.{total_entries}
 use Rattle.rules.proofs.Ledgers.Agreement.{Agrees}
@@ -98,6 +98,6 @@ module _ (b : Book) (l : Ledger) (g : Agrees b l) where
         ≡ balances l.setup (ledger_net l) t l.page.schedules
     balances-are-the-ledgers = rw (nets, g.setup, g.schedules)
 
-    pub total-is-the-ledgers : registeredTotal b.setup (net_of b.part.rows) t b.schedules
-        ≡ registeredTotal l.setup (ledger_net l) t l.page.schedules
+    pub total-is-the-ledgers : registered_total b.setup (net_of b.part.rows) t b.schedules
+        ≡ registered_total l.setup (ledger_net l) t l.page.schedules
     total-is-the-ledgers = rw (nets, g.setup, g.schedules)

@@ -14,9 +14,9 @@ use Rattle.rules.specs.declared.Request.{Request}
 use Rattle.rules.specs.Basics.{bit, Each, nil}
 use Rattle.rules.specs.Books.{Part, Book, account_count, point_count, counts_of}
 use Rattle.rules.specs.Opening.{opened}
-use Rattle.rules.specs.Requests.{Kind, register, confirm, withdraw, guarantee, open_batch, undo, keep, closeGate, schedule, settle, strip, ask, commit, kind_number, wanted_map, in_range, faulty_bit, first_of}
+use Rattle.rules.specs.Requests.{Kind, register, confirm, withdraw, guarantee, open_batch, undo, keep, close_gate, schedule, settle, strip, ask, commit, kind_number, wanted_map, in_range, faulty_bit, first_of}
 use Rattle.rules.specs.Registration.{with_status, proposed}
-use Rattle.rules.specs.Calls.{Call, call_kind, call_requests, Change, add_rows, set_status, set_guarantee, savePart, restorePart, dropSaved, shut_gate, add_schedule, end_day, stand_ask, scheduled, change, restored, apply, cleared_by, checked_as, input_checks, step}
+use Rattle.rules.specs.Calls.{Call, call_kind, call_requests, Change, add_rows, set_status, set_guarantee, save_part, restore_part, drop_saved, shut_gate, add_schedule, end_day, stand_ask, scheduled, change, restored, apply, cleared_by, checked_as, input_checks, step}
 use Rattle.rules.specs.Lists.{after}
 use Rattle.rules.proofs.Basics.Tests.{within_true}
 use Rattle.rules.proofs.Basics.Searches.{each_snoc, each_append, each_both, each_image}
@@ -111,9 +111,9 @@ abbrev Adds : Book → Change → Type 0
 Adds b (add_rows rows) = Each (Parties (account_count b.setup)) rows
 Adds b (set_status number status) = Unit {0}
 Adds b (set_guarantee o g) = Unit {0}
-Adds b savePart = Unit {0}
-Adds b restorePart = Unit {0}
-Adds b dropSaved = Unit {0}
+Adds b save_part = Unit {0}
+Adds b restore_part = Unit {0}
+Adds b drop_saved = Unit {0}
 Adds b shut_gate = Unit {0}
 Adds b (add_schedule x) = OnPoint (point_count b.setup) x
 Adds b end_day = Unit {0}
@@ -125,10 +125,10 @@ apply_ranged (add_rows rows) b new g = record { rows = each_append g.rows new; s
 apply_ranged (set_status number status) b new g =
     record { rows = each_mark number status (parties_status _ status) g.rows; saved = g.saved; schedules = g.schedules }
 apply_ranged (set_guarantee o x) b new g = record { rows = g.rows; saved = g.saved; schedules = g.schedules }
-apply_ranged savePart b new g = record { rows = g.rows; saved = g.rows; schedules = g.schedules }
-apply_ranged restorePart b new g =
+apply_ranged save_part b new g = record { rows = g.rows; saved = g.rows; schedules = g.schedules }
+apply_ranged restore_part b new g =
     record { rows = restored_parties _ b.saved b.part g.saved g.rows; saved = tt; schedules = g.schedules }
-apply_ranged dropSaved b new g = record { rows = g.rows; saved = tt; schedules = g.schedules }
+apply_ranged drop_saved b new g = record { rows = g.rows; saved = tt; schedules = g.schedules }
 apply_ranged shut_gate b new g = record { rows = each_closed (parties_status _ 3) g.rows; saved = g.saved; schedules = g.schedules }
 apply_ranged (add_schedule x) b new g = record { rows = g.rows; saved = g.saved; schedules = each_snoc g.schedules new }
 apply_ranged end_day b new g = record { rows = g.rows; saved = g.saved; schedules = g.schedules }
@@ -151,7 +151,7 @@ change_adds guarantee b c qs a i = tt
 change_adds open_batch b c qs a i = tt
 change_adds undo b c qs a i = tt
 change_adds keep b c qs a i = tt
-change_adds closeGate b c qs a i = tt
+change_adds close_gate b c qs a i = tt
 change_adds schedule b c qs a i = scheduled_on_point b c qs a i
 change_adds settle b c qs a i = tt
 

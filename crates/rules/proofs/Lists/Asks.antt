@@ -18,15 +18,15 @@ use Rattle.rules.specs.declared.Row.{Row}
 use Rattle.rules.specs.declared.Request.{Request}
 use Rattle.rules.specs.declared.Refusal.{Refusal}
 use Rattle.rules.specs.declared.Refusal.TheVariants.{Unreadable, WrongPhase, NoStandingAsk}
-use Rattle.rules.specs.Basics.{anyPasses, every, nth, put, up_to, bit}
+use Rattle.rules.specs.Basics.{any_passes, every, nth, put, up_to, bit}
 use Rattle.rules.specs.Limits.{most_accounts}
 use Rattle.rules.specs.Verdicts.{Check, ◌⇒◌, first_to_apply, accepted}
 use Rattle.rules.specs.Books.{Book, with_asks, ask_at, no_asks, pending_status, registration_phase}
 use Rattle.rules.specs.Requests.{Kind, register, strip, ask, commit, kind_number, kind_of, map_of, room, offset, field_in, request_of, unreadable, read_checks, is_strip, requests_of, field_count, field_of, in_range, faulty_field, faulty_bit, faulty_bit_among, same_accounts}
 use Rattle.rules.specs.Registration.{with_status, proposed, register_of, same_terms, stands_with, twins}
-use Rattle.rules.specs.Calls.{Call, Answer, call_kind, call_requests, given, ◌oneOf◌, bytes_checks, input_checks, state_checks, checks, refusal, apply, settles, answer, step, uncleared}
-use Rattle.rules.specs.Lists.{runs, after, accepts, acceptsAs}
-use Rattle.rules.specs.Asks.{would_register, ask_stands, asks_stand, as_register, clears_asks, call_account, noAskOf, onlyAsks, AskCommitted, CommittedAsAsked}
+use Rattle.rules.specs.Calls.{Call, Answer, call_kind, call_requests, given, ◌one_of◌, bytes_checks, input_checks, state_checks, checks, refusal, apply, settles, answer, step, uncleared}
+use Rattle.rules.specs.Lists.{runs, after, accepts, accepts_as}
+use Rattle.rules.specs.Asks.{would_register, ask_stands, asks_stand, as_register, clears_asks, call_account, no_ask_of, only_asks, AskCommitted, CommittedAsAsked}
 use Rattle.rules.proofs.Basics.Tests.{and_both, chain_holds, Holds, no_more, ◌and◌}
 use Rattle.rules.proofs.Basics.Searches.{none_of, put_place, every_each, counted_has}
 use Rattle.rules.proofs.Checks.Clearing.{Clear}
@@ -135,7 +135,7 @@ same_input b c q = refl
 
 same_state : (b : Book) (q : Request)
     → state_checks b register (of_kind (kind_number register) q ∷ []) ≡ state_checks b register (of_kind (kind_number ask) q ∷ [])
-unfolding state_checks apply anyPasses twins
+unfolding state_checks apply any_passes twins
 same_state b q = refl
 
 module _ (b : Book) (c : Call) (third : get_or c.bytes 2 0 ≡ kind_number ask) where
@@ -198,10 +198,10 @@ one_request s k e single = go (is_strip s) refl
 
 module _ (b : Book) (c : Call) (passes : accepts step b c ≡ true) where
   -- an ask changes its own place of the asks, and nothing else
-  pub ask_stands : call_kind c ≡ ask
+  pub ask_stands_lem : call_kind c ≡ ask
       → (step b c).book ≡ with_asks b (put b.asks (request_of c.bytes).account (some (proposed (request_of c.bytes))))
   unfolding apply
-  ask_stands e = (accepts_passed b c passes).book ∙ rw (e, one_request c.bytes ask e refl)
+  ask_stands_lem e = (accepts_passed b c passes).book ∙ rw (e, one_request c.bytes ask e refl)
 
   -- any other kind leaves none
   pub others_clear : call_kind c one_of (ask ∷ []) ≡ false → (step b c).book.asks ≡ no_asks
@@ -256,7 +256,7 @@ asked_account b (suc a) r h = omega arith
 
 -- register looks only at the fields of its row
 same_fields_judged : (b : Book) (q : Request) → state_checks b register (register_of (proposed q) ∷ []) ≡ state_checks b register (q ∷ [])
-unfolding state_checks apply anyPasses twins
+unfolding state_checks apply any_passes twins
 same_fields_judged b q = refl
 
 -- a commit whose ask stands, in a book whose asks register would accept
@@ -265,9 +265,9 @@ module _ (b : Book) (q : Request) (stand : asks_stand b ≡ true) (counts : q.ac
   the_ask : (x : Row) × ((ask_at b q.account ≡ some x) × (same_terms x (proposed q) ≡ true))
   the_ask = asked_row (proposed q) (ask_at b q.account) asked
 
-  would_register : would_register b the_ask.0 ≡ true
+  would_register_lem : would_register b the_ask.0 ≡ true
   unfolding asks_stand
-  would_register =
+  would_register_lem =
       let all = every_each (λ a. ask_stands b (ask_at b a)) (up_to most_accounts) stand in
       let low = asked_account b q.account (proposed q) asked in
       ap (ask_stands b) (sym the_ask.1.0) ∙ counted_has most_accounts 1 q.account all low (omega arith)
@@ -278,7 +278,7 @@ module _ (b : Book) (q : Request) (stand : asks_stand b ≡ true) (counts : q.ac
   register_passes =
       ap first_to_apply (sym (same_fields_judged b q))
       ∙ ap (λ (x : Request). first_to_apply (state_checks b register (x ∷ []))) (sym (same_register _ _ the_ask.1.1))
-      ∙ none_of _ (not-true _ would_register)
+      ∙ none_of _ (not-true _ would_register_lem)
 
   -- and nothing refuses it
   pub commit_passes : first_to_apply (state_checks b commit (q ∷ [])) ≡ none
@@ -318,12 +318,12 @@ none_there (suc i) = go most_accounts i
 
 -- a call between: no accepted ask of the account
 abbrev Between : Book → ℕ → Call → Type 0
-Between b a c = acceptsAs step (ask ∷ []) b c && eqb (request_of c.bytes).account a ≡ false
+Between b a c = accepts_as step (ask ∷ []) b c && eqb (request_of c.bytes).account a ≡ false
 
 -- what it leaves for the account: an ask of another account changes nothing, any other accepted call leaves nothing
 data Leaves (b : Book) (a : ℕ) (c : Call) : Type 0 where
   stays : (step b c).book.part ≡ b.part → ask_at (step b c).book a ≡ ask_at b a
-      → not (accepts step b c) || acceptsAs step (ask ∷ []) b c ≡ true → Leaves b a c
+      → not (accepts step b c) || accepts_as step (ask ∷ []) b c ≡ true → Leaves b a c
   clears : ask_at (step b c).book a ≡ none → Leaves b a c
 
 leaves : (b : Book) (a : ℕ) (c : Call) → Between b a c → Leaves b a c
@@ -334,19 +334,19 @@ leaves b a c h = go (accepts step b c) refl (call_kind c one_of (ask ∷ [])) re
         let book = (refused_leaves_all b c e).book in
         stays (ap (λ (x : Book). x.part) book) (ap (λ (x : Book). ask_at x a) book) (rw e)
     go true e true f =
-        let book = ask_stands b c e (the_kind (call_kind c) ask f) in
+        let book = ask_stands_lem b c e (the_kind (call_kind c) ask f) in
         let apart : eqb (request_of c.bytes).account a ≡ false = rw (e, f) at h in
         stays (ap (λ (x : Book). x.part) book) (ap (λ (x : Book). ask_at x a) book ∙ ⊎_elim (λ w. absurd (eqb-false _ a apart w.0)) (λ w. w.0) (put_place b.asks _ a _ none)) (rw (e, f))
     go true e false f = clears (ap (λ (l : List (Option Row)). nth l a none) (others_clear b c e f) ∙ none_there a)
 
 -- the first call and the rest
-first_between : (a : ℕ) (b : Book) (c : Call) (cs : List Call) → noAskOf step a b (c ∷ cs) ≡ true
-    → Between b a c × (noAskOf step a (step b c).book cs ≡ true)
-unfolding noAskOf runs every
+first_between : (a : ℕ) (b : Book) (c : Call) (cs : List Call) → no_ask_of step a b (c ∷ cs) ≡ true
+    → Between b a c × (no_ask_of step a (step b c).book cs ≡ true)
+unfolding no_ask_of runs every
 first_between a b c cs h = let w = (and_both _ _).0 h in (not-true _ w.0, w.1)
 
 -- where no ask stands for the account, none does later
-still_none : (a : ℕ) (b : Book) (cs : List Call) → noAskOf step a b cs ≡ true → ask_at b a ≡ none → ask_at (after step b cs) a ≡ none
+still_none : (a : ℕ) (b : Book) (cs : List Call) → no_ask_of step a b cs ≡ true → ask_at b a ≡ none → ask_at (after step b cs) a ≡ none
 unfolding after
 still_none a b [] h e = e
 still_none a b (c ∷ cs) h e = let w = first_between a b c cs h in still_none a (step b c).book cs w.1 (go (leaves b a c w.0))
@@ -357,16 +357,16 @@ still_none a b (c ∷ cs) h e = let w = first_between a b c cs h in still_none a
 
 -- the ask stands on through the list: then only asks were accepted, and no row was registered
 record Stays (a : ℕ) (b : Book) (cs : List Call) : Type 0 where
-  only : onlyAsks step b cs ≡ true
+  only : only_asks step b cs ≡ true
   part : (after step b cs).part ≡ b.part
   place : ask_at (after step b cs) a ≡ ask_at b a
 
-stays_or_gone : (a : ℕ) (b : Book) (cs : List Call) → noAskOf step a b cs ≡ true → Stays a b cs ⊎ (ask_at (after step b cs) a ≡ none)
-unfolding after onlyAsks runs every
+stays_or_gone : (a : ℕ) (b : Book) (cs : List Call) → no_ask_of step a b cs ≡ true → Stays a b cs ⊎ (ask_at (after step b cs) a ≡ none)
+unfolding after only_asks runs every
 stays_or_gone a b [] h = inl (record { only = refl; part = refl; place = refl })
 stays_or_gone a b (c ∷ cs) h = let w = first_between a b c cs h in go (leaves b a c w.0) (stays_or_gone a (step b c).book cs w.1) w.1
   where
-    go : Leaves b a c → Stays a (step b c).book cs ⊎ (ask_at (after step (step b c).book cs) a ≡ none) → noAskOf step a (step b c).book cs ≡ true
+    go : Leaves b a c → Stays a (step b c).book cs ⊎ (ask_at (after step (step b c).book cs) a ≡ none) → no_ask_of step a (step b c).book cs ≡ true
         → Stays a b (c ∷ cs) ⊎ (ask_at (after step b (c ∷ cs)) a ≡ none)
     go (stays part same only) (inl w) rest = inl (record { only = (and_both _ _).1 (only, w.only); part = w.part ∙ part; place = w.place ∙ same })
     go (stays part same only) (inr gone) rest = inr gone
@@ -393,7 +393,7 @@ module _ (b : Book) (asking : Call) (between : List Call) (committing : Call) (p
   committed = passed_as (after step b (asking ∷ between)) committing commit pair.commits
 
   ask_left : (step b asking).book ≡ with_asks b (put b.asks a (some row))
-  ask_left = ask_stands b asking ((and_both _ _).0 pair.asks).0 asked.1
+  ask_left = ask_stands_lem b asking ((and_both _ _).0 pair.asks).0 asked.1
 
   -- the commit's ask stood
   stood : stands_with (proposed (request_of committing.bytes)) (ask_at (after step b (asking ∷ between)) a) ≡ true
@@ -407,7 +407,7 @@ module _ (b : Book) (asking : Call) (between : List Call) (committing : Call) (p
   not_gone : ask_at (after step b (asking ∷ between)) a ≡ none → ⊥
   not_gone e = let z : false ≡ true = rw e at stood in let y : ◌≡◌ {A = ℕ} 0 1 = cc in omega arith
 
-  latest : noAskOf step a (step b asking).book between ≡ true
+  latest : no_ask_of step a (step b asking).book between ≡ true
   unfolding after
   latest = pair.latest
 

@@ -15,10 +15,10 @@ use Rattle.rules.specs.declared.Request.{Request}
 use Rattle.rules.specs.Basics.{if◌then◌else◌, total, every}
 use Rattle.rules.specs.Verdicts.{accepted}
 use Rattle.rules.specs.Books.{Part, Book, with_part, with_saved, with_asks, no_asks}
-use Rattle.rules.specs.Requests.{Kind, register, confirm, withdraw, guarantee, open_batch, undo, keep, closeGate, schedule, settle, strip, ask, commit, first_of}
+use Rattle.rules.specs.Requests.{Kind, register, confirm, withdraw, guarantee, open_batch, undo, keep, close_gate, schedule, settle, strip, ask, commit, first_of}
 use Rattle.rules.specs.Registration.{proposed}
-use Rattle.rules.specs.Calls.{Call, call_requests, call_kind, restored, confirmed_number, changed, next, given, ◌oneOf◌, adding, checked_as, state_checks, step, apply, add_rows}
-use Rattle.rules.specs.Lists.{after, acceptsAs, rowsRegistered, endsNoBatch, UndoneBatch, EmptyKeptBatch, Matched, runs}
+use Rattle.rules.specs.Calls.{Call, call_requests, call_kind, restored, confirmed_number, changed, next, given, ◌one_of◌, adding, checked_as, state_checks, step, apply, add_rows}
+use Rattle.rules.specs.Lists.{after, accepts_as, rows_registered, ends_no_batch, UndoneBatch, EmptyKeptBatch, Matched, runs}
 use Rattle.rules.proofs.Basics.Tests.{and_both, and_spared}
 use Rattle.rules.proofs.Checks.Clearing.{Clear}
 use Rattle.rules.proofs.Checks.Passed.{Passed, Kept, cleared_either, step_cases, passed_11, passed_12}
@@ -33,7 +33,7 @@ pub the_kind : (k j : Kind) → k one_of (j ∷ []) ≡ true → k ≡ j
 the_kind k j h = same_kind k j (sym (or-false _) ∙ h)
 
 -- an accepted call of that kind passed every check
-pub passed_as : (b : Book) (c : Call) (k : Kind) → acceptsAs step (k ∷ []) b c ≡ true → Passed b c × (call_kind c ≡ k)
+pub passed_as : (b : Book) (c : Call) (k : Kind) → accepts_as step (k ∷ []) b c ≡ true → Passed b c × (call_kind c ≡ k)
 passed_as b c k h = let w = (and_both _ _).0 h in (accepts_passed b c w.0, the_kind (call_kind c) k w.1)
 
 -- ---- while a batch is open
@@ -59,8 +59,8 @@ module _ {o b : Book} {n : ℕ} (w : Within o n b) (qs : List Request) where
   phase_within = ap (λ (x : Book). x.phase) w.book ∙ w.phase
 
   -- another part, with so many rows more
-  with_part : (m : ℕ) (p : Part) → length p.rows ≡ m + length b.part.rows → Within o (m + n) (with_part b p)
-  with_part m p e =
+  with_part_lem : (m : ℕ) (p : Part) → length p.rows ≡ m + length b.part.rows → Within o (m + n) (with_part b p)
+  with_part_lem m p e =
       record {
         part = p;
         asks = w.asks;
@@ -70,8 +70,8 @@ module _ {o b : Book} {n : ℕ} (w : Within o n b) (qs : List Request) where
       }
 
   -- other asks
-  with_asks : (asks : List (Option Row)) → Within o n (with_asks b asks)
-  with_asks asks =
+  with_asks_lem : (asks : List (Option Row)) → Within o n (with_asks b asks)
+  with_asks_lem asks =
       record { part = w.part; asks = asks; book = ap (λ (x : Book). with_asks x asks) w.book; phase = w.phase; numbers = w.numbers }
 
   -- a batch is open
@@ -80,7 +80,7 @@ module _ {o b : Book} {n : ℕ} (w : Within o n b) (qs : List Request) where
 
   rows_more : Within o (length qs + n) (apply (add_rows (map proposed qs)) b)
   unfolding apply
-  rows_more = with_part (length qs) _ (length-append b.part.rows _ ∙ omega (arith, length-map qs proposed))
+  rows_more = with_part_lem (length qs) _ (length-append b.part.rows _ ∙ omega (arith, length-map qs proposed))
 
   within_change : (k : Kind) → k one_of (undo ∷ keep ∷ []) ≡ false → Clear (state_checks b (checked_as k) qs)
       → Within o (registers k qs + n) (changed k b qs)
@@ -88,14 +88,14 @@ module _ {o b : Book} {n : ℕ} (w : Within o n b) (qs : List Request) where
   within_change register e h = rows_more
   within_change strip e h = rows_more
   within_change commit e h = rows_more
-  within_change ask e h = rw zero-add (with_asks _)
-  within_change confirm e h = with_part 0 _ (length-mark (confirmed_number b (first_of qs)) 2 b.part.rows ∙ sym (zero-add _))
-  within_change withdraw e h = with_part 0 _ (length-mark (first_of qs).number 3 b.part.rows ∙ sym (zero-add _))
-  within_change guarantee e h = with_part 0 _ (sym (zero-add _))
+  within_change ask e h = rw zero-add (with_asks_lem _)
+  within_change confirm e h = with_part_lem 0 _ (length-mark (confirmed_number b (first_of qs)) 2 b.part.rows ∙ sym (zero-add _))
+  within_change withdraw e h = with_part_lem 0 _ (length-mark (first_of qs).number 3 b.part.rows ∙ sym (zero-add _))
+  within_change guarantee e h = with_part_lem 0 _ (sym (zero-add _))
   within_change open_batch e h = absurd (saved_never (passed_12 b qs open_batch refl h))
   within_change undo e h = let z : ◌≡◌ {A = ℕ} 0 1 = cc in absurd (omega arith)
   within_change keep e h = let z : ◌≡◌ {A = ℕ} 0 1 = cc in absurd (omega arith)
-  within_change closeGate e h = absurd (saved_never (passed_12 b qs closeGate refl h))
+  within_change close_gate e h = absurd (saved_never (passed_12 b qs close_gate refl h))
   within_change schedule e h = absurd (omega (arith, passed_11 b qs schedule h, phase_within))
   within_change settle e h = absurd (omega (arith, passed_11 b qs settle h, phase_within))
 
@@ -103,21 +103,21 @@ within-next : {o b : Book} {n : ℕ} (w : Within o n b) (qs : List Request) (k :
     → Clear (state_checks b (checked_as k) qs) → Within o (registers k qs + n) (next k b qs)
 within-next {o} {b} {n} w qs k e h =
     let x = within_change w qs k e h in
-    cleared_either (Within o (registers k qs + n)) k (changed k b qs) x (with_asks x qs no_asks)
+    cleared_either (Within o (registers k qs + n)) k (changed k b qs) x (with_asks_lem x qs no_asks)
 
 -- the rows that one call registers
 abbrev rows_of : Book → Call → ℕ
-rows_of b c = if acceptsAs step adding b c then length (call_requests c) else 0
+rows_of b c = if accepts_as step adding b c then length (call_requests c) else 0
 
-within_go : {o : Book} {n : ℕ} (b : Book) (c : Call) → acceptsAs step (undo ∷ keep ∷ []) b c ≡ false → Within o n b → Kept b c ⊎ Passed b c
+within_go : {o : Book} {n : ℕ} (b : Book) (c : Call) → accepts_as step (undo ∷ keep ∷ []) b c ≡ false → Within o n b → Kept b c ⊎ Passed b c
     → Within o (rows_of b c + n) (step b c).book
 within_go b c e w (inl kept) = rw (kept_refused kept, kept.book, zero-add) w
 within_go b c e w (inr p) =
     rw (passed_accepted p, p.book) (within-next w (call_requests c) (call_kind c) (and_spared _ _ (passed_accepted p) e) p.state)
 
-within_after : {o : Book} {n : ℕ} (b : Book) (cs : List Call) → endsNoBatch step b cs ≡ true → Within o n b
-    → Within o (rowsRegistered step b cs + n) (after step b cs)
-unfolding endsNoBatch after rowsRegistered runs every total
+within_after : {o : Book} {n : ℕ} (b : Book) (cs : List Call) → ends_no_batch step b cs ≡ true → Within o n b
+    → Within o (rows_registered step b cs + n) (after step b cs)
+unfolding ends_no_batch after rows_registered runs every total
 within_after b [] e w = rw zero-add w
 within_after {n} b (c ∷ cs) e w =
     let t = (and_both _ _).0 e in
@@ -129,7 +129,7 @@ within_open b qs e = record { part = b.part; asks = no_asks; book = refl; phase 
 
 -- ---- an open that was accepted
 
-module _ (b : Book) (opening : Call) (opens : acceptsAs step (open_batch ∷ []) b opening ≡ true) where
+module _ (b : Book) (opening : Call) (opens : accepts_as step (open_batch ∷ []) b opening ≡ true) where
   opened_batch : Passed b opening × (call_kind opening ≡ open_batch)
   opened_batch = passed_as b opening open_batch opens
 
@@ -146,7 +146,7 @@ module _ (b : Book) (opening : Call) (opens : acceptsAs step (open_batch ∷ [])
   saved_none = passed_12 b (call_requests opening) open_batch refl open_state
 
   -- where it was kept at once, only the asks are gone
-  pub keep_clears : (keeping : Call) → acceptsAs step (keep ∷ []) (after step b (opening ∷ [])) keeping ≡ true
+  pub keep_clears : (keeping : Call) → accepts_as step (keep ∷ []) (after step b (opening ∷ [])) keeping ≡ true
       → after step b (opening ∷ keeping ∷ []) ≡ with_asks b no_asks
   unfolding after apply
   keep_clears keeping keeps =
@@ -162,7 +162,7 @@ module _ (b : Book) (opening : Call) (between : List Call) (undoing : Call) (bat
   undone_batch : Passed (after step b (opening ∷ between)) undoing × (call_kind undoing ≡ undo)
   undone_batch = passed_as (after step b (opening ∷ between)) undoing undo batch.undoes
 
-  within_batch : Within b (rowsRegistered step (after step b (opening ∷ [])) between) (after step b (opening ∷ between))
+  within_batch : Within b (rows_registered step (after step b (opening ∷ [])) between) (after step b (opening ∷ between))
   unfolding after
   within_batch =
       let start : Within b 0 (step b opening).book
@@ -185,12 +185,12 @@ module _ (b : Book) (opening : Call) (between : List Call) (undoing : Call) (bat
       ∙ undo_within _ _ (call_requests undoing) within_batch
 
   -- and gives the number of rows registered since
-  pub undo_counts : (step (after step b (opening ∷ between)) undoing).outcome ≡ accepted (rowsRegistered step (after step b (opening ∷ [])) between)
+  pub undo_counts : (step (after step b (opening ∷ between)) undoing).outcome ≡ accepted (rows_registered step (after step b (opening ∷ [])) between)
   unfolding given
   undo_counts =
       let x = after step b (opening ∷ between) in
       let saved : restored x.saved x.part ≡ b.part = ap (λ (y : Book). restored y.saved y.part) within_batch.book in
-      let count : length x.part.rows - length (restored x.saved x.part).rows ≡ rowsRegistered step (after step b (opening ∷ [])) between
+      let count : length x.part.rows - length (restored x.saved x.part).rows ≡ rows_registered step (after step b (opening ∷ [])) between
       = rw saved (omega (arith, ap (λ (y : Book). length y.part.rows) within_batch.book, within_batch.numbers)) in
       undone_batch.0.outcome
       ∙ ap (λ (k : Kind). accepted (given k x (call_requests undoing))) undone_batch.1

@@ -6,9 +6,9 @@ use mathlib.Core.List.{List, [], ◌∷◌, map, map-map}
 use mathlib.Core.Bool.{Bool, ◌&&◌}
 use Rattle.rules.specs.Basics.{every, Each, nil, cons}
 use Rattle.rules.specs.Requests.{Kind, open_batch, undo, keep, ask, commit}
-use Rattle.rules.specs.Calls.{Call, Answer, carried, call_kind, ◌oneOf◌}
-use Rattle.rules.specs.Lists.{Run, is_acceptance, runs, after, acceptsAs, heard, endsNoBatch, UndoneBatch, EmptyKeptBatch}
-use Rattle.rules.specs.Asks.{call_account, noAskOf, onlyAsks, AskCommitted, CommittedAsAsked}
+use Rattle.rules.specs.Calls.{Call, Answer, carried, call_kind, ◌one_of◌}
+use Rattle.rules.specs.Lists.{Run, is_acceptance, runs, after, accepts_as, heard, ends_no_batch, UndoneBatch, EmptyKeptBatch}
+use Rattle.rules.specs.Asks.{call_account, no_ask_of, only_asks, AskCommitted, CommittedAsAsked}
 use Rattle.rules.proofs.Lists.CallLists.{after_keeps}
 
 every_map : {A B : Type 0} (p : B → Bool) (f : A → B) (xs : List A) → every p (map f xs) ≡ every (λ x. p (f x)) xs
@@ -47,19 +47,19 @@ module _ {A B : Type 0} {answer : A → Call → Answer A} {other : B → Call �
     unfolding heard
     heard-carried = rw (runs-carried, map-map)
 
-    ends-carried : endsNoBatch other (form a) cs ≡ endsNoBatch answer a cs
-    unfolding endsNoBatch
+    ends-carried : ends_no_batch other (form a) cs ≡ ends_no_batch answer a cs
+    unfolding ends_no_batch
     ends-carried = rw (runs-carried, every_map)
 
-    no-ask-carried : (n : ℕ) → noAskOf other n (form a) cs ≡ noAskOf answer n a cs
-    unfolding noAskOf
+    no-ask-carried : (n : ℕ) → no_ask_of other n (form a) cs ≡ no_ask_of answer n a cs
+    unfolding no_ask_of
     no-ask-carried n = rw (runs-carried, every_map)
 
-    only-asks-carried : onlyAsks other (form a) cs ≡ onlyAsks answer a cs
-    unfolding onlyAsks
+    only-asks-carried : only_asks other (form a) cs ≡ only_asks answer a cs
+    unfolding only_asks
     only-asks-carried = rw (runs-carried, every_map)
 
-  pub accepts_carried : (ks : List Kind) (a : A) (c : Call) → Good a → acceptsAs other ks (form a) c ≡ acceptsAs answer ks a c
+  pub accepts_carried : (ks : List Kind) (a : A) (c : Call) → Good a → accepts_as other ks (form a) c ≡ accepts_as answer ks a c
   accepts_carried ks a c g = ap (λ (x : Answer B). is_acceptance x.outcome.verdict && call_kind c one_of ks) (k.alike a c g)
 
   -- a batch undone on the other form is undone on the one
@@ -71,11 +71,11 @@ module _ {A B : Type 0} {answer : A → Call → Answer A} {other : B → Call �
       record {
         opens = sym (accepts_carried (open_batch ∷ []) a opening g) ∙ batch.opens;
         goes_on =
-            sym (ap (λ (b : B). endsNoBatch other b between) (after-carried a one (cons p nil) g)
+            sym (ap (λ (b : B). ends_no_batch other b between) (after-carried a one (cons p nil) g)
             ∙ ends-carried (after answer a one) between e (after_keeps answer k.keeps a one (cons p nil) g))
             ∙ batch.goes_on;
         undoes =
-            sym (ap (λ (b : B). acceptsAs other (undo ∷ []) b undoing) (after-carried a many (cons p e) g)
+            sym (ap (λ (b : B). accepts_as other (undo ∷ []) b undoing) (after-carried a many (cons p e) g)
             ∙ accepts_carried (undo ∷ []) (after answer a many) undoing (after_keeps answer k.keeps a many (cons p e) g))
             ∙ batch.undoes;
       }
@@ -87,7 +87,7 @@ module _ {A B : Type 0} {answer : A → Call → Answer A} {other : B → Call �
       record {
         opens = sym (accepts_carried (open_batch ∷ []) a opening g) ∙ batch.opens;
         keeps =
-            sym (ap (λ (b : B). acceptsAs other (keep ∷ []) b keeping) (after-carried a one (cons p nil) g)
+            sym (ap (λ (b : B). accepts_as other (keep ∷ []) b keeping) (after-carried a one (cons p nil) g)
             ∙ accepts_carried (keep ∷ []) (after answer a one) keeping (after_keeps answer k.keeps a one (cons p nil) g))
             ∙ batch.keeps;
       }
@@ -114,11 +114,11 @@ module _ {A B : Type 0} {answer : A → Call → Answer A} {other : B → Call �
         record {
           asks = sym (accepts_carried (ask ∷ []) a asking g) ∙ pair.asks;
           latest =
-              sym (ap (λ (b : B). noAskOf other (call_account asking) b between) (after-carried a one (cons p nil) g)
+              sym (ap (λ (b : B). no_ask_of other (call_account asking) b between) (after-carried a one (cons p nil) g)
               ∙ no-ask-carried (after answer a one) between e good-one (call_account asking))
               ∙ pair.latest;
           commits =
-              sym (ap (λ (b : B). acceptsAs other (commit ∷ []) b committing) there
+              sym (ap (λ (b : B). accepts_as other (commit ∷ []) b committing) there
               ∙ accepts_carried (commit ∷ []) (after answer a many) committing good-many)
               ∙ pair.commits;
           own = pair.own;
@@ -129,7 +129,7 @@ module _ {A B : Type 0} {answer : A → Call → Answer A} {other : B → Call �
     as-asked-carried same =
         record {
           only-asks =
-              ap (λ (b : B). onlyAsks other b between) (after-carried a one (cons p nil) g)
+              ap (λ (b : B). only_asks other b between) (after-carried a one (cons p nil) g)
               ∙ only-asks-carried (after answer a one) between e good-one
               ∙ same.only-asks;
           same_answer =

@@ -17,14 +17,14 @@ use Rattle.rules.specs.declared.Row.{Row}
 use Rattle.rules.specs.declared.Request.{Request}
 use Rattle.rules.specs.declared.Refusal.{Refusal}
 use Rattle.rules.specs.declared.Refusal.TheVariants.{Unreadable, UnknownKind, WrongLength}
-use Rattle.rules.specs.Basics.{total, anyPasses, every, counting, bit, Each, nil, cons}
+use Rattle.rules.specs.Basics.{total, any_passes, every, counting, bit, Each, nil, cons}
 use Rattle.rules.specs.Verdicts.{Check, ◌⇒◌, ◌⇒↑◌, applies, first_to_apply}
 use Rattle.rules.specs.Limits.{most_rows}
 use Rattle.rules.specs.Books.{Book, part_rows, with_asks, with_rows, no_asks, counts_of, operator_of, registration_phase}
 use Rattle.rules.specs.Registration.{proposed, has_twin, twins, rows_pass, account_hour, broken_hour, covered}
 use Rattle.rules.specs.Requests.{Kind, register, strip, kind_number, kind_of, map_of, offset, field_in, request_of, unreadable, map_check, read_checks, is_strip, head_length, row_length, strip_count, strip_rows, row_checks, strip_checks, requests_of, first_of, faulty_bit, faulty_bit_among, same_accounts}
 use Rattle.rules.specs.Calls.{Call, call_kind, call_requests, checked_as, bytes_checks, input_checks, state_checks, checks, refusal, apply, given, settles, answer, step}
-use Rattle.rules.specs.Lists.{runs, after, accepts, wasAccepted}
+use Rattle.rules.specs.Lists.{runs, after, accepts, was_accepted}
 use Rattle.rules.specs.Ledger.{Ledger, feed, feed_each, fed, fed_all}
 use Rattle.rules.specs.Strips.{IsRegister, with_bytes, strip_of_one, registers_of}
 use Rattle.rules.proofs.Checks.Clearing.{Clear, clear_join, clear_applies}
@@ -219,10 +219,10 @@ module _ (b : Book) (p : ℕ) (q : Request) (qs : List Request) (f : Fit b p (q 
       refl then idle↑ _ ranged then refl then idle _ (first_and_rest f.apart).0 then refl then all_idle
 
   first_state : Idle (state_checks b register (q ∷ []))
-  unfolding state_checks apply anyPasses twins
+  unfolding state_checks apply any_passes twins
   first_state =
       let same = (first_and_rest f.ranged).0.0 in
-      let fresh : anyPasses (has_twin b.part.rows) (q ∷ []) ≡ false = none_any (has_twin b.part.rows) (cons {x = q} (first_and_rest f.fresh).0 nil) in
+      let fresh : any_passes (has_twin b.part.rows) (q ∷ []) ≡ false = none_any (has_twin b.part.rows) (cons {x = q} (first_and_rest f.fresh).0 nil) in
       let room : rows_pass b.part.rows 1 ≡ true = le-leb (length b.part.rows + 1) most_rows (omega (arith, f.room)) in
       let rows : List Row = b.part.rows ++ proposed q ∷ [] in
       let margins =
@@ -297,7 +297,7 @@ module _ (c : Call) (p : ℕ) where
       ∙ ap (λ (rs : List Row). with_asks (with_rows b rs) no_asks) (all_in b p q (map request_of (t ∷ rows)) f)
 
   all_accepted : (b : Book) (rows : List (List ℕ)) → Each ReadRow rows → Fit b p (map request_of rows)
-      → every wasAccepted (runs step b (map (with_bytes c) rows)) ≡ true
+      → every was_accepted (runs step b (map (with_bytes c) rows)) ≡ true
   unfolding runs every
   all_accepted b [] nil f = refl
   all_accepted b (s ∷ rows) (cons r e) f =
@@ -340,7 +340,7 @@ module _ (b : Book) (c : Call) (strips : is_strip c.bytes ≡ true) (passes : ac
       go (s ∷ rows) more e f = in_turn c _ b s rows e f
 
   -- each of which would be accepted
-  pub strip_rows_accepted : every wasAccepted (runs step b (registers_of c)) ≡ true
+  pub strip_rows_accepted : every was_accepted (runs step b (registers_of c)) ≡ true
   strip_rows_accepted = all_accepted c _ b (strip_rows c.bytes) its_rows its_fit
 
   -- and the ledger hears it as them in turn

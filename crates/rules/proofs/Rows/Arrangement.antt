@@ -54,11 +54,11 @@ times_where false k n = sym (zero-mul k)
 
 module _ (u : Setup) (prices : ℕ → CentsPerMwh) (holds : ℕ → ℕ → AccountHour) (o : ℕ) where
   -- the amount of an account hour
-  abbrev pub amountOf : ℕ × ℕ → ℕ
-  amountOf x = exposed_amount (prices x.1) (holds x.0 x.1)
+  abbrev pub amount_of : ℕ × ℕ → ℕ
+  amount_of x = exposed_amount (prices x.1) (holds x.0 x.1)
 
   -- the amounts of an hour, of the operator's accounts
-  pub hour_amounts : (h : ℕ) → hourly_exposure_of u prices holds o h ≡ total (λ a. amountOf (a, h)) (accounts_of u o)
+  pub hour_amounts : (h : ℕ) → hourly_exposure_of u prices holds o h ≡ total (λ a. amount_of (a, h)) (accounts_of u o)
   unfolding hourly_exposure_of of_operator accounts_of
   hour_amounts h =
       let p = (prices h).0 in
@@ -66,25 +66,25 @@ module _ (u : Setup) (prices : ℕ → CentsPerMwh) (holds : ℕ → ℕ → Acc
       mul_comm p (total here (up_to (account_count u)))
       ∙ sym (total_times here p (up_to (account_count u)))
       ∙ sym (total_cong _ _ (up_to (account_count u)) (λ a. times_where (owned u o a) p (exposed (holds a h))))
-      ∙ sym (total_those (owned u o) (λ a. amountOf (a, h)) (up_to (account_count u)))
+      ∙ sym (total_those (owned u o) (λ a. amount_of (a, h)) (up_to (account_count u)))
 
   -- all amounts
-  all_amounts : total amountOf (account_hours_of u o) ≡ exposure_of u prices holds o
+  all_amounts : total amount_of (account_hours_of u o) ≡ exposure_of u prices holds o
   unfolding exposure_of
-  all_amounts = by_account u o amountOf
+  all_amounts = by_account u o amount_of
 
   -- in any order of the operator's account hours
-  pub any_arrangement : (arranged : List (ℕ × ℕ)) → Perm (account_hours_of u o) arranged → total amountOf arranged ≡ exposure_of u prices holds o
-  any_arrangement arranged p = sym (total_rearranged amountOf p) ∙ all_amounts
+  pub any_arrangement : (arranged : List (ℕ × ℕ)) → Perm (account_hours_of u o) arranged → total amount_of arranged ≡ exposure_of u prices holds o
+  any_arrangement arranged p = sym (total_rearranged amount_of p) ∙ all_amounts
 
   -- in any groups, each with a sum of its own
   pub any_groups : (groups : List (List (ℕ × ℕ))) → Perm (account_hours_of u o) (flat_map (λ group. group) groups)
-      → total (total amountOf) groups ≡ exposure_of u prices holds o
-  any_groups groups p = sym (total_flat amountOf (λ group. group) groups) ∙ any_arrangement (flat_map (λ group. group) groups) p
+      → total (total amount_of) groups ≡ exposure_of u prices holds o
+  any_groups groups p = sym (total_flat amount_of (λ group. group) groups) ∙ any_arrangement (flat_map (λ group. group) groups) p
 
   -- the hourly exposures of all hours
   pub hours_total : total (hourly_exposure_of u prices holds o) (up_to (periods u)) ≡ exposure_of u prices holds o
-  hours_total = total_cong _ _ (up_to (periods u)) hour_amounts ∙ sym (by_hour u o amountOf) ∙ all_amounts
+  hours_total = total_cong _ _ (up_to (periods u)) hour_amounts ∙ sym (by_hour u o amount_of) ∙ all_amounts
 
   -- and in any order of the hours
   pub hours_in_any_order : (arranged : List ℕ) → Perm (up_to (periods u)) arranged

@@ -21,7 +21,7 @@ use Rattle.rules.specs.declared.Schedule.{Schedule}
 use Rattle.rules.specs.Basics.{if◌then◌else◌}
 use Rattle.rules.specs.Books.{Setup}
 use Rattle.rules.specs.Registration.{figure, low, high, keeps_margins, exposed}
-use Rattle.rules.specs.Settlement.{injects, accountOf, accountLimit}
+use Rattle.rules.specs.Settlement.{injects, account_of, account_limit}
 use Rattle.rules.specs.Readings.{position, position_figure}
 use Rattle.rules.proofs.Basics.Tests.{and_both}
 use Rattle.rules.proofs.Basics.Differences.{difference_order, order_by, difference_pos, difference_neg, difference_more, difference_less, difference_negated, difference_or_zero, or_zero, shortfall}
@@ -109,8 +109,8 @@ limit_go n true = below_zero n
 limit_go n false = sym (difference_or_zero n.bought.0 n.sold.0)
 
 -- minus net for injections and net for withdrawals, or 0
-pub account_limit : (u : Setup) (net : ℕ → ℕ → Net) (t : List CentsPerMwh) (x : Schedule)
-    → accountLimit u net t x
-    ≡ (let n = net (accountOf u net t x) x.hour in
+pub account_limit_lem : (u : Setup) (net : ℕ → ℕ → Net) (t : List CentsPerMwh) (x : Schedule)
+    → account_limit u net t x
+    ≡ (let n = net (account_of u net t x) x.hour in
     if injects u net t x then or_zero (neg_ℤ (figure n)) else or_zero (figure n))
-account_limit u net t x = limit_go (net (accountOf u net t x) x.hour) (injects u net t x)
+account_limit_lem u net t x = limit_go (net (account_of u net t x) x.hour) (injects u net t x)

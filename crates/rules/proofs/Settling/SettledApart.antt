@@ -15,7 +15,7 @@ use Rattle.rules.specs.declared.Schedule.{Schedule}
 use Rattle.rules.specs.declared.Placed.{Placed}
 use Rattle.rules.specs.Basics.{if◌then◌else◌, total, Each, nil, cons}
 use Rattle.rules.specs.Books.{Setup, point_at}
-use Rattle.rules.specs.Settlement.{placed, prioritised, Judged, congruous, used, accountOf, sameHourSide, judge, judged, settled, result_at}
+use Rattle.rules.specs.Settlement.{placed, prioritised, Judged, congruous, used, account_of, same_hour_side, judge, judged, settled, result_at}
 use Rattle.rules.proofs.Basics.Tests.{true_or_false, test_fails, and_both}
 use Rattle.rules.proofs.Basics.Searches.{each_any, each_map}
 use Rattle.rules.proofs.Settling.SettledTotal.{each_settled_place}
@@ -50,21 +50,21 @@ used_only p q h js =
 module _ (u : Setup) (net : ℕ → ℕ → Net) (t : List CentsPerMwh) where
   -- of the same account, hour and side
   unfoldable pub alike : Schedule → Schedule → Bool
-  alike x y = sameHourSide u net t x y && eqb (accountOf u net t x) (accountOf u net t y)
+  alike x y = same_hour_side u net t x y && eqb (account_of u net t x) (account_of u net t y)
 
-  pub alike_true : (x y : Schedule) → (alike x y ≡ true) ↔ ((x.hour ≡ y.hour) × (x.side ≡ y.side) × (accountOf u net t x ≡ accountOf u net t y))
+  pub alike_true : (x y : Schedule) → (alike x y ≡ true) ↔ ((x.hour ≡ y.hour) × (x.side ≡ y.side) × (account_of u net t x ≡ account_of u net t y))
   unfolding alike
   alike_true x y =
-      let b = and_both (sameHourSide u net t x y) (eqb (accountOf u net t x) (accountOf u net t y)) in
+      let b = and_both (same_hour_side u net t x y) (eqb (account_of u net t x) (account_of u net t y)) in
       let c = and_both (eqb x.hour y.hour) (eqb x.side y.side) in (
         (λ e. (eqb-true _ _ (c.0 (b.0 e).0).0, eqb-true _ _ (c.0 (b.0 e).0).1, eqb-true _ _ (b.0 e).1)),
         (λ h. b.1 (c.1 (eq-eqb _ _ h.0, eq-eqb _ _ h.1), eq-eqb _ _ h.2)),
       )
 
   -- a point is on one account
-  point_alike : (x y : Schedule) → sameHourSide u net t x y && eqb x.point y.point ≡ true → alike x y ≡ true
+  point_alike : (x y : Schedule) → same_hour_side u net t x y && eqb x.point y.point ≡ true → alike x y ≡ true
   point_alike x y h =
-      let b = (and_both (sameHourSide u net t x y) (eqb x.point y.point)).0 h in
+      let b = (and_both (same_hour_side u net t x y) (eqb x.point y.point)).0 h in
       let c = (and_both (eqb x.hour y.hour) (eqb x.side y.side)).0 b.0 in
       (alike_true x y).1 (eqb-true _ _ c.0, eqb-true _ _ c.1, ap (λ (n : ℕ). (point_at u n).account) (eqb-true x.point y.point b.1))
 
@@ -79,7 +79,7 @@ module _ (u : Setup) (net : ℕ → ℕ → Net) (t : List CentsPerMwh) where
       → judge u net t (only_judged q before) x ≡ judge u net t before x
   unfolding judge alike
   judge_apart q before x h =
-      let a = used_only (λ y. sameHourSide u net t x y && eqb x.point y.point) q (λ y e. h y (point_alike x y e)) before in
+      let a = used_only (λ y. same_hour_side u net t x y && eqb x.point y.point) q (λ y e. h y (point_alike x y e)) before in
       rw (a, used_only (alike x) q h before)
 
   -- schedules that pass a test, and with each all that are alike, are judged as if no others stood

@@ -46,14 +46,14 @@ loop-again c =
     let l = tested.before.before.before.before.before.loop in (
       search rules,
       search rules,
-      l.invariant.2 ∙ every_next _ _ _ _ (omega arith) (sym tested.ask_stands.ensures ∙ c.if1.true),
+      l.invariant.2 ∙ every_next _ _ _ _ (omega arith) (sym tested.ask_stands_lem.ensures ∙ c.if1.true),
     )
 
 returns : tie.Need-returns invariant-loop decreases-loop
 returns c =
     let tested = c.before in
     let l = tested.before.before.before.before.before.loop in
-    sym (l.invariant.2 ∙ every_fails _ _ _ (omega arith) (sym tested.ask_stands.ensures ∙ c.if1.false))
+    sym (l.invariant.2 ∙ every_fails _ _ _ (omega arith) (sym tested.ask_stands_lem.ensures ∙ c.if1.false))
 
 returns-2 : tie.Need-returns-2 invariant-loop decreases-loop
 returns-2 c = sym (c.before.loop.invariant.2 ∙ every_done _ _ _ (omega arith))

@@ -5,7 +5,7 @@ use mathlib.Core.Bool.{◌||◌}
 use native.Mathlib.Omega.{arith}
 use lib.ListN.{length, drop}
 use borrow.Author.Rules.{rules}
-use Rattle.rules.specs.Basics.{anyPasses}
+use Rattle.rules.specs.Basics.{any_passes}
 use Rattle.rules.specs.Limits.{most_rows}
 use Rattle.image.specs.Valid.{book_in}
 use Rattle.book.proofs.WaitLaws.{told_next, told_last}
@@ -20,7 +20,7 @@ invariant-loop book count found₀ number₀ found number =
     × (count ≤ most_rows)
     × (1 ≤ number)
     × (number ≤ count + 1)
-    × (found || anyPasses (is_ask_twin b) (drop (number - 1) b.part.rows) ≡ some_ask_twin b)
+    × (found || any_passes (is_ask_twin b) (drop (number - 1) b.part.rows) ≡ some_ask_twin b)
 
 abbrev decreases-loop : tie.decreases-loop
 decreases-loop book count found₀ number₀ found number = count + 1 - number

@@ -6,7 +6,7 @@ use mathlib.Core.Bool.{not}
 use native.Mathlib.Omega.{arith}
 use lib.ListN.{length}
 use borrow.Author.Rules.{rules}
-use Rattle.rules.specs.Basics.{anyPasses}
+use Rattle.rules.specs.Basics.{any_passes}
 use Rattle.rules.specs.Registration.{pending}
 use Rattle.image.specs.Image.{row_in}
 use Rattle.image.specs.Cells.{rows_from}
@@ -19,7 +19,7 @@ use Rattle.audit.proofs.checks.none_pending.Tie as tie
 abbrev invariant-loop : tie.invariant-loop
 invariant-loop s at n ok₀ k₀ left₀ ok k left =
     (k + row_width * left ≤ length s)
-    × TestsLeft row_in row_width (λ r. not (pending r)) s (not (anyPasses pending (rows_from s at n))) ok k left
+    × TestsLeft row_in row_width (λ r. not (pending r)) s (not (any_passes pending (rows_from s at n))) ok k left
 
 abbrev decreases-loop : tie.decreases-loop
 decreases-loop s at n ok₀ k₀ left₀ ok k left = left

@@ -7,7 +7,7 @@ use native.Mathlib.Omega.{arith}
 use Rattle.wire.specs.Numbers.{le}
 use Rattle.wire.specs.Regions.{splice}
 use Rattle.rules.specs.declared.Request.{Request}
-use Rattle.rules.specs.Requests.{closeGate}
+use Rattle.rules.specs.Requests.{close_gate}
 use Rattle.rules.proofs.Checks.Clearing.{checked-same}
 use Rattle.image.specs.Layout.{phase_offset}
 use Rattle.image.specs.Valid.{book_in}
@@ -20,14 +20,14 @@ use Rattle.batches.proofs.gate.close_gate.Statement.{statement}
 use Rattle.batches.proofs.gate.close_gate.Tie as tie
 
 -- past the checks nothing is decided
-free : (c : tie.After-enum-told) (q : Request) → decided closeGate (book_in c.before.before.before.before.before.args.book.now) q ≡ none
-free c q = checked-same _ none (sym (c.before.before.outside-batch.ensures closeGate q refl) ∙ c.enum_told.given.1)
+free : (c : tie.After-enum-told) (q : Request) → decided close_gate (book_in c.before.before.before.before.before.args.book.now) q ≡ none
+free c q = checked-same _ none (sym (c.before.before.outside-batch.ensures close_gate q refl) ∙ c.enum_told.given.1)
 
 returns : tie.Need-returns
 returns c =
     let tested = c.before.before.before in
-    refused_all closeGate _ _ tested.before.before.before.requires
-    (λ q. checked-same _ (some _) (sym (tested.outside-batch.ensures closeGate q refl) ∙ c.before.r.given.1))
+    refused_all close_gate _ _ tested.before.before.before.requires
+    (λ q. checked-same _ (some _) (sym (tested.outside-batch.ensures close_gate q refl) ∙ c.before.r.given.1))
 
 end-rows-requires : tie.Need-end-rows-requires
 end-rows-requires c κs =

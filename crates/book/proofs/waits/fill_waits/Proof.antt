@@ -6,7 +6,7 @@ use mathlib.Core.Bool.{◌||◌}
 use native.Mathlib.Omega.{arith}
 use lib.ListN.{length, drop}
 use borrow.Author.Rules.{rules}
-use Rattle.rules.specs.Basics.{anyPasses}
+use Rattle.rules.specs.Basics.{any_passes}
 use Rattle.rules.specs.Limits.{most_energy, most_rows}
 use Rattle.rules.specs.Registration.{alike}
 use Rattle.image.specs.Valid.{book_in}
@@ -24,7 +24,7 @@ invariant-loop table₀ book account counterparty code n found₀ number₀ tabl
     × (number ≤ n + 1)
     × (length table ≡ waits_size)
     × Waiting account rows (drop (number - 1) rows) table ((number - 1) * most_energy)
-    × (found || anyPasses (alike account counterparty code) (drop (number - 1) rows) ≡ anyPasses (alike account counterparty code) rows)
+    × (found || any_passes (alike account counterparty code) (drop (number - 1) rows) ≡ any_passes (alike account counterparty code) rows)
 
 abbrev decreases-loop : tie.decreases-loop
 decreases-loop table₀ book account counterparty code n found₀ number₀ table found number = n + 1 - number

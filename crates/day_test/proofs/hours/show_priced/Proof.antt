@@ -3,7 +3,7 @@ use Prim.Native.Nat.{ℕ, ◌*◌}
 use mathlib.Core.Path.{sym, ap, ◌∙◌}
 use lib.Dec.{ltb}
 use borrow.Author.Rules.{rules}
-use Rattle.rules.specs.Basics.{anyPasses, entries}
+use Rattle.rules.specs.Basics.{any_passes, entries}
 use Rattle.rules.specs.Limits.{most_price}
 use Rattle.rules.specs.Opening.{price_in, price_width}
 use Rattle.rules.specs.Settlement.{prices_in}
@@ -20,7 +20,7 @@ show-valued-requires c κs =
       is_sound = start.requires;
       whole = c.before.before.if1.false ∙ ap (λ (k : ℕ). price_width * k) n;
       prices_low =
-          ap (λ (k : ℕ). anyPasses (λ p. ltb most_price p.0) (entries price_width price_in k start.args.prices.now)) (sym n)
+          ap (λ (k : ℕ). any_passes (λ p. ltb most_price p.0) (entries price_width price_in k start.args.prices.now)) (sym n)
           ∙ sym c.before.too-high.ensures
           ∙ c.if2.false;
     }

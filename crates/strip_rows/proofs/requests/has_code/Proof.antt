@@ -3,7 +3,7 @@ use Prim.Native.Nat.{◌-◌}
 use mathlib.Core.Path.{◌≡◌, refl, sym, ◌∙◌}
 use native.Mathlib.Omega.{arith}
 use borrow.Author.Rules.{rules}
-use Rattle.rules.specs.Basics.{anyPasses}
+use Rattle.rules.specs.Basics.{any_passes}
 use Rattle.rules.specs.Registration.{of_code}
 use Rattle.rules.proofs.Basics.Searches.{any_step}
 use Rattle.strip_rows.specs.Rows.{requests_from, RegisterRows}
@@ -14,7 +14,7 @@ use Rattle.strip_rows.proofs.requests.has_code.Tie as tie
 abbrev invariant-loop : tie.invariant-loop
 invariant-loop bytes at n other code k₀ left₀ k left =
     RegisterRows bytes k left
-    × (anyPasses (of_code other code) (requests_from bytes at n) ≡ anyPasses (of_code other code) (requests_from bytes k left))
+    × (any_passes (of_code other code) (requests_from bytes at n) ≡ any_passes (of_code other code) (requests_from bytes k left))
 
 abbrev decreases-loop : tie.decreases-loop
 decreases-loop bytes at n other code k₀ left₀ k left = left
@@ -42,7 +42,7 @@ loop-again c =
     )
 
 returns-2 : tie.Need-returns-2 invariant-loop decreases-loop
-unfolding anyPasses
+unfolding any_passes
 returns-2 c =
     let l = c.before.loop in
     sym (l.invariant.1 ∙ rw (requests_done _ l.k l.left (omega arith)))

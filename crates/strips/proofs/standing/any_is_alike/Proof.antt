@@ -5,7 +5,7 @@ use mathlib.Core.Bool.{◌||◌}
 use native.Mathlib.Omega.{arith}
 use lib.ListN.{length, drop}
 use borrow.Author.Rules.{rules}
-use Rattle.rules.specs.Basics.{anyPasses}
+use Rattle.rules.specs.Basics.{any_passes}
 use Rattle.rules.specs.Limits.{most_rows}
 use Rattle.image.specs.Valid.{book_in}
 use Rattle.book.proofs.WaitLaws.{told_next, told_last}
@@ -21,7 +21,7 @@ invariant-loop book bytes n account count found₀ number₀ found number =
     × (count ≤ most_rows)
     × (1 ≤ number)
     × (number ≤ count + 1)
-    × (found || anyPasses among (drop (number - 1) rows) ≡ anyPasses among rows)
+    × (found || any_passes among (drop (number - 1) rows) ≡ any_passes among rows)
 
 abbrev decreases-loop : tie.decreases-loop
 decreases-loop book bytes n account count found₀ number₀ found number = count + 1 - number

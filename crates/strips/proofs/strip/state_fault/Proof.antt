@@ -4,7 +4,7 @@ use mathlib.Core.Path.{◌≡◌, sym, ap, ◌∙◌}
 use native.Mathlib.Omega.{arith}
 use borrow.Author.Rules.{rules}
 use Rattle.rules.specs.declared.Request.{Request}
-use Rattle.rules.specs.Basics.{anyPasses}
+use Rattle.rules.specs.Basics.{any_passes}
 use Rattle.rules.specs.Requests.{head_length}
 use Rattle.rules.specs.Registration.{has_twin}
 use Rattle.image.specs.Valid.{book_in}
@@ -40,7 +40,7 @@ any-is-alike-requires c κs = let pre = c.before.before.before.before.before.bef
 -- whether one of the requests has a twin among the rows that stand
 stands : (c : tie.After-any-is-alike)
     → let start = c.before.before.before.before.before.before.before in
-    c.any-is-alike.result ≡ anyPasses (has_twin (book_in start.args.book.now).part.rows) (strip_requests start.args.bytes.now start.args.n)
+    c.any-is-alike.result ≡ any_passes (has_twin (book_in start.args.book.now).part.rows) (strip_requests start.args.bytes.now start.args.n)
 stands c =
     let start = c.before.before.before.before.before.before.before in
     (rw (proposes c.before) at c.any-is-alike.ensures)

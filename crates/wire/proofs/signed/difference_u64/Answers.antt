@@ -4,4 +4,4 @@ use Rattle.wire.proofs.NumberLaws.{signed_difference}
 use Rattle.wire.proofs.signed.difference_u64.Goals as goal
 
 pub returns : goal.returns
-returns c = signed_difference 8 _ _ _ c.wrapping_sub_u64.ensures
+returns c = signed_difference 8 _ _ _ c.wrapping_sub_u64.ensures.value
