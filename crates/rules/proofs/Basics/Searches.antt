@@ -208,7 +208,7 @@ module _ {ℓ} {A : Type ℓ} (p : A → Bool) where
 -- ---- a test of two elements, one of each list
 
 module _ {A B : Type 0} (f : A → B → Bool) where
-  each_swap : {xs : List A} (ys : List B) → Each (λ x. Each (λ y. f x y ≡ false) ys) xs → Each (λ y. Each (λ x. f x y ≡ false) xs) ys
+  each_swap : (ys : List B) {xs : List A} → Each (λ x. Each (λ y. f x y ≡ false) ys) xs → Each (λ y. Each (λ x. f x y ≡ false) xs) ys
   each_swap ys nil = each_any ys (λ y. nil)
   each_swap ys (cons e es) = each_both (λ y p rest. cons p rest) e (each_swap ys es)
 

@@ -121,7 +121,7 @@ unfolding ends_no_batch after rows_registered runs every total
 within_after b [] e w = rw zero-add w
 within_after {n} b (c ∷ cs) e w =
     let t = (and_both _ _).0 e in
-    rw (add_comm (rows_of b c), add_assoc) (within_after (step b c).book cs t.1 (within_go b c (not-true _ t.0) w (step_cases b c)))
+    rw (add_comm (rows_of b c), add_assoc) (within_after {n = rows_of b c + n} (step b c).book cs t.1 (within_go b c (not-true _ t.0) w (step_cases b c)))
 
 within_open : (b : Book) (qs : List Request) → b.phase ≡ 1 → Within b 0 (next open_batch b qs)
 unfolding apply
