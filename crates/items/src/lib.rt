@@ -1,5 +1,6 @@
 // The replay's items and lines: the stream cut into items, and what the answers print.
 #![tactic(auto)]
+
 pub mod figures;
 pub mod lines;
 pub mod lists;

@@ -1,0 +1,21 @@
+-- The lines put so far and those of the balances that are left are together the whole text.
+use Prim.Native.Nat.{◌+◌, ◌-◌, ◌*◌}
+use mathlib.Core.Path.{◌≡◌}
+use native.Mathlib.Omega.{arith}
+use borrow.Author.Rules.{rules}
+use Rattle.rules.specs.Settlement.{figures_in}
+use Rattle.items.specs.Written.{line_room}
+use Rattle.items.specs.Figures.{balance_lines_text}
+use Rattle.items.proofs.ListLaws.{Underway, underway_start, underway_line, underway_done, balances_left, balances_whole, balances_next, balances_none}
+use Rattle.items.proofs.lists.put_balance_lines.Goals as goal
+
+pub loop-left-init : goal.loop-left-init
+loop-left-init c = (search rules, underway_start _ _ (balances_whole _ _) (omega arith))
+
+pub loop-left-preserved : goal.loop-left-preserved
+loop-left-preserved c =
+    (omega arith, underway_line _ _ (c.loop-left.left - 1) c.loop-left.invariant.1 (balances_next _ c.loop-left.k c.loop-left.left (c.loop-left.left - 1) (omega arith)) (omega arith) (omega arith) (omega arith) (rw c.balance_at-balance.ensures.figure at c.put_balance-past.ensures.written) c.put_balance-past.ensures.upper_bound)
+
+pub returns : goal.returns
+returns c =
+    record { written = underway_done c.loop-left.invariant.1 (balances_none _ c.loop-left.k c.loop-left.left (omega arith)); upper_bound = omega arith }

@@ -1,0 +1,12 @@
+-- The checks stand in the order of the bits of the map.
+use native.Mathlib.Omega.{arith}
+use borrow.Author.Rules.{rules}
+use Rattle.rules.specs.Basics.{counting, bit}
+use Rattle.rules.specs.Requests.{in_range}
+use Rattle.records.proofs.RangeLaws.{ranges_of}
+use Rattle.records.proofs.ranges.guarantee_fields.Goals as goal
+
+pub returns : goal.returns
+unfolding counting bit in_range
+returns c =
+    simp (ranges_of c.args.n c.args.q 0x0601 c.requires (omega arith), c.field.ensures, c.field-amount.ensures)

@@ -1,0 +1,20 @@
+-- Putting the fields from `k` on at `at`, where they begin, gives the whole.
+use Prim.Native.Nat.{suc, ◌+◌, ◌-◌, ◌≤◌}
+use mathlib.Core.Path.{◌≡◌, refl, ◌∙◌, sym}
+use lib.ListN.{length}
+use native.Mathlib.Numerals.{add-one}
+use native.Mathlib.Omega.{arith}
+use borrow.Author.Rules.{rules}
+use Rattle.wire.specs.Regions.{splice}
+use Rattle.rules.specs.Basics.{total, counting}
+use Rattle.rules.specs.Requests.{field_count, offset, field_bytes}
+use Rattle.rules.proofs.Records.Fields.{offset_step, offset_grows}
+use Rattle.records.proofs.WritingLaws.{fields_put, fields_next}
+use Rattle.records.proofs.writer.put_fields.Given as goal
+
+abbrev pub invariant-loop-k : goal.invariant-loop-k
+invariant-loop-k l =
+    (l.k ≤ field_count) × (l.at ≡ offset l.map l.k) × (length l.buffer ≡ length l.initial.buffer) × (splice l.buffer l.at (field_bytes l.map l.q l.k (field_count - l.k)) ≡ splice l.initial.buffer 2 (field_bytes l.map l.q 0 field_count))
+
+abbrev pub decreases-loop-k : goal.decreases-loop-k
+decreases-loop-k l = field_count - l.k

@@ -1,0 +1,15 @@
+-- Where all are in range none is at fault. Else a margin without a fault is passed over, and the first with one decides.
+use Prim.Native.Nat.{◌-◌}
+use mathlib.Core.Path.{refl}
+use native.Mathlib.Omega.{arith}
+use Rattle.rules.specs.Opening.{margin_in, margin_values, margin_width}
+use Rattle.setup.specs.Faults.{margin_faults}
+use Rattle.setup.proofs.FaultLaws.{EntriesLeft, none_left, first-clear, first-fails, no_margin_fault}
+use borrow.Author.Rules.{rules}
+use Rattle.setup.proofs.values.margin_faults.Given as goal
+
+abbrev pub invariant-loop-left : goal.invariant-loop-left
+invariant-loop-left l = EntriesLeft margin_width margin_in margin_values l.setup (margin_faults l.setup l.from l.count) l.at l.left
+
+abbrev pub decreases-loop-left : goal.decreases-loop-left
+decreases-loop-left l = l.left
