@@ -56,7 +56,7 @@ part_with s at rows = record { guarantees = guarantees_from s at (counts_in s).o
 -- what is known of the guarantees at `at` once each is in range
 pub record GuaranteesKnown (s : List ℕ) (at : ℕ) : Type 0 where
   pub whole : at + row_count_offset ≤ length s
-  pub in_range_lem : Each (λ g. g.0 ≤ most_guarantee) (guarantees_from s at (counts_in s).operators)
+  pub in_range : Each (λ g. g.0 ≤ most_guarantee) (guarantees_from s at (counts_in s).operators)
 
 -- what is known of the part at `at` once its guarantees and its n rows are in range
 pub record PartKnown (top : ℕ) (s : List ℕ) (at n : ℕ) : Type 0 where

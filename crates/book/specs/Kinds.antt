@@ -25,6 +25,6 @@ book_after k b q = unless_refused (decided k b q) b (changed k b (q ∷ []))
 -- a request of that kind whose fields are in range of the book
 pub record Ready (k : Kind) (b : Book) (q : Request) : Type 0 where
   pub of_kind : q.kind ≡ kind_number k
-  pub in_range_lem : faulty_bit (counts_of b.setup) q ≡ none
+  pub in_range : faulty_bit (counts_of b.setup) q ≡ none
   pub two_accounts : same_accounts q ≡ false
   pub code_fits : q.code < 256 ^ 8

@@ -170,7 +170,7 @@ in_range_ready b q plain code e =
     let passed = clear (range_checks (counts_of b.setup) q) e in
     record {
       of_kind = sym (kind_number_lem q.kind (plain_kind q.kind plain).0);
-      in_range_lem = spared↑ _ _ passed.0;
+      in_range = spared↑ _ _ passed.0;
       two_accounts = spared _ _ passed.1.0;
       code_fits = code;
     }

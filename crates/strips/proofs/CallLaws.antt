@@ -81,7 +81,7 @@ in_range_ready b s n is h =
     let fine = each_map (λ q e. among_in_range _ _ q (spared↑ _ _ e)) (clear_each _ qs w.0) in
     record {
       is_strip = is;
-      in_range_lem = each_map (λ q e. e.1) fine;
+      in_range = each_map (λ q e. e.1) fine;
       one_proposer = each_map (λ q e. e.0) fine;
       two_accounts = each_map (λ q e. spared _ _ e) (clear_each _ qs w.1);
     }

@@ -24,7 +24,7 @@ proposer s n = (first_of (strip_requests s n)).account
 -- a strip of n rows, each in range of the book, with two accounts, and of one proposer
 pub record ReadyStrip (b : Book) (s : List ℕ) (n : ℕ) : Type 0 where
   pub is_strip : StripOf s n
-  pub in_range_lem : Each (λ q. faulty_bit (counts_of b.setup) q ≡ none) (strip_requests s n)
+  pub in_range : Each (λ q. faulty_bit (counts_of b.setup) q ≡ none) (strip_requests s n)
   pub one_proposer : Each (λ q. q.account ≡ proposer s n) (strip_requests s n)
   pub two_accounts : Each (λ q. same_accounts q ≡ false) (strip_requests s n)
 

@@ -95,7 +95,7 @@ turned x r e n = go (alike x.proposer x.counterparty x.code r) refl
         absurd (never (alike_by _ _ _ x (record { is_pending = e; proposer = sym a.proposer; counterparty = sym a.counterparty; code = sym a.code })) n)
     go false w = refl
 
-twins_go : {rows : List Row} (r : Row) → no_twins rows ≡ true → Apart r rows → no_twins (rows ++ r ∷ []) ≡ true
+twins_go : (r : Row) {rows : List Row} → no_twins rows ≡ true → Apart r rows → no_twins (rows ++ r ∷ []) ≡ true
 unfolding no_twins
 twins_go r h nil = (twins_cons r []).1 ((λ e. nil), refl)
 twins_go r h (cons {x = x} {xs = xs} a rest) =

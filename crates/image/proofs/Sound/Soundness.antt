@@ -71,7 +71,7 @@ pub record SoundSetup (u : Setup) : Type 0 where
   pub zones_high : u.zones ≤ most_zones
   pub estimates_all : length u.estimates ≡ u.hours
   pub margins_all : Each (MarginsAll u.hours) u.accounts
-  pub in_range_lem : faulty_offset u (operators_of (replicate (operator_count u) (cents 0)) u.maintenance) ≡ none
+  pub in_range : faulty_offset u (operators_of (replicate (operator_count u) (cents 0)) u.maintenance) ≡ none
 
 -- an option that holds nothing
 pub not_some : {A : Type 0} (o : Option A) → not (is_some o) ≡ true → o ≡ none
@@ -92,7 +92,7 @@ setup_facts u (counts and estimates and margins and values and _) =
       zones_high = n.zones.most;
       estimates_all = eqb-true _ _ estimates;
       margins_all = each_map (sound_margins u.hours) (every_each (margins_by_hour u.hours) u.accounts margins);
-      in_range_lem = not_some _ values;
+      in_range = not_some _ values;
     }
 
 pub sound_setup : (u : Setup) → setup_ok u ≡ true → SoundSetup u

@@ -53,7 +53,7 @@ sums-valid-requires c κs =
           whole = search rules;
           guarantees = record {
             whole = search rules;
-            in_range_lem = guarantees_small _ _ _ _ (ap (λ (n : Counts). n.operators) counted.counts.ensures) (sym tested.guarantees-valid.ensures ∙ not-false _ tested-rows.if2.false);
+            in_range = guarantees_small _ _ _ _ (ap (λ (n : Counts). n.operators) counted.counts.ensures) (sym tested.guarantees-valid.ensures ∙ not-false _ tested-rows.if2.false);
           };
           rows = record {
             whole = search rules;

@@ -7,6 +7,7 @@ use Rattle.rules.specs.Requests.{wanted_map}
 use Rattle.records.proofs.KindLaws.{wanted_run, wanted_none}
 use Rattle.records.proofs.RangeLaws.{ranges_none, ranges_kind_alone}
 use Rattle.records.proofs.ranges.check_ranges.Goals as goal
+use Rattle.records.proofs.ranges.check_ranges.Goals.{then-kind-lt3, else-kind-lt3+else-kind-lt9+else-kind-lt12+then-kind-lt14}
 
 pub withdrawal_fields-requires : goal.withdrawal_fields-requires
 withdrawal_fields-requires c = ap wanted_map c.in-3.is
@@ -19,10 +20,11 @@ schedule_fields-requires c = ap wanted_map c.in-9.is
 
 pub trade_fields-requires : goal.trade_fields-requires
 trade_fields-requires c =
-    ⊎_elim
-    (λ w. wanted_run 1 2 0x00FF c.args.request.kind refl (omega arith) (omega (arith, w.taken)))
-    (λ w. wanted_run 12 2 0x00FF c.args.request.kind refl (omega (arith, w.2.left)) (omega (arith, w.3.taken)))
-    c.in-1-1.branch
+    let kind = c.args.request.kind in
+    elim c.in-1-1.branch [
+      | then-kind-lt3 w ↦ wanted_run 1 2 0x00FF kind refl (omega arith) (omega arith)
+      | else-kind-lt3+else-kind-lt9+else-kind-lt12+then-kind-lt14 w ↦ wanted_run 12 2 0x00FF kind refl (omega arith) (omega arith)
+    ]
 
 pub returns-in-5-to-8 : goal.returns-in-5-to-8
 returns-in-5-to-8 c =

@@ -15,9 +15,9 @@ get_u8-kind-requires c = (readable c.args.bytes.now (sym c.no_map.ensures ∙ c.
 pub returns-then-not-is_single : goal.returns-then-not-is_single
 returns-then-not-is_single c =
     let r = sym c.no_map.ensures ∙ c.if-no_map.false in
-    reads_no_kind c.args.bytes.now c.get_u8-kind.result r (c.get_u8-kind.ensures ∙ sym (kind_third c.args.bytes.now r)) (sym c.is_single.ensures ∙ not-true c.is_single.result c.if-not-is_single.true)
+    reads_no_kind c.args.bytes.now c.get_u8-kind.result r (c.get_u8-kind.ensures ∙ sym (kind_third c.args.bytes.now r)) (sym c.is_single.ensures ∙ c.if-not-is_single.true)
 
 pub read_as-requires : goal.read_as-requires
 read_as-requires c =
     let r = sym c.no_map.ensures ∙ c.if-no_map.false in
-    (r, c.get_u8-kind.ensures ∙ sym (kind_third c.args.bytes.now r), sym c.is_single.ensures ∙ not-false c.is_single.result c.if-not-is_single.false)
+    (r, c.get_u8-kind.ensures ∙ sym (kind_third c.args.bytes.now r), sym c.is_single.ensures ∙ c.if-not-is_single.false)

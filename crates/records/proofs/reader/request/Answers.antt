@@ -8,56 +8,58 @@ use Rattle.rules.specs.Basics.{counting}
 use Rattle.rules.specs.Requests.{width_of, bits, field_in, request_of}
 use Rattle.rules.proofs.Records.Fields.{field_in_fits}
 use borrow.Author.Rules.{rules}
+use Rattle.std.proofs.Common.{List, Fits, w8}
 use Rattle.records.proofs.reader.request.Goals as goal
 
 -- the field of a bit fits its width
-fits : (c : tie.After-fields) (k : ℕ) → get_or (map (field_in c.before.before.args.bytes.now) bits) k 0 ≡ field_in c.before.before.args.bytes.now k
-    → get_or c.fields.result k 0 < 256 ^ width_of k
-fits c k e = rw (c.fields.ensures, e) (field_in_fits (bytes_known c.before.before.args.bytes.now c.before.shared-slice-known.given) k)
+fits : (s fields : List ℕ) (k : ℕ) → ((k : ℕ) → Fits w8 (get_or s k 0)) → fields ≡ map (field_in s) bits
+    → get_or (map (field_in s) bits) k 0 ≡ field_in s k → get_or fields k 0 < 256 ^ width_of k
+fits s fields k b same e = rw (same, e) (field_in_fits (bytes_known s b) k)
 
 pub overflow_cast-result : goal.overflow_cast-result
-overflow_cast-result c =-- LEFT bare place c
- record { fits = fits c 0 refl }
+unfolding bits counting
+overflow_cast-result c = record { fits = fits c.args.bytes.now c.fields-f.result 0 c.type_inv.bytes c.fields-f.ensures refl }
 
 pub overflow_cast-result-2 : goal.overflow_cast-result-2
-overflow_cast-result-2 c =-- LEFT bare place c
- record { fits = fits c 1 refl }
+unfolding bits counting
+overflow_cast-result-2 c = record { fits = fits c.args.bytes.now c.fields-f.result 1 c.type_inv.bytes c.fields-f.ensures refl }
 
 pub overflow_cast-result-3 : goal.overflow_cast-result-3
-overflow_cast-result-3 c =-- LEFT bare place c
- record { fits = fits c 2 refl }
+unfolding bits counting
+overflow_cast-result-3 c = record { fits = fits c.args.bytes.now c.fields-f.result 2 c.type_inv.bytes c.fields-f.ensures refl }
 
 pub overflow_cast-result-4 : goal.overflow_cast-result-4
-overflow_cast-result-4 c =-- LEFT bare place c
- record { fits = fits c 4 refl }
+unfolding bits counting
+overflow_cast-result-4 c = record { fits = fits c.args.bytes.now c.fields-f.result 4 c.type_inv.bytes c.fields-f.ensures refl }
 
 pub overflow_cast-result-5 : goal.overflow_cast-result-5
-overflow_cast-result-5 c =-- LEFT bare place c
- record { fits = fits c 5 refl }
+unfolding bits counting
+overflow_cast-result-5 c = record { fits = fits c.args.bytes.now c.fields-f.result 5 c.type_inv.bytes c.fields-f.ensures refl }
 
 pub overflow_cast-result-6 : goal.overflow_cast-result-6
-overflow_cast-result-6 c =-- LEFT bare place c
- record { fits = fits c 6 refl }
+unfolding bits counting
+overflow_cast-result-6 c = record { fits = fits c.args.bytes.now c.fields-f.result 6 c.type_inv.bytes c.fields-f.ensures refl }
 
 pub overflow_cast-result-7 : goal.overflow_cast-result-7
-overflow_cast-result-7 c =-- LEFT bare place c
- record { fits = fits c 7 refl }
+unfolding bits counting
+overflow_cast-result-7 c = record { fits = fits c.args.bytes.now c.fields-f.result 7 c.type_inv.bytes c.fields-f.ensures refl }
 
 pub overflow_cast-result-8 : goal.overflow_cast-result-8
-overflow_cast-result-8 c =-- LEFT bare place c
- record { fits = fits c 8 refl }
+unfolding bits counting
+overflow_cast-result-8 c = record { fits = fits c.args.bytes.now c.fields-f.result 8 c.type_inv.bytes c.fields-f.ensures refl }
 
 pub overflow_cast-result-9 : goal.overflow_cast-result-9
-overflow_cast-result-9 c =-- LEFT bare place c
- record { fits = fits c 9 refl }
+unfolding bits counting
+overflow_cast-result-9 c = record { fits = fits c.args.bytes.now c.fields-f.result 9 c.type_inv.bytes c.fields-f.ensures refl }
 
 pub overflow_cast-result-10 : goal.overflow_cast-result-10
-overflow_cast-result-10 c =-- LEFT bare place c
- record { fits = fits c 11 refl }
+unfolding bits counting
+overflow_cast-result-10 c = record { fits = fits c.args.bytes.now c.fields-f.result 11 c.type_inv.bytes c.fields-f.ensures refl }
 
 pub overflow_cast-result-11 : goal.overflow_cast-result-11
-overflow_cast-result-11 c =-- LEFT bare place c
- record { fits = fits c 12 refl }
+unfolding bits counting
+overflow_cast-result-11 c = record { fits = fits c.args.bytes.now c.fields-f.result 12 c.type_inv.bytes c.fields-f.ensures refl }
 
 pub returns : goal.returns
+unfolding bits counting request_of
 returns c = rw c.fields-f.ensures

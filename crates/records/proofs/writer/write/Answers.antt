@@ -9,22 +9,22 @@ use Rattle.records.proofs.writer.write.Goals as goal
 
 pub returns-then-not-is_single : goal.returns-then-not-is_single
 returns-then-not-is_single c =
-    writes_no_kind c.args.request c.args.buffer.now (sym c.is_single.ensures ∙ not-true c.is_single.result c.if-not-is_single.true)
+    let both = writes_no_kind c.args.request c.args.buffer.now (sym c.is_single.ensures ∙ c.if-not-is_single.true) in record { answer = both.0; filled = both.1 }
 
 pub wanted_length-requires : goal.wanted_length-requires
 wanted_length-requires c =
-    let single = sym c.is_single.ensures ∙ not-false c.is_single.result c.if-not-is_single.false in
+    let single = sym c.is_single.ensures ∙ c.if-not-is_single.false in
     single_is_kind c.args.request.kind single
 
 pub returns-then-buffer-wanted_length : goal.returns-then-buffer-wanted_length
 returns-then-buffer-wanted_length c =
-    writes_no_room c.args.request c.args.buffer.now (sym c.is_single.ensures ∙ not-false c.is_single.result c.if-not-is_single.false) (omega (arith, c.wanted_length.ensures))
+    let both = writes_no_room c.args.request c.args.buffer.now (sym c.is_single.ensures ∙ c.if-not-is_single.false) (omega (arith, c.wanted_length.ensures)) in record { answer = both.0; filled = both.1 }
 
 pub put_record-requires : goal.put_record-requires
 put_record-requires c =
-    (sym c.is_single.ensures ∙ not-false c.is_single.result c.if-not-is_single.false, omega (arith, c.wanted_length.ensures))
+    (sym c.is_single.ensures ∙ c.if-not-is_single.false, omega (arith, c.wanted_length.ensures))
 
 pub returns : goal.returns
 returns c =
-    let w = writes_record c.args.request c.args.buffer.now (sym c.is_single.ensures ∙ not-false c.is_single.result c.if-not-is_single.false) (omega (arith, c.wanted_length.ensures, c.if-buffer-wanted_length.false)) in
+    let w = writes_record c.args.request c.args.buffer.now (sym c.is_single.ensures ∙ c.if-not-is_single.false) (omega (arith, c.wanted_length.ensures, c.if-buffer-wanted_length.false)) in
     record { answer = w.0; filled = c.put_record.ensures ∙ w.1 }

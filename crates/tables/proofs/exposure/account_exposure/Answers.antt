@@ -1,0 +1,39 @@
+-- After each hour, the sum so far and the exposure of the hours that are left together are that of all hours.
+use Prim.Native.Nat.{ℕ, ◌+◌, ◌-◌, ◌*◌, ◌≤◌}
+use mathlib.Core.Path.{◌≡◌, ◌∙◌, sym, ap}
+use native.Mathlib.Omega.{arith}
+use borrow.Author.Rules.{rules}
+use Rattle.rules.specs.declared.Counts.{Counts}
+use Rattle.rules.specs.Basics.{total, counting}
+use Rattle.rules.specs.Opening.{counts_in}
+use Rattle.rules.proofs.Basics.CountingLaws.{sum_begins, sum_next, sum_done}
+use Rattle.tables.specs.Sums.{ForRowsSummedIn, most_hour_exposure}
+use Rattle.tables.proofs.ExposureLaws.{hour_exposure, hour_exposure_read, exposure_by_hour, estimate_small}
+use Rattle.tables.proofs.exposure.account_exposure.Goals as goal
+
+pub loop-hour-init : goal.loop-hour-init
+loop-hour-init c = (
+  ap (λ (n : Counts). n.hours) c.counts-n.ensures,
+  search rules,
+  search rules,
+  search rules,
+  λ rows sums. sum_begins _ _ _ _ (omega arith),
+)
+
+pub hour_exposure-requires : goal.hour_exposure-requires
+hour_exposure-requires c =
+    rw c.estimate-price.ensures (estimate_small c.args.book.now c.loop-hour.hour c.requires.1 (omega arith) (omega arith))
+
+pub loop-hour-preserved : goal.loop-hour-preserved
+loop-hour-preserved c = (
+  c.loop-hour.invariant.0,
+  search rules,
+  search rules,
+  search rules,
+  λ rows sums.
+      sum_next _ _ _ _ _ _ _ (omega arith) (c.plus-sum.ensures.exact ∙ ap (λ (x : ℕ). c.loop-hour.sum.0 + x) (hour_exposure_read _ rows _ _ _ _ c.estimate-price.ensures (c.account_hour-x.ensures rows sums) c.hour_exposure.ensures.0)) (c.loop-hour.invariant.4 rows sums),
+)
+
+pub returns : goal.returns
+returns c =
+    record { meaning = (λ rows sums. sum_done _ _ _ _ _ (omega arith) (c.loop-hour.invariant.4 rows sums) ∙ sym (exposure_by_hour _ rows _)); bounded = search rules }

@@ -1,0 +1,24 @@
+-- The first hour that breaks a margin decides; where none was found, all keep them if those that are left do.
+use Prim.Native.Nat.{◌+◌, ◌-◌, ◌≤◌}
+use mathlib.Core.Path.{◌≡◌, ◌∙◌, sym, ap}
+use native.Mathlib.Omega.{arith}
+use borrow.Author.Rules.{rules}
+use Rattle.rules.specs.declared.Counts.{Counts}
+use Rattle.rules.specs.Basics.{every, counting}
+use Rattle.rules.specs.Opening.{counts_in, setup_of}
+use Rattle.rules.proofs.Basics.CountingLaws.{every_done, every_next, every_fails, every_same}
+use Rattle.image.specs.Valid.{account_keeps}
+use Rattle.tables.specs.Sums.{ForRowsSummedIn}
+use Rattle.tables.proofs.MarginLaws.{hour_kept, margins_by_hour_lem, hour_kept_lem}
+use Rattle.tables.proofs.margins.hours_kept.Given as goal
+
+abbrev pub invariant-loop-hour : goal.invariant-loop-hour
+invariant-loop-hour l =
+    (l.n.hours ≡ (counts_in l.book).hours)
+    × (1 ≤ l.hour)
+    × (l.hour ≤ (counts_in l.book).hours + 1)
+    × ForRowsSummedIn l.top l.table (λ rows.
+    account_keeps (setup_of l.book) rows l.number ≡ every (hour_kept l.book rows l.number) (counting ((counts_in l.book).hours + 1 - l.hour) l.hour))
+
+abbrev pub decreases-loop-hour : goal.decreases-loop-hour
+decreases-loop-hour l = (counts_in l.book).hours + 1 - l.hour

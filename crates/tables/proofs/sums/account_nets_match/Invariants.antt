@@ -1,0 +1,18 @@
+-- The first hour whose net position differs decides; where none was found, all agree if those that are left do.
+use Prim.Native.Nat.{◌+◌, ◌-◌, ◌≤◌}
+use mathlib.Core.Path.{◌≡◌, ◌∙◌, sym}
+use native.Mathlib.Omega.{arith}
+use borrow.Author.Rules.{rules}
+use Rattle.rules.specs.Basics.{every, counting}
+use Rattle.rules.proofs.Basics.CountingLaws.{every_done, every_next, every_fails, every_same}
+use Rattle.tables.specs.Sums.{net_stored}
+use Rattle.tables.proofs.sums.account_nets_match.Given as goal
+
+abbrev pub invariant-loop-hour : goal.invariant-loop-hour
+invariant-loop-hour l =
+    (1 ≤ l.hour)
+    × (l.hour ≤ l.top + 1)
+    × (every (net_stored l.top l.s l.nets l.table l.account) (counting l.top 1) ≡ every (net_stored l.top l.s l.nets l.table l.account) (counting (l.top + 1 - l.hour) l.hour))
+
+abbrev pub decreases-loop-hour : goal.decreases-loop-hour
+decreases-loop-hour l = l.top + 1 - l.hour

@@ -1,0 +1,8 @@
+-- The three numbers are those of the definition.
+use Rattle.tables.specs.Sums.{net_stored}
+use borrow.Author.Rules.{rules}
+use Rattle.tables.proofs.sums.net_matches.Goals as goal
+
+pub returns : goal.returns
+unfolding net_stored
+returns c = rw (c.get_u32-stored.ensures, c.place.ensures.is, c.sum_at-bought.ensures, c.sum_at-sold.ensures)

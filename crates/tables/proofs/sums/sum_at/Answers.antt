@@ -1,0 +1,6 @@
+-- It is the element at the cell of that account hour in that lane.
+use borrow.Author.Rules.{rules}
+use Rattle.tables.proofs.sums.sum_at.Goals as goal
+
+pub returns : goal.returns
+returns c = rw c.cell-k.ensures.is
