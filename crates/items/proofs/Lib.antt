@@ -13,5 +13,3 @@ pub mod FigureLaws
 pub mod ListLaws
 -- SettledLaws: the buffers as an accepted settle leaves them print its lines.
 pub mod SettledLaws
--- WalkLaws: for the walks by hand: the token of a lifetime that is made for one call, and clauses beside each other.
-pub mod WalkLaws

@@ -1,6 +1,5 @@
 -- The line is four numbers, and each is put where the one before it ends.
 use native.Mathlib.Omega.{arith}
-use borrow.Author.Rules.{rules}
 use Rattle.items.proofs.LineLaws.{answered_written}
 use Rattle.items.proofs.lines.put_answered.Goals as goal
 

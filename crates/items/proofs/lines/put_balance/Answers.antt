@@ -1,6 +1,5 @@
 -- The line is its mark and two figures, and each is put where the one before it ends.
 use native.Mathlib.Omega.{arith}
-use borrow.Author.Rules.{rules}
 use Rattle.items.proofs.LineLaws.{balance_written}
 use Rattle.items.proofs.lines.put_balance.Goals as goal
 

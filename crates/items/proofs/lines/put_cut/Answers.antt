@@ -1,6 +1,5 @@
 -- The line is its mark and one figure, which is put where the mark ends.
 use native.Mathlib.Omega.{arith}
-use borrow.Author.Rules.{rules}
 use Rattle.items.proofs.LineLaws.{cut_written}
 use Rattle.items.proofs.lines.put_cut.Goals as goal
 

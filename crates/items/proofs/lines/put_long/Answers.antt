@@ -1,6 +1,5 @@
 -- The line is one text, which is copied in.
 use native.Mathlib.Omega.{arith}
-use borrow.Author.Rules.{rules}
 use Rattle.rules.specs.Replay.{line_text}
 use Rattle.items.proofs.lines.put_long.Goals as goal
 

@@ -1,12 +1,10 @@
 -- The lines put so far and those of the balances that are left are together the whole text.
-use Prim.Native.Nat.{◌+◌, ◌-◌, ◌*◌}
+use Prim.Native.Nat.{◌+◌, ◌*◌}
 use mathlib.Core.Path.{◌≡◌}
-use native.Mathlib.Omega.{arith}
-use borrow.Author.Rules.{rules}
 use Rattle.rules.specs.Settlement.{figures_in}
 use Rattle.items.specs.Written.{line_room}
 use Rattle.items.specs.Figures.{balance_lines_text}
-use Rattle.items.proofs.ListLaws.{Underway, underway_start, underway_line, underway_done, balances_left, balances_whole, balances_next, balances_none}
+use Rattle.items.proofs.ListLaws.{Underway, balances_left}
 use Rattle.items.proofs.lists.put_balance_lines.Given as goal
 
 abbrev pub invariant-loop-left : goal.invariant-loop-left

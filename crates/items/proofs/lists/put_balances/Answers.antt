@@ -1,6 +1,5 @@
 -- The text is the lines of the balances and then the line of their sum.
 use native.Mathlib.Omega.{arith}
-use borrow.Author.Rules.{rules}
 use Rattle.items.proofs.ListLaws.{balances_written}
 use Rattle.items.proofs.lists.put_balances.Goals as goal
 

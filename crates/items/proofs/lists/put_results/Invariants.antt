@@ -1,11 +1,9 @@
 -- The lines put so far and those of the results that are left are together the whole text.
-use Prim.Native.Nat.{◌+◌, ◌-◌, ◌*◌}
+use Prim.Native.Nat.{◌+◌, ◌*◌}
 use mathlib.Core.Path.{◌≡◌}
-use native.Mathlib.Omega.{arith}
-use borrow.Author.Rules.{rules}
 use Rattle.items.specs.Written.{line_room}
 use Rattle.items.specs.Figures.{results_text}
-use Rattle.items.proofs.ListLaws.{Underway, underway_start, underway_line, underway_done, results_left, results_whole, results_next, results_none}
+use Rattle.items.proofs.ListLaws.{Underway, results_left}
 use Rattle.items.proofs.lists.put_results.Given as goal
 
 abbrev pub invariant-loop-left : goal.invariant-loop-left

@@ -1,6 +1,5 @@
 -- The text is the lines of the results and then those of the balances.
 use native.Mathlib.Omega.{arith}
-use borrow.Author.Rules.{rules}
 use Rattle.items.specs.Figures.{settled_text}
 use Rattle.items.proofs.WrittenLaws.{written_then}
 use Rattle.items.proofs.lists.put_settled.Goals as goal

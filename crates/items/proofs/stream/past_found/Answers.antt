@@ -1,5 +1,4 @@
 -- Each case of what was found says where the walk goes on.
-use borrow.Author.Rules.{rules}
 use Rattle.items.specs.Stream.{past_found}
 use Rattle.items.proofs.stream.past_found.Goals as goal
 

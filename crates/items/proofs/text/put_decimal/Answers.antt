@@ -8,8 +8,8 @@ use Rattle.items.proofs.text.put_decimal.Goals as goal
 
 pub put_bytes-requires : goal.put_bytes-requires
 put_bytes-requires c =
-    omega (arith, c.decimal-k.ensures.0.1, fewest_places _ _ (search rules) c.decimal-k.ensures.1.0)
+    omega (arith, c.decimal-k.ensures.in_bounds.1, fewest_places _ _ (search rules) c.decimal-k.ensures.len)
 
 pub returns : goal.returns
 returns c =
-    record { written = written_as _ (c.decimal-k.ensures.1.1 ∙ fewest_decimal _ _ c.decimal-k.ensures.1.0) c.put_bytes.ensures; upper_bound = omega (arith, c.put_bytes.ensures.behind, c.decimal-k.ensures.0.1, fewest_places _ _ (search rules) c.decimal-k.ensures.1.0) }
+    record { written = written_as _ (c.decimal-k.ensures.digits ∙ fewest_decimal _ _ c.decimal-k.ensures.len) c.put_bytes.ensures; upper_bound = omega (arith, c.put_bytes.ensures.behind, c.decimal-k.ensures.in_bounds.1, fewest_places _ _ (search rules) c.decimal-k.ensures.len) }

@@ -1,6 +1,5 @@
 -- The sign decides which of the two is taken from the other.
 use native.Mathlib.Omega.{arith}
-use borrow.Author.Rules.{rules}
 use Rattle.items.proofs.DecimalLaws.{figure_plus, figure_minus}
 use Rattle.items.proofs.WrittenLaws.{written_then}
 use Rattle.items.proofs.text.put_figure.Goals as goal

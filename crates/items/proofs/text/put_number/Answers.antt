@@ -1,6 +1,5 @@
 -- The decimal text of the number is put first, and the byte where it ends.
 use native.Mathlib.Omega.{arith}
-use borrow.Author.Rules.{rules}
 use Rattle.items.proofs.WrittenLaws.{written_then}
 use Rattle.items.proofs.text.put_number.Goals as goal
 
