@@ -22,6 +22,7 @@ FIELD = re.compile(r"(?m)^  (?:pub\s+)?([a-z][^\s(){}\[\],;:.]*)\s*:\s")
 # Names that would fall together with another one, and get a name of their own.
 APART = {"fields-of": "fields_of_lem", "moved_all": "moved_all_lem", "taken_at": "taken_at_lem", "with_part": "with_part_lem", "arrayOf": "array_value"}
 APART |= {"with-asks": "with_asks_lem", "ask-stands": "ask_stands_lem", "would-register": "would_register_lem"}
+APART |= {n: n.replace("-", "_") + "_lem" for n in ["accounts-in", "asks-valid", "book-exact", "book-ok", "counts-in", "estimates-in", "exposure-with-trade", "nets-match", "part-cleared", "part-copied", "part-exact", "sale-worth", "saved-exact", "setup-in"]}
 # Words of the library that lemmas are named after.
 LIBRARY = {"length", "take", "drop", "map", "set", "insert", "append", "min", "eqb", "leb", "ltb", "replicate", "get"}
 

@@ -29,7 +29,7 @@ use Rattle.image.proofs.Round.{one_book}
 use Rattle.image.proofs.Keeping.KeepsChanges.{cleared_sound}
 use Rattle.image.proofs.Keeping.Keeps.{cleared_stands}
 use Rattle.book.specs.Kinds.{decided}
-use Rattle.book.proofs.StateLaws.{book_image, book_length, book_ok, book_is_sound}
+use Rattle.book.proofs.StateLaws.{book_image, book_length, book_ok_lem, book_is_sound}
 use Rattle.book.proofs.Answers.{in_wrong_phase}
 use Rattle.registration.specs.Proposing.{Proposing}
 use Rattle.registration.specs.Cover.{covered_with_row}
@@ -58,7 +58,7 @@ module _ (s : List ℕ) (h : is_sound s ≡ true) where
       let b : Book = book_in s in
       let none_written = (cleared_written s h (sym (zeros_again s (asks_offset most_hours) asks_size (omega (arith, book_length s h)) e))).0 in
       let same : b ≡ with_asks b no_asks =
-      one_book most_hours book_size b (with_asks b no_asks) (book_ok s h) (book_sound _ (cleared_sound b (book_is_sound s h))) (sym (book_image s h) ∙ none_written) in
+      one_book most_hours book_size b (with_asks b no_asks) (book_ok_lem s h) (book_sound _ (cleared_sound b (book_is_sound s h))) (sym (book_image s h) ∙ none_written) in
       ap asks_stand same ∙ cleared_stands b
 
   module _ (a : ℕ) (r : Row) (low : 1 ≤ a) (high : a ≤ most_accounts) (held : ask_at (book_in s) a ≡ asked_for r) where

@@ -116,9 +116,9 @@ module _ (top : ℕ) (s : List ℕ) where
   place_there i h = chunk_at row_width most_accounts room i h ∙ inner row_width (row_width * i) asks_size (asks_offset top) s (omega arith)
 
   -- as code tests it
-  pub asks_valid : asks_ok (setup_of s) asks ≡ true → asks_exact top s ≡ true → asks_valid top s ≡ true
+  pub asks_valid_lem : asks_ok (setup_of s) asks ≡ true → asks_exact top s ≡ true → asks_valid top s ≡ true
   unfolding asks_exact asks_valid
-  asks_valid h t =
+  asks_valid_lem h t =
       let w = (and_both (eqb (length asks) most_accounts) (every (λ a. ask_ok (setup_of s) a (nth asks a none)) (up_to most_accounts))).0 h in
       up_to_every _ most_accounts (λ a low high.
       place_valid s (ask_offset top a) a

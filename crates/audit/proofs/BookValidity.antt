@@ -29,7 +29,7 @@ use Rattle.image.proofs.Setups.SetupAgain.{setup_in_front}
 use Rattle.audit.specs.Exact.{part_exact, saved_exact, book_exact_tests, book_exact}
 use Rattle.audit.specs.Validity.{setup_valid_tests, setup_valid, SavedCounted, rows_of, part_valid, saved_part_valid, saved_followed, schedules_valid_tests, schedules_valid, phase_valid_tests, phase_valid, asks_valid}
 use Rattle.audit.proofs.Local.{is_sound_local}
-use Rattle.audit.proofs.AskTests.{asks_valid, valid_asks}
+use Rattle.audit.proofs.AskTests.{asks_valid_lem, valid_asks}
 use Rattle.audit.proofs.PartValidity.{part_places, few_rows}
 use Rattle.audit.proofs.ValidityLaws.{fails_with, setup_known}
 
@@ -151,7 +151,7 @@ pub record Sections (s : List ℕ) : Type 0 where
   pub followed : saved_followed most_hours s ≡ true
   pub schedules_valid : schedules_valid s ≡ true
   pub phase_valid : phase_valid s ≡ true
-  pub asks_valid : asks_valid most_hours s ≡ true
+  pub asks_valid_lem : asks_valid most_hours s ≡ true
   pub spare_zero : zeros_from s (used_size most_hours) (book_size - used_size most_hours) ≡ true
 
 module _ (s : List ℕ) where
@@ -177,7 +177,7 @@ module _ (s : List ℕ) where
   valid_sections : length s ≡ book_size → Holds (book_tests here) → Holds (book_exact_tests most_hours book_size s) → Sections s
   unfolding setup_valid part_valid schedules_valid phase_valid
   valid_sections l (setup and phased and part and saved and count and schedules and ended and early and batch and asks and _)
-      (behind-setup and bare and flagged and behind-schedules and exact and saved_exact and asks-exact and spare and _) =
+      (behind-setup and bare and flagged and behind-schedules and exact and saved_exact_lem and asks-exact and spare and _) =
       let f = setup_in_front s (sound_setup here.setup setup) in
       let a : setup_valid s ≡ true = holds_all (setup_valid_tests s) (setup and bare and behind-setup and no_more) in
       let k = setup_known s l a in
@@ -192,7 +192,7 @@ module _ (s : List ℕ) where
       (saved_whole most_hours s
       ∙ saved_there most_hours s k.operators_high (rows_of s present_offset) (get_or s flag_offset 0)
       (ap (λ (r : List Row). saved_ok (setup_of s) r here.saved) (sym e) ∙ ap (λ (u : Setup). saved_ok u here.part.rows here.saved) (sym f) ∙ saved)
-      saved_exact) in
+      saved_exact_lem) in
       record {
         setup_valid = a;
         part_valid = b;
@@ -200,7 +200,7 @@ module _ (s : List ℕ) where
         followed = together.1;
         schedules_valid = holds_all (schedules_valid_tests s) (le-leb _ _ few and each and behind-schedules and no_more);
         phase_valid = holds_all (phase_valid_tests s) (phased and flagged and (sym (none_left e) ∙ ended) and (sym none_yet ∙ early) and (sym none_open ∙ batch) and no_more);
-        asks_valid = asks_valid most_hours s (ap (λ (u : Setup). asks_ok u here.asks) (sym f) ∙ asks) asks-exact;
+        asks_valid_lem = asks_valid_lem most_hours s (ap (λ (u : Setup). asks_ok u here.asks) (sym f) ∙ asks) asks-exact;
         spare_zero = spare;
       }
 
@@ -216,7 +216,7 @@ module _ (s : List ℕ) where
       saved_here most_hours s k.operators_high (rows_of s present_offset) (get_or s flag_offset 0)
       (sym (saved_whole most_hours s) ∙ (and_both (saved_part_valid most_hours s) (saved_followed most_hours s)).1 (d.saved_valid, d.followed)) in
       let few : number_at s schedule_count_offset 2 ≤ most_schedules = leb-true _ _ count in
-      let o = valid_asks most_hours s d.asks_valid in
+      let o = valid_asks most_hours s d.asks_valid_lem in
       let part = ap (λ (u : Setup). part_ok u here.part) f ∙ b.0 in
       let saved =
       ap (λ (u : Setup). saved_ok u here.part.rows here.saved) f ∙ ap (λ (r : List Row). saved_ok (setup_of s) r here.saved) e ∙ c.0 in
@@ -260,7 +260,7 @@ module _ (s : List ℕ) (b : Bytes s) where
   rest_decides {schedules} {phase} {asks} {spare} l a v p w e f k z =
       test_same _ _ (λ t. sections_sound l (by-rest (chain_holds schedules (phase ∷ asks ∷ spare ∷ []) t))) (λ t.
       let d = sound_valid t in
-      holds_chain ((e ∙ d.schedules_valid) and (f ∙ d.phase_valid) and (k ∙ d.asks_valid) and (z ∙ d.spare_zero) and no_more))
+      holds_chain ((e ∙ d.schedules_valid) and (f ∙ d.phase_valid) and (k ∙ d.asks_valid_lem) and (z ∙ d.spare_zero) and no_more))
     where
       by-rest : Holds (schedules ∷ phase ∷ asks ∷ spare ∷ []) → Sections s
       by-rest (schedules-hold and phase-holds and asks-hold and spare-holds and _) = record {
@@ -270,6 +270,6 @@ module _ (s : List ℕ) (b : Bytes s) where
         followed = w;
         schedules_valid = sym e ∙ schedules-hold;
         phase_valid = sym f ∙ phase-holds;
-        asks_valid = sym k ∙ asks-hold;
+        asks_valid_lem = sym k ∙ asks-hold;
         spare_zero = sym z ∙ spare-holds;
       }

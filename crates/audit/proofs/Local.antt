@@ -31,7 +31,7 @@ use Rattle.image.proofs.Round.{schedule_again, same_refl, sound_is_image, length
 use Rattle.image.proofs.Reading.Places.{book_at, counts_at, decode_places}
 use Rattle.audit.specs.Exact.{part_exact, saved_exact, book_exact_tests, book_exact}
 use Rattle.audit.proofs.SetupTests.{setup_exact, exact_setup}
-use Rattle.audit.proofs.PartTests.{slots_zero, part_exact, exact_part}
+use Rattle.audit.proofs.PartTests.{slots_zero, part_exact_lem, exact_part}
 use Rattle.audit.proofs.AskTests.{asks-exact, exact-asks}
 
 -- ---- the flag
@@ -51,14 +51,14 @@ module _ (top ops : ℕ) (s : List ℕ) (b : Bytes s) (l : used_size top ≤ len
   abbrev kept : List ℕ
   kept = take (part_size top) (drop (saved_offset top) s)
 
-  saved_exact : (n : ℕ) → SavedSound u rows (saved_in n top ops kept) → (saved_bytes top (saved_in n top ops kept) ≡ kept) ↔ (saved_exact n top ops s ≡ true)
+  saved_exact_lem : (n : ℕ) → SavedSound u rows (saved_in n top ops kept) → (saved_bytes top (saved_in n top ops kept) ≡ kept) ↔ (saved_exact n top ops s ≡ true)
   unfolding saved_in saved_bytes saved_exact
-  saved_exact zero k = (
+  saved_exact_lem zero k = (
     (λ (e : zeros (part_size top) ≡ kept). zeros_tested (part_size top) s (saved_offset top) (omega arith) (sym e)),
     (λ (t : zeros_from s (saved_offset top) (part_size top) ≡ true). sym (zeros_read (part_size top) s (saved_offset top) (omega arith) t)),
   )
-  saved_exact (suc n) k = (
-    (λ (e : part_bytes top (part_in top ops kept) ≡ kept). part_exact top ops s (saved_offset top) b (omega arith) o k.0.rows_high e),
+  saved_exact_lem (suc n) k = (
+    (λ (e : part_bytes top (part_in top ops kept) ≡ kept). part_exact_lem top ops s (saved_offset top) b (omega arith) o k.0.rows_high e),
     (λ (t : part_exact top ops s (saved_offset top) ≡ true). exact_part top ops s (saved_offset top) b (omega arith) o k.0.rows_high t),
   )
 
@@ -110,7 +110,7 @@ module _ (top size : ℕ) (s : List ℕ) (b : Bytes s) (l : length s ≡ size) (
 
   saved_test : (saved_bytes top (book_at top s).saved ≡ take (part_size top) (drop (saved_offset top) s)) ↔ (saved_exact (get_or s flag_offset 0) top (counts_in s).operators s ≡ true)
   saved_test =
-      saved_exact top (counts_in s).operators s b (omega arith) few (book_at top s).setup (book_at top s).part.rows (get_or s flag_offset 0) known.saved_sound
+      saved_exact_lem top (counts_in s).operators s b (omega arith) few (book_at top s).setup (book_at top s).part.rows (get_or s flag_offset 0) known.saved_sound
 
   flag_test : (le 1 (flag (book_at top s).saved) ≡ le 1 (get_or s flag_offset 0)) ↔ (leb (get_or s flag_offset 0) 1 ≡ true)
   flag_test = flag_exact (get_or s flag_offset 0) top (counts_in s).operators (take (part_size top) (drop (saved_offset top) s)) (bytes_at b flag_offset)
@@ -132,9 +132,9 @@ module _ (top size : ℕ) (s : List ℕ) (b : Bytes s) (l : length s ≡ size) (
       beside sym (cut_at ws s spare_section ∙ rw spare_place) beside no_others)
       ∙ flat-cut ws s (l ∙ omega arith)
 
-  book_exact : image top size (book_at top s) ≡ s → book_exact top size s ≡ true
+  book_exact_lem : image top size (book_at top s) ≡ s → book_exact top size s ≡ true
   unfolding book_exact image sections sections_with
-  book_exact e =
+  book_exact_lem e =
       let few_schedules = schedules_few in
       let sec : sections top size (book_at top s) ≡ cut ws s =
       sym (cut-flat ws (sections top size (book_at top s)) (wide_book top size (book_at top s) (fits (book_at top s) known))) ∙ ap (cut ws) e in
@@ -144,7 +144,7 @@ module _ (top size : ℕ) (s : List ℕ) (b : Bytes s) (l : length s ≡ size) (
       let t2 = flag_test.0 (at flag_section ∙ byte_at flag_offset (omega arith)) in
       let z4 = slots_zero schedule_width most_schedules schedule_bytes length-schedule schedule_in schedule_count (take (schedule_width * most_schedules) (drop schedules_offset s)) (at schedules_section) in
       let t4 = rest_zeros_tested ws s schedules_section (schedule_width * schedule_count) (omega arith) (omega arith) (ap (drop (schedule_width * schedule_count)) (cut_at ws s schedules_section) ∙ z4) in
-      let t5 = part_exact top (counts_in s).operators s present_offset b (omega arith) few known.part_sound.rows_high (at present_section) in
+      let t5 = part_exact_lem top (counts_in s).operators s present_offset b (omega arith) few known.part_sound.rows_high (at present_section) in
       let t6 = saved_test.0 (at saved_section ∙ rw saved_place) in
       let t7 = asks-exact top s (omega arith) (at asks_section ∙ rw asks_place) in
       let t8 = zeros_tested (size - used_size top) s (used_size top) (omega arith) (sym (at spare_section ∙ rw spare_place)) in
@@ -177,7 +177,7 @@ is_sound_local top size s b g =
     let i = sound_is_image top size s t in
     let l = length_sound top size s t in
     let e = decode_places top size s in
-    let p = book_exact top size s b l g (ap book_ok (sym e) ∙ i.1) (ap (image top size) (sym e) ∙ sym i.0) in
+    let p = book_exact_lem top size s b l g (ap book_ok (sym e) ∙ i.1) (ap (image top size) (sym e) ∙ sym i.0) in
     rw (eq-eqb _ _ l, i.1, p)) (λ t.
     let h = (and_both (eqb (length s) size && book_ok (decode top size s)) (book_exact top size s)).0 t in
     let k = (and_both (eqb (length s) size) (book_ok (decode top size s))).0 h.0 in

@@ -106,9 +106,9 @@ module _ (top : ℕ) (rows : List Row) (s : List ℕ) (at : ℕ) (b : Bytes s) (
       net_test (bought rows a h) (sold rows a h) (word a h) (bytes_take 4 (bytes_drop (at + net_offset top a h) b))
       (length-take-le 4 (drop (at + net_offset top a h) s) (omega (arith, length-drop (at + net_offset top a h) s)))
 
-  pub nets_match : nets_bytes top rows ≡ stored → nets_match top rows s at ≡ true
+  pub nets_match_lem : nets_bytes top rows ≡ stored → nets_match top rows s at ≡ true
   unfolding nets_bytes account_nets joined nets_match
-  nets_match e =
+  nets_match_lem e =
       up_to_every _ most_accounts (λ a al ah.
       let g = cells_at (account_width top) most_accounts (account_nets top rows) (length-account top rows) stored length_nets_stored e a al ah in
       up_to_every _ top (λ h hl hh.

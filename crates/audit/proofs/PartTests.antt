@@ -27,7 +27,7 @@ use Rattle.image.specs.Cells.{part_at}
 use Rattle.image.proofs.Writing.Sizes.{PartFits, length_row, length_guarantee, wide_part}
 use Rattle.image.proofs.Round.{row_again, guarantee_again}
 use Rattle.audit.specs.Exact.{part_exact_tests, part_exact}
-use Rattle.audit.proofs.NetTests.{nets_match, held_nets}
+use Rattle.audit.proofs.NetTests.{nets_match_lem, held_nets}
 
 -- ---- cells past those that are used
 
@@ -108,9 +108,9 @@ module _ (top ops : ℕ) (s : List ℕ) (at : ℕ) (b : Bytes s) (l : at + part_
   abbrev dec : List ℕ → Cents
   dec y = cents (number y)
 
-  pub part_exact : part_bytes top p ≡ x → part_exact top ops s at ≡ true
+  pub part_exact_lem : part_bytes top p ≡ x → part_exact top ops s at ≡ true
   unfolding part_exact part_bytes part_sections part_in part_of entries
-  part_exact e =
+  part_exact_lem e =
       let n : ℕ = number_at s (at + row_count_offset) 2 in
       let m = few in
       let sec : part_sections top p ≡ c = sym (cut-flat ws (part_sections top p) (wide_part top p part_fits)) ∙ ap (cut ws) e in
@@ -119,7 +119,7 @@ module _ (top ops : ℕ) (s : List ℕ) (at : ℕ) (b : Bytes s) (l : at + part_
       rw count at (slots_zero row_width most_rows row_bytes length_row row_in (number (get_or c 1 [])) (get_or c 2 []) (ap (λ (y : List (List ℕ)). get_or y 2 []) sec)) in
       let t0 = stretch_tested ws s at (part_size top) 0 (guarantee_width * ops) (at + guarantee_width * ops) (omega arith) (omega arith) l (omega arith) z0 in
       let t2 = stretch_tested ws s at (part_size top) 2 (row_width * n) (at + row_offset n) (omega arith) (omega arith) l (omega arith) z2 in
-      let t3 = nets_match top p.rows s at b (omega arith) (ap (λ (y : List (List ℕ)). get_or y 3 []) sec ∙ nets_place) in
+      let t3 = nets_match_lem top p.rows s at b (omega arith) (ap (λ (y : List (List ℕ)). get_or y 3 []) sec ∙ nets_place) in
       holds_all (part_exact_tests top ops s at) (t0 and t2 and t3 and no_more)
 
   exact_by : Holds (part_exact_tests top ops s at) → part_bytes top p ≡ x

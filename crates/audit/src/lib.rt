@@ -1,5 +1,6 @@
 // Whether bytes are those of a sound book.
 #![tactic(auto)]
+
 pub mod asks;
 pub mod checks;
 pub mod part;

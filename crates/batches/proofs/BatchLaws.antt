@@ -83,10 +83,10 @@ abbrev gap : ℕ → ℕ
 gap n = row_width * most_rows - row_width * n
 
 module _ (s x y : List ℕ) (n : ℕ) (few : n ≤ most_rows) where
-  pub part_copied : (from to : ℕ) → HasPart s from → HasPart s to → Apart from to size → NoRowsPast s from n → NoRowsPast s to n
+  pub part_copied_lem : (from to : ℕ) → HasPart s from → HasPart s to → Apart from to size → NoRowsPast s from n → NoRowsPast s to n
       → x ≡ pasted s to (drop from s) (row_offset n) → y ≡ pasted x (to + nets_offset) (drop (from + nets_offset) x) nets → y ≡ part_copied s from to
   unfolding NoRowsPast
-  part_copied from to hf ht apart zf zt e g =
+  part_copied_lem from to hf ht apart zf zt e g =
       let d : List ℕ = drop from s in
       let ld : length d ≡ length s - from = length-drop from s in
       let a : List ℕ = take (row_offset n) d in
@@ -116,10 +116,10 @@ module _ (s x y : List ℕ) (n : ℕ) (few : n ≤ most_rows) where
       ∙ ap (splice s to) whole
       ∙ sym (pasted-splice s to d size (omega arith))
 
-  pub part_cleared : (at : ℕ) → HasPart s at → NoRowsPast s at n
+  pub part_cleared_lem : (at : ℕ) → HasPart s at → NoRowsPast s at n
       → x ≡ splice s at (zeros (row_offset n)) → y ≡ splice x (at + nets_offset) (zeros nets) → y ≡ part_cleared s at
   unfolding NoRowsPast
-  part_cleared at h z e g =
+  part_cleared_lem at h z e g =
       let a : List ℕ = zeros (row_offset n) in
       let la : length a ≡ row_offset n = length-zeros (row_offset n) in
       let b : List ℕ = zeros (gap n) in

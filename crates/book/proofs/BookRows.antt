@@ -64,8 +64,8 @@ sound_tabled u k r s =
 
 module _ (s : List ℕ) (h : is_sound s ≡ true) where
   -- the counts are the first bytes
-  pub counts_in : counts_of (book_in s).setup ≡ counts_in s
-  counts_in =
+  pub counts_in_lem : counts_of (book_in s).setup ≡ counts_in s
+  counts_in_lem =
       ap (λ (b : Book). counts_of b.setup) (decode_places most_hours book_size s)
       ∙ counts_of_setup (take setup_room s)
       ∙ counts_first_bytes setup_room s (omega arith)
@@ -77,38 +77,38 @@ module _ (s : List ℕ) (h : is_sound s ≡ true) where
   sound_first = rw first_in at (book_is_sound s h).setup_sound
 
   -- the set-up is what the whole bytes say
-  pub setup_in : (book_in s).setup ≡ setup_of s
-  setup_in = first_in ∙ setup_in_front s sound_first
+  pub setup_in_lem : (book_in s).setup ≡ setup_of s
+  setup_in_lem = first_in ∙ setup_in_front s sound_first
 
   pub setup_tabled : SetupTabled most_hours s
   setup_tabled =
       let k = (book_is_sound s h).setup_sound in
       record {
         whole = omega (arith, book_length s h, setup_short s sound_first);
-        accounts_high = omega (arith, ap (λ (n : Counts). n.accounts) counts_in, k.accounts_high);
-        hours_high = omega (arith, ap (λ (n : Counts). n.hours) counts_in, k.hours_high);
+        accounts_high = omega (arith, ap (λ (n : Counts). n.accounts) counts_in_lem, k.accounts_high);
+        hours_high = omega (arith, ap (λ (n : Counts). n.hours) counts_in_lem, k.hours_high);
       }
 
   pub values_in : InRange (book_in s).setup (operators_of (replicate (operator_count (book_in s).setup) (cents 0)) (book_in s).setup.maintenance)
   values_in = values-in_range (book_in s).setup _ (book_is_sound s h).setup_sound.in_range
 
-  pub estimates_in : Each (λ p. p.0 ≤ most_price) (estimates_in s)
+  pub estimates_in_lem : Each (λ p. p.0 ≤ most_price) (estimates_in s)
   unfolding setup_of
-  estimates_in = rw (ap (λ (u : Setup). u.estimates) setup_in) at values_in.estimates_sound
+  estimates_in_lem = rw (ap (λ (u : Setup). u.estimates) setup_in_lem) at values_in.estimates_sound
 
   pub rows_tabled : Each (Tabled most_hours) (book_in s).part.rows
   rows_tabled = each_map (sound_tabled (book_in s).setup (book_is_sound s h).setup_sound) (book_is_sound s h).part_sound.rows_sound
 
   -- the counts and the margins, as they were read
   pub hours_read : (n : Counts) → n ≡ counts_in s → n.hours ≡ periods (book_in s).setup
-  hours_read n e = ap (λ (m : Counts). m.hours) (e ∙ sym (counts_in))
+  hours_read n e = ap (λ (m : Counts). m.hours) (e ∙ sym (counts_in_lem))
 
   pub margins_read : (x : Margins) (a k : ℕ) → x ≡ margins_at (setup_of s) a k → x ≡ margins_at (book_in s).setup a k
-  margins_read x a k e = e ∙ ap (λ (u : Setup). margins_at u a k) (sym setup_in)
+  margins_read x a k e = e ∙ ap (λ (u : Setup). margins_at u a k) (sym setup_in_lem)
 
   pub accounts_read : (a : ℕ) → a ≤ account_count (book_in s).setup → (a ≤ (counts_in s).accounts) × (a ≤ most_accounts)
   accounts_read a l =
-      (omega (arith, ap (λ (m : Counts). m.accounts) (counts_in)), omega (arith, (book_is_sound s h).setup_sound.accounts_high))
+      (omega (arith, ap (λ (m : Counts). m.accounts) (counts_in_lem)), omega (arith, (book_is_sound s h).setup_sound.accounts_high))
 
   pub hours_few : periods (book_in s).setup ≤ most_hours
   hours_few = (book_is_sound s h).setup_sound.hours_high

@@ -38,7 +38,7 @@ use Rattle.image.proofs.Setups.SetupRanges.{margins_in_range}
 use Rattle.image.proofs.Round.{sound_is_image}
 use Rattle.image.proofs.Reading.ImageReads.{net_read}
 use Rattle.book.proofs.StateLaws.{book_is_sound}
-use Rattle.book.proofs.BookRows.{counts_in, setup_in, values_in}
+use Rattle.book.proofs.BookRows.{counts_in_lem, setup_in_lem, values_in}
 
 -- ---- a stored net
 
@@ -120,13 +120,13 @@ module _ (s : List ℕ) (h : is_sound s ≡ true) (n : Counts) (e : n ≡ counts
   u = (book_in s).setup
 
   accounts_counted : account_count u ≡ n.accounts
-  accounts_counted = ap (λ (c : Counts). c.accounts) (counts_in s h ∙ sym e)
+  accounts_counted = ap (λ (c : Counts). c.accounts) (counts_in_lem s h ∙ sym e)
 
   hours_counted : periods u ≡ n.hours
-  hours_counted = ap (λ (c : Counts). c.hours) (counts_in s h ∙ sym e)
+  hours_counted = ap (λ (c : Counts). c.hours) (counts_in_lem s h ∙ sym e)
 
   operators_counted : operator_count u ≡ n.operators
-  operators_counted = ap (λ (c : Counts). c.operators) (counts_in s h ∙ sym e)
+  operators_counted = ap (λ (c : Counts). c.operators) (counts_in_lem s h ∙ sym e)
 
   by_hour : (t : ℕ) {x : Bool} → not (within 1 t n.hours) ≡ x → not (within 1 t (periods u)) ≡ x
   by_hour t x = ap (λ (m : ℕ). not (within 1 t m)) hours_counted ∙ x
@@ -179,7 +179,7 @@ module _ (s : List ℕ) (h : is_sound s ≡ true) (n : Counts) (e : n ≡ counts
     unfolding exposure_reading
     exposure-stands m x y =
         ap (λ (z : Option Refusal). exposure_reading_of z (exposure u (book_in s).part.rows o)) (clear_applies (exposure_checks (book_in s) o) (rw (by_operator o x), tt))
-        ∙ ap (λ (z : ℕ). ExposureReading.Read (milli_cents z)) (ap (λ (z : Setup). exposure z (book_in s).part.rows o) (setup_in s h) ∙ sym y)
+        ∙ ap (λ (z : ℕ). ExposureReading.Read (milli_cents z)) (ap (λ (z : Setup). exposure z (book_in s).part.rows o) (setup_in_lem s h) ∙ sym y)
 
   module _ (o t : ℕ) where
     abbrev money : ℕ

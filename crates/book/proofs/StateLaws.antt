@@ -43,15 +43,15 @@ module _ (s : List ℕ) (h : is_sound s ≡ true) where
   pub book_image : s ≡ book_bytes (book_in s)
   book_image = (sound_is_image most_hours book_size s h).0
 
-  pub book_ok : book_ok (book_in s) ≡ true
-  book_ok = (sound_is_image most_hours book_size s h).1
+  pub book_ok_lem : book_ok (book_in s) ≡ true
+  book_ok_lem = (sound_is_image most_hours book_size s h).1
 
   pub book_length : length s ≡ book_size
   book_length = length_sound most_hours book_size s h
 
   -- it is sound, and every value fits its place
   pub book_is_sound : SoundBook (book_in s)
-  book_is_sound = sound (book_in s) book_ok
+  book_is_sound = sound (book_in s) book_ok_lem
 
   pub book_fits : Fits (book_in s)
   book_fits = fits (book_in s) book_is_sound

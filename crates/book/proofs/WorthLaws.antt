@@ -83,9 +83,9 @@ module _ (u : Setup) (o : ℕ) where
       go false = total_zero (up_to (periods u))
 
   -- its sum over the operator's accounts is what the row adds to the exposure
-  sale_worth : (r : Row) → Known r → worth_of (sale_share r) ≡ sale_worth u o r
+  sale_worth_lem : (r : Row) → Known r → worth_of (sale_share r) ≡ sale_worth u o r
   unfolding worth_of sale_worth
-  sale_worth r known =
+  sale_worth_lem r known =
       operator_cong u o _ _ (account_sale r)
       ∙ operator_one u o r.proposer (r.quantity.0 * span_price u r) (pending r) (eqb r.side 1) known
 
@@ -94,7 +94,7 @@ module _ (u : Setup) (o : ℕ) where
   unfolding waiting total
   sales_worth nil = worth_none
   sales_worth (cons {x = r} {xs = rows} known e) =
-      worth_add (sale_share r) (pending_sales rows) ∙ omega (arith, sale_worth r known, sales_worth e)
+      worth_add (sale_share r) (pending_sales rows) ∙ omega (arith, sale_worth_lem r known, sales_worth e)
 
   -- ---- the exposure with rows that are to be added
 
@@ -136,4 +136,4 @@ module _ (u : Setup) (o : ℕ) where
       worth_cong (λ a h. exposed (after_trade a h (account_hour rows a h) (with_status 2 row))) (λ a h. exposed (account_hour (mark n 2 rows) a h) + sale_share row a h)
       (λ a h. rw e (confirmed_hour rows n a h (rw e at p)))
       ∙ worth_add (λ a h. exposed (account_hour (mark n 2 rows) a h)) (sale_share row)
-      ∙ ap (λ (x : ℕ). exposure u (mark n 2 rows) o + x) (sale_worth row (λ q. known))
+      ∙ ap (λ (x : ℕ). exposure u (mark n 2 rows) o + x) (sale_worth_lem row (λ q. known))

@@ -28,7 +28,7 @@ use Rattle.image.proofs.Sound.Soundness.{SoundRow}
 use Rattle.image.proofs.Tables.MoneyLaws.{price_most}
 use Rattle.book.specs.Members.{IsAccount}
 use Rattle.book.specs.Worth.{AccountOperators, short_worth, span_price, sale_worth, PriceSums, PricedSpan, SaleInputs, TradeInRange, net_with, operators_size, sums_size, most_price_sum, most_sale_worth}
-use Rattle.book.proofs.BookRows.{counts_in, setup_in, estimates_in, values_in}
+use Rattle.book.proofs.BookRows.{counts_in_lem, setup_in_lem, estimates_in_lem, values_in}
 use Rattle.book.proofs.StateLaws.{book_is_sound}
 use Rattle.book.proofs.WorthLaws.{Known, exposure_split}
 
@@ -36,15 +36,15 @@ use Rattle.book.proofs.WorthLaws.{Known, exposure_split}
 
 module _ (s : List ℕ) (k : is_sound s ≡ true) where
   pub hours_in : (counts_in s).hours ≡ periods (book_in s).setup
-  hours_in = sym (ap (λ (n : Counts). n.hours) (counts_in s k))
+  hours_in = sym (ap (λ (n : Counts). n.hours) (counts_in_lem s k))
 
-  pub accounts_in : (counts_in s).accounts ≡ account_count (book_in s).setup
-  accounts_in = sym (ap (λ (n : Counts). n.accounts) (counts_in s k))
+  pub accounts_in_lem : (counts_in s).accounts ≡ account_count (book_in s).setup
+  accounts_in_lem = sym (ap (λ (n : Counts). n.accounts) (counts_in_lem s k))
 
   -- an estimate that was read
   pub estimate_stands : (h : ℕ) (p : CentsPerMwh) → p ≡ nth (estimates_in s) h (cents_per_mwh 0) → (p ≡ estimate_at (book_in s).setup h) × (p.0 ≤ most_price)
   unfolding setup_of
-  estimate_stands h p e = (e ∙ sym (ap (λ (u : Setup). estimate_at u h) (setup_in s k)), rw e (price_most (estimates_in s k) h))
+  estimate_stands h p e = (e ∙ sym (ap (λ (u : Setup). estimate_at u h) (setup_in_lem s k)), rw e (price_most (estimates_in_lem s k) h))
 
   pub cheap_in : Each (λ p. p.0 ≤ most_price) (book_in s).setup.estimates
   cheap_in = (values_in s k).estimates_sound
@@ -301,4 +301,4 @@ trade_quantity u t = each_map (λ r w. w.quantity_high) t
 -- the exposure at the set-up that the bytes say
 pub exposure_read : (s : List ℕ) → is_sound s ≡ true → (o m : ℕ) → m ≡ exposure (book_in s).setup (book_in s).part.rows o
     → m ≡ exposure (setup_of s) (book_in s).part.rows o
-exposure_read s k o m e = e ∙ ap (λ (u : Setup). exposure u (book_in s).part.rows o) (setup_in s k)
+exposure_read s k o m e = e ∙ ap (λ (u : Setup). exposure u (book_in s).part.rows o) (setup_in_lem s k)

@@ -1,5 +1,6 @@
 // A sound book, read from its bytes, and opening.
 #![tactic(auto)]
+
 pub mod hourly;
 pub mod opening;
 pub mod positions;

@@ -122,8 +122,8 @@ module _ (s : List ℕ) (r : Row) (h : is_sound s ≡ true) (w : WaitsIn (book_i
     trade-in-range = ended-row_in_range (book_in s).setup trade (rw e waiting_sound.quantity_high) (rw e)
 
   -- once the row is confirmed the exposure is that of the rows where it is marked so
-  exposure_with_trade : (o : ℕ) → exposure_with_trade (book_in s) r o ≡ exposure (book_in s).setup (mark w.number 2 (book_in s).part.rows) o
-  exposure_with_trade o =
+  exposure_with_trade_lem : (o : ℕ) → exposure_with_trade (book_in s) r o ≡ exposure (book_in s).setup (mark w.number 2 (book_in s).part.rows) o
+  exposure_with_trade_lem o =
       omega (
         arith,
         with_confirmed (book_in s).setup o (book_in s).part.rows r w.number waiting_inside.0 waiting_inside.1 w.row w.is_pending
@@ -135,7 +135,7 @@ module _ (s : List ℕ) (r : Row) (h : is_sound s ≡ true) (w : WaitsIn (book_i
   sale_covered a own sells =
       let o : ℕ = operator_of (book_in s).setup a in
       still_covered s a _ h own
-      (omega (arith, exposure_with_trade o, sale_eases_operators (book_in s).setup (book_in s).part.rows w.number o (rw (← w.row) w.is_pending) (rw (← w.row) sells)))
+      (omega (arith, exposure_with_trade_lem o, sale_eases_operators (book_in s).setup (book_in s).part.rows w.number o (rw (← w.row) w.is_pending) (rw (← w.row) sells)))
 
 -- ---- the row that is named and mirrored
 
@@ -190,7 +190,7 @@ module _ (s : List ℕ) (q : Request) (r : Row) (h : is_sound s ≡ true) (w : C
       unfolding apply
       covered_next =
           let o : ℕ = operator_of (book_in s).setup q.account in
-          covered_at (book_in s) (mark (confirmed_number (book_in s) q) 2 (book_in s).part.rows) o _ (exposure_with_trade s r h named-waits o) ∙ sym test
+          covered_at (book_in s) (mark (confirmed_number (book_in s) q) 2 (book_in s).part.rows) o _ (exposure_with_trade_lem s r h named-waits o) ∙ sym test
 
       -- refusal 19: the exposure is not covered
       pub trade-uncovered : t ≡ false → decided confirm (book_in s) q ≡ some Uncovered

@@ -25,7 +25,7 @@ use Rattle.book.specs.Worth.{sale_worth, TradeInRange}
 use Rattle.book.proofs.StateLaws.{book_fits, book_is_sound, number_in_book}
 use Rattle.book.proofs.WorthLaws.{exposure_more}
 use Rattle.book.proofs.WorthParts.{rows_known}
-use Rattle.book.proofs.BookRows.{counts_in, setup_in, values_in, caller_operator}
+use Rattle.book.proofs.BookRows.{counts_in_lem, setup_in_lem, values_in, caller_operator}
 use Rattle.registration.specs.Cover.{covered_in_force}
 
 maintenance_in_range : {os : List Operator} → Each SoundOperator os → Each (λ m. m ≤ thousand) (map (λ x. x.maintenance) os)
@@ -40,12 +40,12 @@ operator_maintenance os (suc i) l h = sym (map_get (λ (x : Operator). x.mainten
 
 module _ (s : List ℕ) (h : is_sound s ≡ true) (o : ℕ) (own : IsOperator (book_in s) o) where
   pub operators_read : o ≤ (counts_in s).operators
-  operators_read = omega (arith, own.1, ap (λ (m : Counts). m.operators) (counts_in s h))
+  operators_read = omega (arith, own.1, ap (λ (m : Counts). m.operators) (counts_in_lem s h))
 
   pub maintenance_read : (x : Operator) → x ≡ nth (operators_in s) o no_operator → x.maintenance ≡ maintenance_at (book_in s).setup o
   unfolding setup_of
   maintenance_read x e =
-      let u = setup_in s h in
+      let u = setup_in_lem s h in
       let n : length (book_in s).setup.maintenance ≡ length (operators_in s) =
       ap (λ (u : Setup). length u.maintenance) u ∙ length-map (operators_in s) (λ y. y.maintenance) in
       ap (λ (y : Operator). y.maintenance) e

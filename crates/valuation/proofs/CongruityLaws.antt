@@ -25,7 +25,7 @@ use Rattle.image.specs.Valid.{is_sound, schedule_ok}
 use Rattle.image.proofs.Sound.Soundness.{SoundSchedule, sound_schedule}
 use Rattle.image.proofs.Setups.SetupRanges.{SoundPoint}
 use Rattle.book.proofs.StateLaws.{book_is_sound}
-use Rattle.book.proofs.BookRows.{counts_in, setup_in, setup_tabled, values_in, hours_read, hours_few}
+use Rattle.book.proofs.BookRows.{counts_in_lem, setup_in_lem, setup_tabled, values_in, hours_read, hours_few}
 use Rattle.valuation.specs.Tables.{Priced, OnPoint, setup_in, nets_in, prices_of, numbered_price, cell_for, point_cells, UsedBy}
 use Rattle.valuation.specs.Congruity.{InCells, greatest, left_by, over_point, over_account, price_number, taken_at, result_by, ResultIn}
 use Rattle.valuation.proofs.PriceLaws.{price_by_number}
@@ -45,7 +45,7 @@ module _ (s : List ℕ) (h : is_sound s ≡ true) (x : Schedule) (ok : schedule_
   -- its point is one of the book's
   pub point_stands : Whole s × (1 ≤ x.point) × (x.point ≤ (counts_in s).points)
   point_stands =
-      ((setup_tabled s h).whole, in_range_lem.point_low, omega (arith, ap (λ (m : Counts). m.points) (counts_in s h), in_range_lem.point_high))
+      ((setup_tabled s h).whole, in_range_lem.point_low, omega (arith, ap (λ (m : Counts). m.points) (counts_in_lem s h), in_range_lem.point_high))
 
   -- and in range
   pub point_sound : SoundPoint (setup_in s).accounts (setup_in s).zones (point_at (setup_in s) x.point)
@@ -83,7 +83,7 @@ module _ (s : List ℕ) (h : is_sound s ≡ true) (x : Schedule) (ok : schedule_
   -- the point that was read is its point
   pub on_point : (p : Point) → p ≡ nth (points_in s) x.point no_point → OnPoint (setup_in s) p x
   unfolding setup_of
-  on_point p e = record { in_range_lem = ok; its_point = e ∙ ap (λ (u : Setup). point_at u x.point) (sym (setup_in s h)) }
+  on_point p e = record { in_range_lem = ok; its_point = e ∙ ap (λ (u : Setup). point_at u x.point) (sym (setup_in_lem s h)) }
 
   -- the price that it meets is one of the table's
   pub price_stands : (prices : List ℕ) → Priced s prices → (n : Counts) (p : Point) → n ≡ counts_in s → p ≡ point_at (setup_in s) x.point

@@ -9,7 +9,7 @@ use Rattle.rules.specs.Books.{Setup, operator_count}
 use Rattle.rules.specs.Registration.{exposure}
 use Rattle.image.specs.Valid.{book_in}
 use Rattle.book.proofs.StateLaws.{book_length, book_is_sound}
-use Rattle.book.proofs.BookRows.{counts_in, setup_in, setup_tabled, estimates_in}
+use Rattle.book.proofs.BookRows.{counts_in_lem, setup_in_lem, setup_tabled, estimates_in_lem}
 use Rattle.book.proofs.WorthParts.{Listed, listed_first, listed_next}
 use Rattle.asks.specs.Standing.{exposures_size}
 use Rattle.asks.proofs.SharedLaws.{exposures_listed}
@@ -34,13 +34,13 @@ counts-requires c κs = omega (arith, book_length _ c.before.before.before.requi
 loop-holds : tie.Need-loop-init invariant-loop decreases-loop
 loop-holds c =
     let pre = c.before.before.before.before.requires in
-    let operators = ap (λ (n : Counts). n.operators) (c.counts.ensures ∙ sym (counts_in _ pre.0.1)) in
+    let operators = ap (λ (n : Counts). n.operators) (c.counts.ensures ∙ sym (counts_in_lem _ pre.0.1)) in
     (operators, omega (arith, operators, (book_is_sound _ pre.0.1).setup_sound.operators_high), omega arith, omega arith, listed_first _ _ _ pre.0.0)
 
 exposure-of-requires : tie.Need-exposure-of-requires invariant-loop decreases-loop
 exposure-of-requires c κs =
     let pre = c.before.before.before.before.before.before.before.requires in
-    (setup_tabled _ pre.0.1, estimates_in _ pre.0.1, record { whole = pre.1.whole; top_high = omega arith })
+    (setup_tabled _ pre.0.1, estimates_in_lem _ pre.0.1, record { whole = pre.1.whole; top_high = omega arith })
 
 slice-write-exposures : tie.Need-slice-write-exposures invariant-loop decreases-loop
 slice-write-exposures c = let l = c.before.before.before.loop in omega (arith, l.invariant.4.whole)
@@ -51,7 +51,7 @@ loop-again c =
     let start = c.before.before.before.before.before.before.before.before in
     let pre = start.requires in
     let rows = (book_in start.args.book.now).part.rows in
-    let owed = c.exposure-of.ensures rows pre.1 ∙ ap (λ (u : Setup). exposure u rows l.number) (sym (setup_in _ pre.0.1)) in
+    let owed = c.exposure-of.ensures rows pre.1 ∙ ap (λ (u : Setup). exposure u rows l.number) (sym (setup_in_lem _ pre.0.1)) in
     (l.invariant.0, l.invariant.1, omega arith, omega arith, listed_next _ _ _ _ _ (omega (arith, l.invariant.1)) owed l.invariant.4)
 
 same_length : tie.Need-same-length invariant-loop decreases-loop

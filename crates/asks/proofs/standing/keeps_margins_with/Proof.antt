@@ -11,7 +11,7 @@ use Rattle.rules.specs.Limits.{most_hours}
 use Rattle.rules.specs.Registration.{broken_by}
 use Rattle.image.specs.Valid.{book_in}
 use Rattle.image.proofs.Sound.Soundness.{sound_row}
-use Rattle.book.proofs.BookRows.{setup_tabled, counts_in, margins_read, accounts_read, hours_few}
+use Rattle.book.proofs.BookRows.{setup_tabled, counts_in_lem, margins_read, accounts_read, hours_few}
 use Rattle.registration.proofs.SearchLaws.{find_done, find_here, find_next}
 use Rattle.registration.proofs.MarginLaws.{breaks_with, broken_by_span, sound_account_trade}
 use Rattle.asks.proofs.SharedLaws.{hour_fits, breaks_summed}
@@ -46,7 +46,7 @@ margins-requires c κs =
     let pre = c.before.before.before.before.before.requires in
     let k = sound_row _ _ pre.1 in (
       ((setup_tabled _ pre.0.0).whole, k.proposer_low, (accounts_read _ pre.0.0 _ k.proposer_high).0),
-      (omega (arith, k.first_low, l.invariant.0), omega (arith, k.last_high, ap (λ (n : Counts). n.hours) (counts_in _ pre.0.0))),
+      (omega (arith, k.first_low, l.invariant.0), omega (arith, k.last_high, ap (λ (n : Counts). n.hours) (counts_in_lem _ pre.0.0))),
     )
 
 account-hour-requires : tie.Need-account-hour-requires invariant-loop decreases-loop

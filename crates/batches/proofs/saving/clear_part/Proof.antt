@@ -1,6 +1,6 @@
 -- The part is cleared up to the end of its rows and from its net positions on; between them it is zero already.
 use borrow.Author.Rules.{rules}
-use Rattle.batches.proofs.BatchLaws.{part_cleared}
+use Rattle.batches.proofs.BatchLaws.{part_cleared_lem}
 use Rattle.batches.proofs.saving.clear_part.Statement.{statement}
 use Rattle.batches.proofs.saving.clear_part.Tie as tie
 
@@ -10,7 +10,7 @@ returns c =
     let rows = nets.before.before.before.before in
     let start = rows.before.before.before in
     let (few, room) = start.requires.1 in
-    part_cleared _ _ _ _ few _ start.requires.0 room rows.clear_at.ensures nets.clear-at2.ensures
+    part_cleared_lem _ _ _ _ few _ start.requires.0 room rows.clear_at.ensures nets.clear-at2.ensures
 
 pub clear-part-spec : {M : Type 1} → statement M
 clear-part-spec =

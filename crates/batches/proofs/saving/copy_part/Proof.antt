@@ -2,7 +2,7 @@
 use mathlib.Core.Logic.{⊎_elim, inl, inr}
 use native.Mathlib.Omega.{arith}
 use borrow.Author.Rules.{rules}
-use Rattle.batches.proofs.BatchLaws.{part_copied}
+use Rattle.batches.proofs.BatchLaws.{part_copied_lem}
 use Rattle.batches.proofs.saving.copy_part.Statement.{statement}
 use Rattle.batches.proofs.saving.copy_part.Tie as tie
 
@@ -21,7 +21,7 @@ returns c =
     let start = rows.before.before.before in
     let (inside, there, apart) = start.requires.0 in
     let (few, room, gap) = start.requires.1 in
-    part_copied _ _ _ _ few _ _ inside there apart room gap rows.copy_within.ensures nets.copy-within2.ensures
+    part_copied_lem _ _ _ _ few _ _ inside there apart room gap rows.copy_within.ensures nets.copy-within2.ensures
 
 pub copy-part-spec : {M : Type 1} → statement M
 copy-part-spec =

@@ -5,7 +5,7 @@ use native.Mathlib.Omega.{arith}
 use borrow.Author.Rules.{rules}
 use Rattle.rules.specs.declared.Counts.{Counts}
 use Rattle.rules.specs.Books.{account_count}
-use Rattle.book.proofs.BookRows.{setup_tabled, counts_in, accounts_read}
+use Rattle.book.proofs.BookRows.{setup_tabled, counts_in_lem, accounts_read}
 use Rattle.valuation.specs.Tables.{setup_in}
 use Rattle.day_test.proofs.hours.show_accounts.Statement.{statement}
 use Rattle.day_test.proofs.hours.show_accounts.Tie as tie
@@ -23,7 +23,7 @@ counts-requires c κs = let s = setup_tabled _ c.before.before.before.before.req
 loop-holds : tie.Need-loop-init invariant-loop decreases-loop
 loop-holds c =
     let z = c.before.before.before.before.before.requires.0 in
-    (ap (λ (n : Counts). n.accounts) (c.counts.ensures ∙ sym (counts_in _ z.is_sound)), search rules, search rules)
+    (ap (λ (n : Counts). n.accounts) (c.counts.ensures ∙ sym (counts_in_lem _ z.is_sound)), search rules, search rules)
 
 show-account-requires : tie.Need-show-account-requires invariant-loop decreases-loop
 show-account-requires c κs =

@@ -6,7 +6,7 @@ use Rattle.rules.specs.Limits.{most_hours}
 use Rattle.rules.specs.Registration.{broken_by}
 use Rattle.image.specs.Valid.{book_in}
 use Rattle.book.specs.Members.{IsHour}
-use Rattle.book.proofs.BookRows.{setup_tabled, counts_in, margins_read, accounts_read, hours_few}
+use Rattle.book.proofs.BookRows.{setup_tabled, counts_in_lem, margins_read, accounts_read, hours_few}
 use Rattle.book.proofs.WaitLaws.{tabled_netted}
 use Rattle.registration.specs.Margins.{broken}
 use Rattle.registration.proofs.SearchLaws.{find_done, find_here, find_next}
@@ -40,7 +40,7 @@ margins-requires c κs =
     let step = c.before.before in
     let pre = step.before.before.before.requires in (
       ((setup_tabled _ pre.0.0).whole, pre.1.account_known.0, (accounts_read _ pre.0.0 _ pre.1.account_known.1).0),
-      (omega (arith, pre.1.first_low, step.loop.invariant.0), omega (arith, pre.1.last_high, ap (λ (n : Counts). n.hours) (counts_in _ pre.0.0))),
+      (omega (arith, pre.1.first_low, step.loop.invariant.0), omega (arith, pre.1.last_high, ap (λ (n : Counts). n.hours) (counts_in_lem _ pre.0.0))),
     )
 
 account-hour-requires : tie.Need-account-hour-requires invariant-loop decreases-loop

@@ -14,7 +14,7 @@ use Rattle.rules.specs.Registration.{pending, broken_by}
 use Rattle.image.specs.Valid.{book_in}
 use Rattle.book.specs.Waits.{WaitsOf}
 use Rattle.book.proofs.StateLaws.{book_length}
-use Rattle.book.proofs.BookRows.{setup_tabled, counts_in, margins_read, accounts_read, hours_few}
+use Rattle.book.proofs.BookRows.{setup_tabled, counts_in_lem, margins_read, accounts_read, hours_few}
 use Rattle.registration.specs.Margins.{broken}
 use Rattle.registration.proofs.SearchLaws.{find_done, find_here, find_next}
 use Rattle.registration.proofs.MarginLaws.{breaks_with, broken_by_hours, breaks_with_tested}
@@ -41,7 +41,7 @@ counts-requires c κs = let n = book_length _ c.before.before.requires.0 in omeg
 loop-holds : tie.Need-loop-init invariant-loop decreases-loop
 loop-holds c =
     let start = c.before.before.before in
-    let hours = ap (λ (n : Counts). n.hours) (c.counts.ensures ∙ sym (counts_in _ start.requires.0)) in (
+    let hours = ap (λ (n : Counts). n.hours) (c.counts.ensures ∙ sym (counts_in_lem _ start.requires.0)) in (
       omega arith,
       omega arith,
       hours,
@@ -53,7 +53,7 @@ margins-requires : tie.Need-margins-requires invariant-loop decreases-loop
 margins-requires c κs =
     let step = c.before.before in
     let pre = step.before.before.before.before.requires in
-    let hours = ap (λ (n : Counts). n.hours) (counts_in _ pre.0) in (
+    let hours = ap (λ (n : Counts). n.hours) (counts_in_lem _ pre.0) in (
       ((setup_tabled _ pre.0).whole, pre.1.0, (accounts_read _ pre.0 _ pre.1.1).0),
       (step.loop.invariant.0, omega (arith, hours, step.loop.invariant.2)),
     )

@@ -12,7 +12,7 @@ use Rattle.rules.specs.Calls.{state_checks}
 use Rattle.rules.proofs.Checks.Clearing.{checked-same}
 use Rattle.image.specs.Valid.{book_in}
 use Rattle.book.proofs.StateLaws.{book_length}
-use Rattle.book.proofs.BookRows.{counts_in}
+use Rattle.book.proofs.BookRows.{counts_in_lem}
 use Rattle.strip_rows.specs.Rows.{StripOf}
 use Rattle.strip_rows.specs.Passes.{requests_checks}
 use Rattle.strips.specs.Ready.{ReadyStrip, strip_requests}
@@ -40,7 +40,7 @@ found : (c : tie.After-requests-fault) (o : Option Refusal) → c.requests-fault
 found c o e =
     let count = c.before.before.before in
     let start = count.before.before.before.before.before.before in
-    ap (λ (m : Counts). first_to_apply (requests_checks m (strip_requests start.args.bytes.now count.row_count.result))) (counts_in _ start.requires.0 ∙ sym c.before.counts.ensures)
+    ap (λ (m : Counts). first_to_apply (requests_checks m (strip_requests start.args.bytes.now count.row_count.result))) (counts_in_lem _ start.requires.0 ∙ sym c.before.counts.ensures)
     ∙ checked-same _ o (sym c.requests-fault.ensures ∙ e)
 
 returns : tie.Need-returns

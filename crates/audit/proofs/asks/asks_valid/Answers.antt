@@ -1,0 +1,32 @@
+-- Zeros are places without an ask. Else the first place that is not valid decides; where none was found, all are valid if those that are
+-- left are.
+use Prim.Native.Nat.{◌+◌, ◌-◌, ◌≤◌}
+use mathlib.Core.Path.{◌≡◌, ◌∙◌, refl, sym}
+use native.Mathlib.Omega.{arith}
+use borrow.Author.Rules.{rules}
+use Rattle.rules.specs.Basics.{every, counting}
+use Rattle.rules.specs.Limits.{most_accounts, most_hours}
+use Rattle.rules.proofs.Basics.CountingLaws.{every_done, every_next, every_fails}
+use Rattle.image.specs.Layout.{ask_offset}
+use Rattle.audit.specs.Validity.{ask_valid, asks_valid}
+use Rattle.audit.proofs.AskTests.{zero-asks}
+use Rattle.audit.proofs.asks.asks_valid.Goals as goal
+
+pub returns-then-all_zero : goal.returns-then-all_zero
+returns-then-all_zero c =
+    sym (zero-asks most_hours _ (omega (arith, c.requires)) (sym c.all_zero.ensures ∙ c.if-all_zero.true))
+
+pub loop-number-init : goal.loop-number-init
+unfolding asks_valid
+loop-number-init c = (search rules, search rules, refl)
+
+pub loop-number-preserved : goal.loop-number-preserved
+loop-number-preserved c =
+    (search rules, search rules, c.loop-number.invariant.2 ∙ every_next _ _ _ _ (omega arith) (sym c.ask_valid.ensures ∙ c.if-ask_valid.true))
+
+pub returns-else-ask_valid : goal.returns-else-ask_valid
+returns-else-ask_valid c =
+    sym (c.loop-number.invariant.2 ∙ every_fails _ _ _ (omega arith) (sym c.ask_valid.ensures ∙ c.if-ask_valid.false))
+
+pub returns : goal.returns
+returns c = sym (c.loop-number.invariant.2 ∙ every_done _ _ _ (omega arith))

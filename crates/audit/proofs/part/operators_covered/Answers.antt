@@ -1,0 +1,39 @@
+-- The first operator that is not covered decides; where none was found, all are covered if those that are left are.
+use Prim.Native.Nat.{◌+◌, ◌-◌, ◌≤◌}
+use mathlib.Core.Path.{◌≡◌, ◌∙◌, sym, ap}
+use native.Mathlib.Omega.{arith}
+use borrow.Author.Rules.{rules}
+use Rattle.rules.specs.declared.Counts.{Counts}
+use Rattle.rules.specs.Basics.{every, counting}
+use Rattle.rules.specs.Opening.{counts_in, setup_of}
+use Rattle.rules.specs.Registration.{covered}
+use Rattle.rules.proofs.Setups.SetupEntries.{counts_of_setup}
+use Rattle.rules.proofs.Basics.CountingLaws.{every_done, every_next, every_fails, every_same}
+use Rattle.image.specs.Valid.{operators_covered}
+use Rattle.tables.specs.Sums.{ForRowsSummedIn}
+use Rattle.audit.specs.Validity.{part_with}
+use Rattle.audit.proofs.part.operators_covered.Goals as goal
+
+pub loop-number-init : goal.loop-number-init
+unfolding operators_covered
+loop-number-init c = (
+  ap (λ (n : Counts). n.operators) c.counts-n.ensures,
+  search rules,
+  search rules,
+  λ rows sums. every_same _ _ _ _ (ap (λ (n : Counts). n.operators) (counts_of_setup c.args.book.now) ∙ omega arith),
+)
+
+pub loop-number-preserved : goal.loop-number-preserved
+loop-number-preserved c = (
+  c.loop-number.invariant.0,
+  search rules,
+  search rules,
+  λ rows sums. c.loop-number.invariant.3 rows sums ∙ every_next _ _ _ _ (omega arith) (sym (c.operator_covered.ensures rows sums) ∙ c.if-operator_covered.true),
+)
+
+pub returns-else-operator_covered : goal.returns-else-operator_covered
+returns-else-operator_covered c rows sums =
+    sym (c.loop-number.invariant.3 rows sums ∙ every_fails _ _ _ (omega arith) (sym (c.operator_covered.ensures rows sums) ∙ c.if-operator_covered.false))
+
+pub returns : goal.returns
+returns c rows sums = sym (c.loop-number.invariant.3 rows sums ∙ every_done _ _ _ (omega arith))

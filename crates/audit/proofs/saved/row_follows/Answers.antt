@@ -1,0 +1,6 @@
+-- The terms are compared by `same_terms`, and the status rule is the definition's.
+use borrow.Author.Rules.{rules}
+use Rattle.audit.proofs.saved.row_follows.Goals as goal
+
+pub returns : goal.returns
+returns c = rw (← c.same_terms.ensures)

@@ -1,0 +1,18 @@
+-- After each key, a key that was found so far or is among those left is among all.
+use Prim.Native.Nat.{◌+◌, ◌-◌, ◌≤◌}
+use mathlib.Core.Path.{◌≡◌, refl, sym, ◌∙◌}
+use mathlib.Core.Bool.{◌||◌}
+use native.Mathlib.Omega.{arith}
+use lib.ListN.{get_or}
+use borrow.Author.Rules.{rules}
+use Rattle.audit.specs.Twins.{key_among}
+use Rattle.audit.proofs.TwinLaws.{among_done, among_step}
+use Rattle.audit.proofs.twins.key_after.Given as goal
+
+abbrev pub invariant-loop-k : goal.invariant-loop-k
+invariant-loop-k l =
+    (l.k ≤ l.n)
+    × (key_among l.codes l.pairs l.code l.pair (l.i + 1) (l.n - (l.i + 1)) ≡ (l.found || key_among l.codes l.pairs l.code l.pair l.k (l.n - l.k)))
+
+abbrev pub decreases-loop-k : goal.decreases-loop-k
+decreases-loop-k l = l.n - l.k

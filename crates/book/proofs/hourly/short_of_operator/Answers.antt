@@ -1,0 +1,53 @@
+-- The sum so far, and what the accounts that are left add, make what all accounts of the operator add.
+use Prim.Native.Nat.{ℕ, ◌+◌, ◌-◌, ◌*◌, ◌≤◌}
+use mathlib.Core.Path.{◌≡◌, sym, ap, ◌∙◌}
+use native.Mathlib.Omega.{arith}
+use borrow.Author.Rules.{rules}
+use Rattle.rules.specs.declared.Counts.{Counts}
+use Rattle.rules.specs.Basics.{total, counting}
+use Rattle.rules.specs.Limits.{most_accounts}
+use Rattle.rules.specs.Books.{account_count}
+use Rattle.rules.proofs.Basics.CountingLaws.{sum_begins, sum_next, sum_done}
+use Rattle.image.specs.Valid.{book_in}
+use Rattle.book.specs.Worth.{most_short}
+use Rattle.book.specs.Hourly.{account_short_in_hour}
+use Rattle.book.proofs.StateLaws.{book_length, book_is_sound}
+use Rattle.book.proofs.WorthParts.{accounts_in_lem}
+use Rattle.book.proofs.HourlyLaws.{shorts_by_account}
+use Rattle.book.proofs.hourly.short_of_operator.Goals as goal
+
+pub counts-n-requires : goal.counts-n-requires
+counts-n-requires c = omega (arith, book_length _ c.requires.0.is_sound)
+
+pub loop-account-init : goal.loop-account-init
+loop-account-init c =
+    let accounts = ap (λ (n : Counts). n.accounts) c.counts-n.ensures ∙ accounts_in_lem _ c.requires.0.is_sound in (
+      accounts,
+      omega (arith, accounts, (book_is_sound _ c.requires.0.is_sound).setup_sound.accounts_high),
+      omega arith,
+      omega arith,
+      omega arith,
+      sum_begins _ _ _ _ (omega arith),
+    )
+
+pub short_of_account-requires : goal.short_of_account-requires
+short_of_account-requires c =
+    (c.requires.0, c.requires.1, (c.loop-account.invariant.2, omega (arith, c.loop-account.invariant.0)))
+
+pub plus-sum-requires : goal.plus-sum-requires
+plus-sum-requires c =
+    omega (arith, c.loop-account.invariant.1, c.loop-account.invariant.4, c.short_of_account.ensures.bounded)
+
+pub loop-account-preserved : goal.loop-account-preserved
+loop-account-preserved c = (
+  c.loop-account.invariant.0,
+  c.loop-account.invariant.1,
+  omega arith,
+  omega arith,
+  omega (arith, c.loop-account.invariant.4, c.plus-sum.ensures.exact, c.short_of_account.ensures.bounded),
+  sum_next _ _ _ _ _ _ _ (omega (arith, c.loop-account.invariant.0)) (c.plus-sum.ensures.exact ∙ ap (λ (x : ℕ). c.loop-account.sum.0 + x) c.short_of_account.ensures.meaning) c.loop-account.invariant.5,
+)
+
+pub returns : goal.returns
+returns c =
+    record { meaning = sum_done _ _ _ _ _ (omega (arith, c.loop-account.invariant.0)) c.loop-account.invariant.5 ∙ sym (shorts_by_account _ _ _ _); bounded = omega (arith, c.loop-account.invariant.4, c.loop-account.invariant.1) }

@@ -1,0 +1,31 @@
+-- The sum so far, and what the accounts that are left add, make what all accounts of the operator add.
+use Prim.Native.Nat.{ℕ, ◌+◌, ◌-◌, ◌*◌, ◌≤◌}
+use mathlib.Core.Path.{◌≡◌, sym, ap, ◌∙◌}
+use native.Mathlib.Omega.{arith}
+use borrow.Author.Rules.{rules}
+use Rattle.rules.specs.declared.Counts.{Counts}
+use Rattle.rules.specs.Basics.{total, counting}
+use Rattle.rules.specs.Limits.{most_accounts}
+use Rattle.rules.specs.Books.{account_count}
+use Rattle.rules.proofs.Basics.CountingLaws.{sum_begins, sum_next, sum_done}
+use Rattle.image.specs.Valid.{book_in}
+use Rattle.book.specs.Worth.{most_short}
+use Rattle.book.specs.Hourly.{account_short_in_hour}
+use Rattle.book.proofs.StateLaws.{book_length, book_is_sound}
+use Rattle.book.proofs.WorthParts.{accounts_in_lem}
+use Rattle.book.proofs.HourlyLaws.{shorts_by_account}
+use Rattle.book.proofs.hourly.short_of_operator.Given as goal
+
+abbrev pub invariant-loop-account : goal.invariant-loop-account
+invariant-loop-account l =
+    let b = book_in l.book in
+    (l.n.accounts ≡ account_count b.setup)
+    × (l.n.accounts ≤ most_accounts)
+    × (1 ≤ l.account)
+    × (l.account ≤ l.n.accounts + 1)
+    × (l.sum.0 ≤ (l.account - 1) * most_short)
+    × (l.sum.0 + total (account_short_in_hour b.setup b.part.rows l.operator l.hour) (counting (account_count b.setup + 1 - l.account) l.account)
+    ≡ total (account_short_in_hour b.setup b.part.rows l.operator l.hour) (counting (account_count b.setup) 1))
+
+abbrev pub decreases-loop-account : goal.decreases-loop-account
+decreases-loop-account l = l.n.accounts + 1 - l.account

@@ -1,0 +1,24 @@
+-- The size decides first, then the set-up; where neither is at fault the buffer holds the fresh book.
+use mathlib.Core.Path.{sym, ◌∙◌}
+use mathlib.Core.Option.{none, some}
+use Rattle.rules.proofs.Checks.Clearing.{checked-same}
+use Rattle.book.proofs.OpeningLaws.{other_size, setup_decides, refused_unchanged, accepted_fresh}
+use borrow.Author.Rules.{rules}
+use Rattle.book.proofs.opening.open.Goals as goal
+
+pub returns-then-book-ne-BOOK_SIZE : goal.returns-then-book-ne-BOOK_SIZE
+returns-then-book-ne-BOOK_SIZE c =
+    let both = refused_unchanged _ _ _ (other_size _ _ c.if-book-ne-BOOK_SIZE.true) in record { answer = both.0; filled = both.1 }
+
+pub returns-in-Fails : goal.returns-in-Fails
+returns-in-Fails c =
+    let both = refused_unchanged _ _ _ (setup_decides _ _ c.if-book-ne-BOOK_SIZE.false ∙ checked-same _ (some _) (sym c.fault.ensures ∙ c.in-Fails.is)) in record { answer = both.0; filled = both.1 }
+
+pub fill-requires : goal.fill-requires
+fill-requires c =
+    (checked-same _ none (sym c.fault.ensures ∙ c.in_default.is), c.if-book-ne-BOOK_SIZE.false)
+
+pub returns : goal.returns
+returns c =
+    let both = accepted_fresh _ _ (setup_decides _ _ c.if-book-ne-BOOK_SIZE.false ∙ checked-same _ none (sym c.fault.ensures ∙ c.in_default.is))
+    c.fill.ensures in record { answer = both.0; filled = both.1 }

@@ -1,0 +1,16 @@
+-- The bytes are the book's image, which has the number of saved rows at this place, and the saved rows are the first of the present ones.
+use mathlib.Core.Path.{◌∙◌}
+use native.Mathlib.Omega.{arith}
+use Rattle.book.proofs.StateLaws.{book_length, saved_row_count_stands, saved_rows_fewer}
+use Rattle.book.proofs.state.saved_row_count.Goals as goal
+
+pub overflow_add-get_u16 : goal.overflow_add-get_u16
+overflow_add-get_u16 c = omega arith
+
+pub get_u16-requires : goal.get_u16-requires
+get_u16-requires c = omega (arith, book_length _ c.requires.book_value)
+
+pub returns : goal.returns
+returns c =
+    let e = c.get_u16.ensures ∙ saved_row_count_stands _ c.requires.book_value c.requires.book_value_2 in
+    record { meaning = e; bounded = omega (arith, e, saved_rows_fewer _ c.requires.book_value c.requires.book_value_2) }

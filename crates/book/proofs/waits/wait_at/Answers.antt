@@ -1,0 +1,6 @@
+-- The cell lies within the table.
+use borrow.Author.Rules.{rules}
+use Rattle.book.proofs.waits.wait_at.Goals as goal
+
+pub returns : goal.returns
+returns c = rw c.wait_cell-k.ensures

@@ -1,0 +1,30 @@
+-- The sum so far, and what the hours that are left add, make what all hours add.
+use Prim.Native.Nat.{ℕ, ◌+◌, ◌-◌, ◌*◌, ◌≤◌}
+use mathlib.Core.Path.{◌≡◌, sym, ap, ◌∙◌}
+use native.Mathlib.Omega.{arith}
+use borrow.Author.Rules.{rules}
+use Rattle.rules.specs.declared.Counts.{Counts}
+use Rattle.rules.specs.Basics.{total, counting}
+use Rattle.rules.specs.Limits.{most_price, most_hours}
+use Rattle.rules.specs.Books.{periods}
+use Rattle.rules.proofs.Basics.CountingLaws.{sum_begins, sum_next, sum_done}
+use Rattle.image.specs.Valid.{book_in}
+use Rattle.book.specs.Worth.{nets_with, most_short}
+use Rattle.book.proofs.StateLaws.{book_length, book_is_sound}
+use Rattle.book.proofs.WorthParts.{hours_in}
+use Rattle.book.proofs.ShortLaws.{hour_short, hour_short_read, short_most, short_by_hour}
+use Rattle.book.proofs.worth.account_short.Given as goal
+
+abbrev pub invariant-loop-hour : goal.invariant-loop-hour
+invariant-loop-hour l =
+    let b = book_in l.book in
+    (l.n.hours ≡ periods b.setup)
+    × (l.n.hours ≤ most_hours)
+    × (1 ≤ l.hour)
+    × (l.hour ≤ l.n.hours + 1)
+    × (l.sum.0 ≤ (l.hour - 1) * (most_short * most_price))
+    × (l.sum.0 + total (hour_short b.setup (nets_with b l.added) l.account) (counting (periods b.setup + 1 - l.hour) l.hour)
+    ≡ total (hour_short b.setup (nets_with b l.added) l.account) (counting (periods b.setup) 1))
+
+abbrev pub decreases-loop-hour : goal.decreases-loop-hour
+decreases-loop-hour l = l.n.hours + 1 - l.hour

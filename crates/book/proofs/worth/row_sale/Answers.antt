@@ -1,0 +1,44 @@
+-- A row whose proposer has another operator adds nothing, and any other row is read whole.
+use mathlib.Core.Path.{sym, ap, ◌∙◌}
+use native.Mathlib.Omega.{arith}
+use Rattle.book.specs.Worth.{sale_worth}
+use Rattle.book.proofs.StateLaws.{book_length, row_count_high, numbered_row_stands}
+use Rattle.book.proofs.BookRows.{numbered_sound}
+use Rattle.book.proofs.WaitLaws.{own_stands}
+use Rattle.book.proofs.WorthParts.{operator_listed, sale_of_others, sound_row_in_range}
+use borrow.Author.Rules.{rules}
+use Rattle.book.proofs.worth.row_sale.Goals as goal
+
+pub row_offset-at-requires : goal.row_offset-at-requires
+row_offset-at-requires c = omega (arith, c.requires.1, row_count_high _ c.requires.0.is_sound)
+
+pub get_u8-requires : goal.get_u8-requires
+get_u8-requires c =
+    omega (arith, c.requires.1, c.row_offset-at.ensures, row_count_high _ c.requires.0.is_sound, book_length _ c.requires.0.is_sound)
+
+pub bounds-operators-get_u8 : goal.bounds-operators-get_u8
+bounds-operators-get_u8 c =
+    let same = c.get_u8.ensures ∙ (own_stands _ c.requires.0.is_sound c.args.number _ c.requires.1 c.row_offset-at.ensures).0 in
+    let sound = numbered_sound _ c.requires.0.is_sound c.args.number c.requires.1 in
+    operator_listed _ _ _ c.requires.0.is_sound c.requires.0.account_operators (rw same sound.proposer_low, rw same sound.proposer_high)
+
+pub returns-then-operators-get_u8 : goal.returns-then-operators-get_u8
+returns-then-operators-get_u8 c =
+    let same = c.get_u8.ensures ∙ (own_stands _ c.requires.0.is_sound c.args.number _ c.requires.1 c.row_offset-at.ensures).0 in
+    let sound = numbered_sound _ c.requires.0.is_sound c.args.number c.requires.1 in
+    let own = c.requires.0.account_operators.operator _ sound.proposer_low sound.proposer_high in
+    record { meaning = sym (sale_of_others _ c.args.operator _ _ own (rw same at c.if-operators-get_u8.true)); bounded = omega arith }
+
+pub row_at-requires : goal.row_at-requires
+row_at-requires c =
+    omega (arith, c.requires.1, c.row_offset-at.ensures, row_count_high _ c.requires.0.is_sound, book_length _ c.requires.0.is_sound)
+
+pub sale_of-requires : goal.sale_of-requires
+sale_of-requires c =
+    let same = c.row_at.ensures ∙ numbered_row_stands _ c.requires.0.is_sound c.args.number _ c.requires.1 c.row_offset-at.ensures in
+    (c.requires.0, rw same (sound_row_in_range _ _ (numbered_sound _ c.requires.0.is_sound c.args.number c.requires.1)))
+
+pub returns : goal.returns
+returns c =
+    let same = c.row_at.ensures ∙ numbered_row_stands _ c.requires.0.is_sound c.args.number _ c.requires.1 c.row_offset-at.ensures in
+    record { meaning = c.sale_of.ensures.meaning ∙ ap (sale_worth _ c.args.operator) same; bounded = c.sale_of.ensures.bounded }
