@@ -1,0 +1,49 @@
+-- What was checked is what the state decides, and what is written is the book with no row pending, in the next phase.
+use Prim.Native.Nat.{ℕ}
+use mathlib.Core.Path.{◌≡◌, refl, sym, ap, ◌∙◌}
+use mathlib.Core.List.{List}
+use mathlib.Core.Option.{none, some}
+use native.Mathlib.Omega.{arith}
+use Rattle.wire.specs.Numbers.{le}
+use Rattle.wire.specs.Regions.{splice}
+use Rattle.rules.specs.declared.Request.{Request}
+use Rattle.rules.specs.Requests.{close_gate}
+use Rattle.rules.proofs.Checks.Clearing.{checked-same}
+use Rattle.image.specs.Layout.{phase_offset}
+use Rattle.image.specs.Valid.{book_in}
+use Rattle.book.specs.Kinds.{decided}
+use Rattle.book.proofs.StateLaws.{book_length}
+use Rattle.book.proofs.Answers.{refused_all}
+use Rattle.batches.proofs.Acceptances.{closed_answered}
+use borrow.Author.Rules.{rules}
+use Rattle.batches.proofs.gate.close_gate.Goals as goal
+
+-- past the checks nothing is decided
+free : (c : tie.After-enum-told) (q : Request) → decided close_gate (book_in c.before.before.before.before.before.args.book.now) q ≡ none
+free c q = checked-same _ none (sym (c.before.before.outside-batch.ensures close_gate q refl) ∙ c.enum_told.given.1)
+
+pub returns-in-Fails : goal.returns-in-Fails
+returns-in-Fails c =
+    let both = refused_all close_gate _ _ c.requires
+    (λ q. checked-same _ (some _) (sym (c.outside_batch.ensures close_gate q refl) ∙ c.in-Fails.is)) in record { answer = both.0; bytes = both.1; still = both.2 }
+
+pub end_rows-requires : goal.end_rows-requires
+end_rows-requires c =
+    let n = book_length _ c.requires in
+    omega arith
+
+pub put_u8-requires : goal.put_u8-requires
+put_u8-requires c =
+    let n = book_length _ c.requires in
+    omega arith
+
+pub returns : goal.returns
+returns c =-- LEFT bare place clear
+
+    let phase = c.before.before in
+    let ended = phase.before.before.before.before in
+    let counted = ended.before.before in
+    let clear = counted.before.before in
+    let start = clear.before.before.before.before.before in
+    closed_answered _ _ start.requires _ (free clear) counted.row_count.ensures.0
+    (phase.put-u8.ensures ∙ ap (λ (x : List ℕ). splice x phase_offset (le 1 2)) ended.end-rows.ensures)

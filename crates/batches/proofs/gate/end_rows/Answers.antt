@@ -1,0 +1,24 @@
+-- To end the rows that are left, after those ended so far, is to end all.
+use Prim.Native.Nat.{◌+◌, ◌-◌, ◌*◌, ◌≤◌}
+use mathlib.Core.Path.{◌≡◌, refl, sym, ◌∙◌}
+use native.Mathlib.Omega.{arith}
+use lib.ListN.{length}
+use borrow.Author.Rules.{rules}
+use Rattle.wire.specs.Parts.{sweep}
+use Rattle.image.specs.Layout.{row_width}
+use Rattle.image.specs.Changes.{ended}
+use Rattle.image.proofs.Writing.Loops.{sweep_on, sweep_done}
+use Rattle.batches.proofs.gate.end_rows.Goals as goal
+
+pub loop-left-init : goal.loop-left-init
+loop-left-init c = (omega arith, refl, refl)
+
+pub loop-left-preserved : goal.loop-left-preserved
+loop-left-preserved c =-- LEFT field End-row at After-slice_known2
+
+    let l = c.before.before.before.before.before.loop in
+    let e = c.before.before.End-row.ensures in
+    (omega arith, omega arith, l.invariant.2 ∙ sweep_on ended row_width l.s l.at _ l.left (l.left - 1) (omega arith) e)
+
+pub returns : goal.returns
+returns c = sym (c.loop-left.invariant.2 ∙ sweep_done _ _ _ _ _ c.loop-left-test.false)

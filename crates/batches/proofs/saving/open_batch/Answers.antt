@@ -1,0 +1,11 @@
+-- What was checked is what the state decides, and the present part is saved only where nothing is wrong.
+use mathlib.Core.Path.{refl}
+use Rattle.rules.specs.Requests.{open_batch}
+use Rattle.batches.proofs.Acceptances.{opening_answered}
+use borrow.Author.Rules.{rules}
+use Rattle.batches.proofs.saving.open_batch.Goals as goal
+
+pub returns : goal.returns
+returns c =
+    rw c.outcome_of.ensures
+    (opening_answered _ _ c.requires _ (λ q. c.outside_batch-fault.ensures open_batch q refl) c.is_clear-clear.ensures c.save_if.ensures)

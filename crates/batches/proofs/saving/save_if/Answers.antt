@@ -1,0 +1,28 @@
+-- The room past the rows is zero in both parts, whether a batch is open or not, so that the copy is the whole present part.
+use Prim.Native.Nat.{ℕ}
+use mathlib.Core.Path.{ap, ◌∙◌}
+use mathlib.Core.List.{List}
+use mathlib.Core.Logic.{inl}
+use native.Mathlib.Omega.{arith}
+use Rattle.wire.specs.Numbers.{le}
+use Rattle.wire.specs.Regions.{splice}
+use Rattle.image.specs.Layout.{flag_offset}
+use Rattle.book.proofs.StateLaws.{book_length}
+use Rattle.batches.proofs.BatchLaws.{present_rows_end, saved_past_rows}
+use borrow.Author.Rules.{rules}
+use Rattle.batches.proofs.saving.save_if.Goals as goal
+
+pub copy_part-requires : goal.copy_part-requires
+copy_part-requires c =
+    let n = book_length _ c.requires in
+    let (count, few) = c.row_count-rows.ensures in
+    record { has_part = (omega arith, omega arith, inl (omega arith)); n_le_most_rows = (few, present_rows_end _ c.requires _ count, saved_past_rows _ c.requires _ count) }
+
+pub put_u8-requires : goal.put_u8-requires
+put_u8-requires c =
+    let n = book_length _ c.requires in
+    omega arith
+
+pub returns-then-clear : goal.returns-then-clear
+returns-then-clear c =
+    rw c.if-clear.true (c.put_u8.ensures ∙ ap (λ (x : List ℕ). splice x flag_offset (le 1 1)) c.copy_part.ensures)

@@ -1,0 +1,7 @@
+-- The row's status is written, and then the nets are moved.
+use Rattle.std.proofs.Common.{◌∙◌, rules}
+use Rattle.registration.proofs.confirm.put_trade.Goals as goal
+
+pub returns : goal.returns
+returns c =
+    c.move_nets.ensures ∙ rw (c.put_u8.ensures, c.row_offset.ensures)

@@ -1,0 +1,30 @@
+-- What was checked is what the state decides, and what is written is the book with the guarantee replaced.
+use Rattle.std.proofs.Common.{sym, refl, ◌∙◌, arith, rules}
+use mathlib.Core.Option.{none, some}
+use Rattle.rules.specs.Requests.{guarantee}
+use Rattle.rules.proofs.Checks.Clearing.{checked-same}
+use Rattle.book.proofs.StateLaws.{book_length}
+use Rattle.book.proofs.Answers.{refused_answered}
+use Rattle.registration.proofs.GuaranteeLaws.{ready_guarantee, guarantee_answered}
+use Rattle.registration.proofs.guarantee.guarantee.Goals as goal
+
+pub returns-in-Fails : goal.returns-in-Fails
+returns-in-Fails c =
+    let both = refused_answered guarantee _ _ c.requires.book_value _
+    (checked-same _ (some _) (sym c.guarantee_fault.ensures ∙ c.in-Fails.is)) in record { answer = both.0; bytes = both.1; still = both.2 }
+
+pub overflow_sub-request : goal.overflow_sub-request
+overflow_sub-request c =
+    let low = (ready_guarantee _ _ c.requires.ready).0.0 in
+    omega arith
+
+pub put_u64-requires : goal.put_u64-requires
+put_u64-requires c =
+    let n = book_length _ c.requires.book_value in
+    let r = ready_guarantee _ _ c.requires.ready in
+    omega arith
+
+pub returns : goal.returns
+returns c =
+    let both = guarantee_answered _ _ c.requires.book_value _ _ c.requires.ready (checked-same _ none (sym c.guarantee_fault.ensures ∙ c.in_default.is)) refl
+    c.put_u64.ensures in record { answer = both.0; bytes = both.1; still = both.2 }

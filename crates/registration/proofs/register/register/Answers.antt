@@ -1,0 +1,29 @@
+-- What was checked is what the state decides, and what is written is the book with the row proposed.
+use Rattle.std.proofs.Common.{sym, refl, ◌∙◌, arith, rules}
+use mathlib.Core.Option.{none, some}
+use Rattle.rules.specs.Requests.{register}
+use Rattle.rules.proofs.Checks.Clearing.{checked-same}
+use Rattle.book.proofs.StateLaws.{book_length}
+use Rattle.book.proofs.Answers.{refused_answered}
+use Rattle.registration.proofs.RegisterLaws.{ready_proposes, few_rows, registered_answered}
+use Rattle.registration.proofs.register.register.Goals as goal
+
+pub register_fault-requires : goal.register_fault-requires
+register_fault-requires c =
+    record { book_value = c.requires.book_value; proposes_row = ready_proposes register _ _ refl c.requires.ready }
+
+pub returns-in-Fails : goal.returns-in-Fails
+returns-in-Fails c =
+    let both = refused_answered register _ _ c.requires.book_value _
+    (checked-same _ (some _) (sym c.register_fault.ensures ∙ c.in-Fails.is)) in record { answer = both.0; bytes = both.1; still = both.2 }
+
+pub append_row-requires : goal.append_row-requires
+append_row-requires c =
+    let few = few_rows _ _ (checked-same _ none (sym c.register_fault.ensures ∙ c.in_default.is)) in
+    (book_length _ c.requires.book_value, omega (arith, few, c.row_count-n.ensures.meaning))
+
+pub returns : goal.returns
+returns c =
+    let free = checked-same _ none (sym c.register_fault.ensures ∙ c.in_default.is) in
+    let both = registered_answered _ _ c.requires.book_value _ _ c.requires.ready free c.row_count-n.ensures.meaning (omega (arith, few_rows _ _ free, c.row_count-n.ensures.meaning))
+    (rw c.proposed_row-row.ensures at c.append_row.ensures) in record { answer = both.0; bytes = both.1; still = both.2 }

@@ -1,0 +1,18 @@
+-- Past the last number there is no row; up to it the row's bytes say its status and its proposer.
+use Rattle.std.proofs.Common.{sym, arith, rules}
+use Rattle.book.proofs.StateLaws.{book_length}
+use Rattle.registration.proofs.Withdrawals.{no_such_number, own_pending}
+use Rattle.registration.proofs.withdraw.is_own_pending.Goals as goal
+
+pub returns-then-row_count-request : goal.returns-then-row_count-request
+returns-then-row_count-request c = sym (no_such_number _ _ (omega arith))
+
+pub get_u8-requires : goal.get_u8-requires
+get_u8-requires c = let n = book_length _ c.requires.book_value in omega arith
+
+pub get_u8-requires-2 : goal.get_u8-requires-2
+get_u8-requires-2 c = let n = book_length _ c.requires.book_value in omega arith
+
+pub returns : goal.returns
+returns c =
+    own_pending _ _ _ _ _ c.requires.book_value (c.requires.le_number, omega arith) c.row_offset-at.ensures c.get_u8.ensures c.get_u8-2.ensures

@@ -1,0 +1,32 @@
+-- What was checked is what the state decides, and what is written is the book with the row withdrawn.
+use Rattle.std.proofs.Common.{sym, ◌∙◌, arith, rules}
+use mathlib.Core.Option.{none, some}
+use Rattle.rules.specs.Requests.{withdraw}
+use Rattle.rules.proofs.Checks.Clearing.{checked-same}
+use Rattle.book.proofs.StateLaws.{book_length}
+use Rattle.book.proofs.Answers.{refused_answered}
+use Rattle.book.proofs.Readiness.{ready_number}
+use Rattle.registration.proofs.Acceptances.{withdrawn_answered}
+use Rattle.registration.proofs.withdraw.withdraw.Goals as goal
+
+pub withdrawal_fault-requires : goal.withdrawal_fault-requires
+withdrawal_fault-requires c =
+    record { book_value = c.requires.book_value; le_number = (ready_number _ _ c.requires.ready).0 }
+
+pub returns-in-Fails : goal.returns-in-Fails
+returns-in-Fails c =
+    let both = refused_answered withdraw _ _ c.requires.book_value _
+    (checked-same _ (some _) (sym c.withdrawal_fault.ensures ∙ c.in-Fails.is)) in record { answer = both.0; bytes = both.1; still = both.2 }
+
+pub row_offset-requires : goal.row_offset-requires
+row_offset-requires c = ready_number _ _ c.requires.ready
+
+pub put_u8-requires : goal.put_u8-requires
+put_u8-requires c =
+    let n = book_length _ c.requires.book_value in
+    let r = ready_number _ _ c.requires.ready in
+    omega arith
+
+pub returns : goal.returns
+returns c =
+    let both = withdrawn_answered _ _ c.requires.book_value _ _ (checked-same _ none (sym c.withdrawal_fault.ensures ∙ c.in_default.is)) (omega arith) c.put_u8.ensures in record { answer = both.0; bytes = both.1; still = both.2 }

@@ -1,0 +1,26 @@
+-- What a pass finds among all rows is what it finds among those that are left.
+use Prim.Native.Nat.{◌+◌, ◌-◌, ◌*◌, ◌≤◌}
+use mathlib.Core.Path.{◌≡◌, refl, sym, ap, ◌∙◌}
+use mathlib.Core.List.{map}
+use mathlib.Core.Option.{none, some}
+use native.Mathlib.Omega.{arith}
+use lib.ListN.{length}
+use Rattle.rules.specs.Basics.{Each}
+use Rattle.rules.specs.Verdicts.{first_to_apply, checked}
+use Rattle.rules.specs.Requests.{row_length}
+use Rattle.rules.proofs.Checks.Clearing.{checked-same}
+use Rattle.strip_rows.specs.Rows.{rows_from}
+use Rattle.strip_rows.specs.Passes.{row_check, PassWants}
+use Rattle.strip_rows.proofs.RowsFrom.{rows_split, row_length_lem, part_row}
+use Rattle.strip_rows.proofs.Passes.{pass_done, pass-here, pass-next}
+use borrow.Author.Rules.{rules}
+use Rattle.strip_rows.proofs.record.first_row_fault.Given as goal
+
+abbrev pub invariant-loop-left : goal.invariant-loop-left
+invariant-loop-left l =
+    (l.k + row_length * l.left ≤ length l.bytes)
+    × Each (PassWants l.pass) (rows_from l.bytes l.k l.left)
+    × (first_to_apply (map (row_check l.pass) (rows_from l.bytes l.at l.n)) ≡ first_to_apply (map (row_check l.pass) (rows_from l.bytes l.k l.left)))
+
+abbrev pub decreases-loop-left : goal.decreases-loop-left
+decreases-loop-left l = l.left
