@@ -1,3 +1,4 @@
 // The schedules in order of priority.
 #![tactic(auto)]
+
 pub mod order;
