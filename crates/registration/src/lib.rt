@@ -1,5 +1,6 @@
 // Registration on a sound book: kinds 1 to 4.
 #![tactic(auto)]
+
 pub mod confirm;
 pub mod cover;
 pub mod guarantee;

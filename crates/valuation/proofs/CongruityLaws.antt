@@ -83,7 +83,7 @@ module _ (s : List ℕ) (h : is_sound s ≡ true) (x : Schedule) (ok : schedule_
   -- the point that was read is its point
   pub on_point : (p : Point) → p ≡ nth (points_in s) x.point no_point → OnPoint (setup_in s) p x
   unfolding setup_of
-  on_point p e = record { in_range_lem = ok; its_point = e ∙ ap (λ (u : Setup). point_at u x.point) (sym (setup_in_lem s h)) }
+  on_point p e = record { in_range = ok; its_point = e ∙ ap (λ (u : Setup). point_at u x.point) (sym (setup_in_lem s h)) }
 
   -- the price that it meets is one of the table's
   pub price_stands : (prices : List ℕ) → Priced s prices → (n : Counts) (p : Point) → n ≡ counts_in s → p ≡ point_at (setup_in s) x.point

@@ -1,6 +1,7 @@
 // What schedules and account hours come to at settlement: the result of a schedule, what it registers in its account hour, the hour's
 // figures, and the operators' balances.
 #![tactic(auto)]
+
 pub mod balances;
 pub mod congruity;
 pub mod hours;

@@ -25,7 +25,7 @@ free c q = checked-same _ none (sym (c.before.before.outside-batch.ensures close
 pub returns-in-Fails : goal.returns-in-Fails
 returns-in-Fails c =
     let both = refused_all close_gate _ _ c.requires
-    (λ q. checked-same _ (some _) (sym (c.outside_batch.ensures close_gate q refl) ∙ c.in-Fails.is)) in record { answer = both.0; bytes = both.1; still = both.2 }
+    (λ q. checked-same _ (some _) (sym (c.outside_batch.ensures close_gate q refl) ∙ c.in-Fails.is)) in record { answer = both.0; bytes = both.1.0; still = both.1.1 }
 
 pub end_rows-requires : goal.end_rows-requires
 end_rows-requires c =

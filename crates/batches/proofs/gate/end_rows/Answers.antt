@@ -14,11 +14,8 @@ pub loop-left-init : goal.loop-left-init
 loop-left-init c = (omega arith, refl, refl)
 
 pub loop-left-preserved : goal.loop-left-preserved
-loop-left-preserved c =-- LEFT field End-row at After-slice_known2
-
-    let l = c.before.before.before.before.before.loop in
-    let e = c.before.before.End-row.ensures in
-    (omega arith, omega arith, l.invariant.2 ∙ sweep_on ended row_width l.s l.at _ l.left (l.left - 1) (omega arith) e)
+loop-left-preserved c =
+    (omega arith, omega arith, c.loop-left.invariant.2 ∙ sweep_on ended row_width c.loop-left.s c.loop-left.at _ c.loop-left.left (c.loop-left.left - 1) (omega arith) c.end_row.ensures)
 
 pub returns : goal.returns
 returns c = sym (c.loop-left.invariant.2 ∙ sweep_done _ _ _ _ _ c.loop-left-test.false)

@@ -27,7 +27,7 @@ free c q = checked-same _ none (sym (c.before.before.inside-batch.ensures undo q
 pub returns-in-Fails : goal.returns-in-Fails
 returns-in-Fails c =
     let both = refused_all undo _ _ c.requires
-    (λ q. checked-same _ (some _) (sym (c.inside_batch.ensures undo q refl) ∙ c.in-Fails.is)) in record { answer = both.0; bytes = both.1; still = both.2 }
+    (λ q. checked-same _ (some _) (sym (c.inside_batch.ensures undo q refl) ∙ c.in-Fails.is)) in record { answer = both.0; bytes = both.1.0; still = both.1.1 }
 
 pub saved_row_count-saved-requires : goal.saved_row_count-saved-requires
 saved_row_count-saved-requires c =-- LEFT bare place c

@@ -14,7 +14,7 @@ confirm_fault-requires c =
 
 pub returns-in-Fails : goal.returns-in-Fails
 returns-in-Fails c =
-    let both = refused_answered confirm _ _ c.requires.book_value _ (checked-same _ (some _) (sym c.confirm_fault.ensures ∙ c.in-Fails.is)) in record { answer = both.0; bytes = both.1; still = both.2 }
+    let both = refused_answered confirm _ _ c.requires.book_value _ (checked-same _ (some _) (sym c.confirm_fault.ensures ∙ c.in-Fails.is)) in record { answer = both.0; bytes = both.1.0; still = both.1.1 }
 
 pub numbered_row-row-requires : goal.numbered_row-row-requires
 numbered_row-row-requires c =
@@ -30,4 +30,4 @@ put_trade-requires c =
 pub returns : goal.returns
 returns c =
     let free = checked-same _ none (sym c.confirm_fault.ensures ∙ c.in_default.is) in
-    let both = trade-answered _ _ _ c.requires.book_value free c.confirmed_number-number.ensures.meaning _ c.numbered_row-row.ensures _ c.put_trade.ensures in record { answer = both.0; bytes = both.1; still = both.2 }
+    let both = trade-answered _ _ _ c.requires.book_value free c.confirmed_number-number.ensures.meaning _ c.numbered_row-row.ensures _ c.put_trade.ensures in record { answer = both.0; bytes = both.1.0; still = both.1.1 }

@@ -11,7 +11,7 @@ use Rattle.registration.proofs.guarantee.guarantee.Goals as goal
 pub returns-in-Fails : goal.returns-in-Fails
 returns-in-Fails c =
     let both = refused_answered guarantee _ _ c.requires.book_value _
-    (checked-same _ (some _) (sym c.guarantee_fault.ensures ∙ c.in-Fails.is)) in record { answer = both.0; bytes = both.1; still = both.2 }
+    (checked-same _ (some _) (sym c.guarantee_fault.ensures ∙ c.in-Fails.is)) in record { answer = both.0; bytes = both.1.0; still = both.1.1 }
 
 pub overflow_sub-request : goal.overflow_sub-request
 overflow_sub-request c =
@@ -27,4 +27,4 @@ put_u64-requires c =
 pub returns : goal.returns
 returns c =
     let both = guarantee_answered _ _ c.requires.book_value _ _ c.requires.ready (checked-same _ none (sym c.guarantee_fault.ensures ∙ c.in_default.is)) refl
-    c.put_u64.ensures in record { answer = both.0; bytes = both.1; still = both.2 }
+    c.put_u64.ensures in record { answer = both.0; bytes = both.1.0; still = both.1.1 }

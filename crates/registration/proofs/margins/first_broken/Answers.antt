@@ -14,13 +14,12 @@ use Rattle.registration.proofs.MarginLaws.{hour_room, breaks_with, broken_by_spa
 use Rattle.registration.proofs.margins.first_broken.Goals as goal
 
 pub loop-hour-init : goal.loop-hour-init
-loop-hour-init c =
-    (
-      search rules,
-      search rules,
-      omega (arith, c.requires.account_trade.last_high, hours_few _ c.requires.book_value.0),
-      broken_by_span _ c.requires.book_value.0 _ _ c.requires.account_trade,
-    )
+loop-hour-init c = (
+  search rules,
+  search rules,
+  omega (arith, c.requires.account_trade.last_high, hours_few _ c.requires.book_value.0),
+  broken_by_span _ c.requires.book_value.0 _ _ c.requires.account_trade,
+)
 
 pub margins-own-requires : goal.margins-own-requires
 margins-own-requires c =

@@ -15,7 +15,7 @@ register_fault-requires c =
 pub returns-in-Fails : goal.returns-in-Fails
 returns-in-Fails c =
     let both = refused_answered register _ _ c.requires.book_value _
-    (checked-same _ (some _) (sym c.register_fault.ensures ∙ c.in-Fails.is)) in record { answer = both.0; bytes = both.1; still = both.2 }
+    (checked-same _ (some _) (sym c.register_fault.ensures ∙ c.in-Fails.is)) in record { answer = both.0; bytes = both.1.0; still = both.1.1 }
 
 pub append_row-requires : goal.append_row-requires
 append_row-requires c =
@@ -26,4 +26,4 @@ pub returns : goal.returns
 returns c =
     let free = checked-same _ none (sym c.register_fault.ensures ∙ c.in_default.is) in
     let both = registered_answered _ _ c.requires.book_value _ _ c.requires.ready free c.row_count-n.ensures.meaning (omega (arith, few_rows _ _ free, c.row_count-n.ensures.meaning))
-    (rw c.proposed_row-row.ensures at c.append_row.ensures) in record { answer = both.0; bytes = both.1; still = both.2 }
+    (rw c.proposed_row-row.ensures at c.append_row.ensures) in record { answer = both.0; bytes = both.1.0; still = both.1.1 }

@@ -10,26 +10,27 @@ use Rattle.book.proofs.StateLaws.{row_count_high}
 use Rattle.registration.proofs.PendingLaws.{number_high}
 use Rattle.registration.proofs.search.pending_number.Goals as goal
 
--- the number that was found
-found : (c : tie.After-number-among)
-    → let start = c.before.before.before in
-    let rows = (book_in start.args.book.now).part.rows in
-    (c.number-among.result ≡ number_from (index_of (alike start.args.proposer start.args.counterparty start.args.code) rows))
-    × (c.number-among.result ≤ length rows)
-found c =
-    let start = c.before.before.before in
-    let p = alike start.args.proposer start.args.counterparty start.args.code in
-    let rows = sym (rows_in _ start.requires _ c.before.row_count.ensures.0) in
-    let same = c.number-among.ensures ∙ ap (λ (xs : List Row). number_from (index_of p xs)) rows in
-    (same, omega (arith, same, number_high p (book_in start.args.book.now).part.rows))
-
 pub number_among-requires : goal.number_among-requires
 number_among-requires c = (rows-summable _ c.requires _ c.row_count-n.ensures.meaning).0
 
 pub overflow_cast-result : goal.overflow_cast-result
-overflow_cast-result c =-- LEFT bare place c
- record { fits = omega (arith, (found c).1, row_count_high _ c.before.before.before.requires) }
+overflow_cast-result c =
+    let found : let rows = (book_in c.args.book.now).part.rows in
+    (c.number_among.result ≡ number_from (index_of (alike c.args.proposer c.args.counterparty c.args.code) rows))
+    × (c.number_among.result ≤ length rows) =
+    let p = alike c.args.proposer c.args.counterparty c.args.code in
+    let rows = sym (rows_in _ c.requires _ c.row_count-n.ensures.meaning) in
+    let same = c.number_among.ensures ∙ ap (λ (xs : List Row). number_from (index_of p xs)) rows in
+    (same, omega (arith, same, number_high p (book_in c.args.book.now).part.rows)) in
+    record { fits = omega (arith, found.1, row_count_high _ c.requires) }
 
 pub returns : goal.returns
-returns c =-- LEFT bare place c
- found c
+returns c =
+    let found : let rows = (book_in c.args.book.now).part.rows in
+    (c.number_among.result ≡ number_from (index_of (alike c.args.proposer c.args.counterparty c.args.code) rows))
+    × (c.number_among.result ≤ length rows) =
+    let p = alike c.args.proposer c.args.counterparty c.args.code in
+    let rows = sym (rows_in _ c.requires _ c.row_count-n.ensures.meaning) in
+    let same = c.number_among.ensures ∙ ap (λ (xs : List Row). number_from (index_of p xs)) rows in
+    (same, omega (arith, same, number_high p (book_in c.args.book.now).part.rows)) in
+    let both = found in record { meaning = both.0; bounded = both.1 }

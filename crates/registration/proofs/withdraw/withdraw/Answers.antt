@@ -16,7 +16,7 @@ withdrawal_fault-requires c =
 pub returns-in-Fails : goal.returns-in-Fails
 returns-in-Fails c =
     let both = refused_answered withdraw _ _ c.requires.book_value _
-    (checked-same _ (some _) (sym c.withdrawal_fault.ensures ∙ c.in-Fails.is)) in record { answer = both.0; bytes = both.1; still = both.2 }
+    (checked-same _ (some _) (sym c.withdrawal_fault.ensures ∙ c.in-Fails.is)) in record { answer = both.0; bytes = both.1.0; still = both.1.1 }
 
 pub row_offset-requires : goal.row_offset-requires
 row_offset-requires c = ready_number _ _ c.requires.ready
@@ -29,4 +29,4 @@ put_u8-requires c =
 
 pub returns : goal.returns
 returns c =
-    let both = withdrawn_answered _ _ c.requires.book_value _ _ (checked-same _ none (sym c.withdrawal_fault.ensures ∙ c.in_default.is)) (omega arith) c.put_u8.ensures in record { answer = both.0; bytes = both.1; still = both.2 }
+    let both = withdrawn_answered _ _ c.requires.book_value _ _ (checked-same _ none (sym c.withdrawal_fault.ensures ∙ c.in_default.is)) (omega arith) c.put_u8.ensures in record { answer = both.0; bytes = both.1.0; still = both.1.1 }

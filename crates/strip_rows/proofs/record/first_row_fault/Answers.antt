@@ -24,14 +24,13 @@ row_fault-requires c =
     rw (part_row c.args.bytes.now c.loop-left.k) (row_length_lem c.args.bytes.now c.loop-left.k (omega arith), (rows_split c.args.bytes.now c.loop-left.k c.loop-left.left (c.loop-left.left - 1) (omega arith) c.loop-left.invariant.1).0)
 
 pub loop-left-preserved : goal.loop-left-preserved
-loop-left-preserved c =
-    (
-      search rules,
-      (rows_split c.args.bytes.now c.loop-left.k c.loop-left.left (c.loop-left.left - 1) (omega arith) c.loop-left.invariant.1).1,
-      c.loop-left.invariant.2
-          ∙ pass-next (row_check c.args.pass) c.args.bytes.now c.loop-left.k c.loop-left.left (c.loop-left.left - 1) (omega arith) (part_row c.args.bytes.now c.loop-left.k)
-          (checked-same _ none (sym c.row_fault.ensures ∙ c.in_default.is)),
-    )
+loop-left-preserved c = (
+  search rules,
+  (rows_split c.args.bytes.now c.loop-left.k c.loop-left.left (c.loop-left.left - 1) (omega arith) c.loop-left.invariant.1).1,
+  c.loop-left.invariant.2
+      ∙ pass-next (row_check c.args.pass) c.args.bytes.now c.loop-left.k c.loop-left.left (c.loop-left.left - 1) (omega arith) (part_row c.args.bytes.now c.loop-left.k)
+      (checked-same _ none (sym c.row_fault.ensures ∙ c.in_default.is)),
+)
 
 pub returns-then-left-eq0 : goal.returns-then-left-eq0
 returns-then-left-eq0 c =

@@ -19,69 +19,64 @@ returns-then-no_map c = sym (ap checked (fails_2 c.args.bytes.now (sym c.no_map.
 pub map_fault-requires : goal.map_fault-requires
 map_fault-requires c =
     let fine : unreadable c.args.bytes.now ≡ false =
-        sym c.no_map.ensures ∙ c.if-no_map.false in
+    sym c.no_map.ensures ∙ c.if-no_map.false in
     (fine, refl)
 
 pub returns-in-Fails : goal.returns-in-Fails
 returns-in-Fails c =
     let fine : unreadable c.args.bytes.now ≡ false =
-        sym c.no_map.ensures ∙ c.if-no_map.false in
-   
+    sym c.no_map.ensures ∙ c.if-no_map.false in
     sym (ap checked (fails-4 c.args.bytes.now fine _ (checked-same _ (some _) (sym c.map_fault.ensures ∙ c.in-Fails.is))))
 
 pub returns-then-bytes-lt-HEAD_LENGTH : goal.returns-then-bytes-lt-HEAD_LENGTH
 returns-then-bytes-lt-HEAD_LENGTH c =
     let fine : unreadable c.args.bytes.now ≡ false =
-        sym c.no_map.ensures ∙ c.if-no_map.false in
+    sym c.no_map.ensures ∙ c.if-no_map.false in
     let mapped : applies (map_check (kind_number strip) c.args.bytes.now) ≡ none =
-        checked-same _ none (sym c.map_fault.ensures ∙ c.in_default.is) in
-   
+    checked-same _ none (sym c.map_fault.ensures ∙ c.in_default.is) in
     sym (ap checked (fails-5 c.args.bytes.now fine mapped (head_short c.args.bytes.now c.if-bytes-lt-HEAD_LENGTH.true)))
 
 pub overflow_mul-n : goal.overflow_mul-n
 overflow_mul-n c =
     let few : c.row_count-n.result ≤ 255 =
-        omega (arith, c.row_count-n.ensures, c.type_inv.bytes 3) in
+    omega (arith, c.row_count-n.ensures, c.type_inv.bytes 3) in
     omega (arith, few)
 
 pub overflow_add-n : goal.overflow_add-n
 overflow_add-n c =
     let few : c.row_count-n.result ≤ 255 =
-        omega (arith, c.row_count-n.ensures, c.type_inv.bytes 3) in
+    omega (arith, c.row_count-n.ensures, c.type_inv.bytes 3) in
     omega (arith, few)
 
 pub returns-then-bytes-n : goal.returns-then-bytes-n
 returns-then-bytes-n c =
     let fine : unreadable c.args.bytes.now ≡ false =
-        sym c.no_map.ensures ∙ c.if-no_map.false in
+    sym c.no_map.ensures ∙ c.if-no_map.false in
     let mapped : applies (map_check (kind_number strip) c.args.bytes.now) ≡ none =
-        checked-same _ none (sym c.map_fault.ensures ∙ c.in_default.is) in
-   
+    checked-same _ none (sym c.map_fault.ensures ∙ c.in_default.is) in
     sym (ap checked (fails-5 c.args.bytes.now fine mapped (rw c.row_count-n.ensures at c.if-bytes-n.true)))
 
 pub returns-then-n : goal.returns-then-n
 returns-then-n c =
     let fine : unreadable c.args.bytes.now ≡ false =
-        sym c.no_map.ensures ∙ c.if-no_map.false in
+    sym c.no_map.ensures ∙ c.if-no_map.false in
     let mapped : applies (map_check (kind_number strip) c.args.bytes.now) ≡ none =
-        checked-same _ none (sym c.map_fault.ensures ∙ c.in_default.is) in
+    checked-same _ none (sym c.map_fault.ensures ∙ c.in_default.is) in
     let sized : length c.args.bytes.now
     ≡ head_length + row_length * strip_count c.args.bytes.now =
-        rw (← c.row_count-n.ensures) c.if-bytes-n.false in
-   
+    rw (← c.row_count-n.ensures) c.if-bytes-n.false in
     let outside = rw (c.row_count-n.ensures, count_outside (strip_count c.args.bytes.now)) at c.if-n.true in
     sym (ap checked (fails-21 c.args.bytes.now fine mapped sized (not-true _ outside)))
 
 pub returns : goal.returns
 returns c =
     let fine : unreadable c.args.bytes.now ≡ false =
-        sym c.no_map.ensures ∙ c.if-no_map.false in
+    sym c.no_map.ensures ∙ c.if-no_map.false in
     let mapped : applies (map_check (kind_number strip) c.args.bytes.now) ≡ none =
-        checked-same _ none (sym c.map_fault.ensures ∙ c.in_default.is) in
+    checked-same _ none (sym c.map_fault.ensures ∙ c.in_default.is) in
     let sized : length c.args.bytes.now
     ≡ head_length + row_length * strip_count c.args.bytes.now =
-        rw (← c.row_count-n.ensures) c.if-bytes-n.false in
-   
+    rw (← c.row_count-n.ensures) c.if-bytes-n.false in
     let inside = rw (c.row_count-n.ensures, count_outside (strip_count c.args.bytes.now)) at c.if-n.false in
     c.rows_fault.ensures
     ∙ rw c.row_count-n.ensures (sym (ap checked (rows-decide c.args.bytes.now fine mapped sized (not-false _ inside))))

@@ -34,11 +34,10 @@ pub overflow_sub-left : goal.overflow_sub-left
 overflow_sub-left c = omega arith
 
 pub loop-left-preserved : goal.loop-left-preserved
-loop-left-preserved c =
-    (
-      other-registers _ c.loop-left.k c.loop-left.left (c.loop-left.left - 1) (omega arith) c.loop-left.invariant.0,
-      c.loop-left.invariant.1 ∙ rw (requests_step _ c.loop-left.k c.loop-left.left (c.loop-left.left - 1) (omega arith) refl) (any_step _ _ _ ∙ rw (sym c.is_of_code.ensures ∙ c.if-is_of_code.false)),
-    )
+loop-left-preserved c = (
+  other-registers _ c.loop-left.k c.loop-left.left (c.loop-left.left - 1) (omega arith) c.loop-left.invariant.0,
+  c.loop-left.invariant.1 ∙ rw (requests_step _ c.loop-left.k c.loop-left.left (c.loop-left.left - 1) (omega arith) refl) (any_step _ _ _ ∙ rw (sym c.is_of_code.ensures ∙ c.if-is_of_code.false)),
+)
 
 pub returns : goal.returns
 unfolding any_passes

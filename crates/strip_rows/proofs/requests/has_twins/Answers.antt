@@ -37,11 +37,10 @@ returns-then-has_code c =
     sym (c.loop-left.invariant.1 ∙ rw (requests_step _ c.loop-left.k c.loop-left.left (c.loop-left.left - 1) (omega arith) c.row_request-q.ensures) (twins_here _ _ (sym c.has_code.ensures ∙ c.if-has_code.true)))
 
 pub loop-left-preserved : goal.loop-left-preserved
-loop-left-preserved c =
-    (
-      other-registers _ c.loop-left.k c.loop-left.left (c.loop-left.left - 1) (omega arith) c.loop-left.invariant.0,
-      c.loop-left.invariant.1 ∙ rw (requests_step _ c.loop-left.k c.loop-left.left (c.loop-left.left - 1) (omega arith) c.row_request-q.ensures) (twins_next _ _ (sym c.has_code.ensures ∙ c.if-has_code.false)),
-    )
+loop-left-preserved c = (
+  other-registers _ c.loop-left.k c.loop-left.left (c.loop-left.left - 1) (omega arith) c.loop-left.invariant.0,
+  c.loop-left.invariant.1 ∙ rw (requests_step _ c.loop-left.k c.loop-left.left (c.loop-left.left - 1) (omega arith) c.row_request-q.ensures) (twins_next _ _ (sym c.has_code.ensures ∙ c.if-has_code.false)),
+)
 
 pub returns : goal.returns
 unfolding twins
