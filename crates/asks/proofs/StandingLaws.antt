@@ -96,7 +96,7 @@ module _ (s : List ℕ) (h : is_sound s ≡ true) where
 
       module _ (alone : some_ask_twin (book_in s) ≡ false) (first : (book_in s).phase ≡ 1) where
         no_twin : any_passes (alike r.proposer r.counterparty r.code) (book_in s).part.rows ≡ false
-        no_twin = none_twin (book_in s) alone r (ap (ask_at (book_in s)) ask-row.own_val ∙ there)
+        no_twin = none_twin (book_in s) alone r (ap (ask_at (book_in s)) ask-row.own ∙ there)
 
         -- and where no number is left
         pub full-falls : most_rows ≤ length (book_in s).part.rows → false ≡ ask_stands (book_in s) (ask_at (book_in s) a)

@@ -18,10 +18,6 @@ use Rattle.batches.proofs.Acceptances.{closed_answered}
 use borrow.Author.Rules.{rules}
 use Rattle.batches.proofs.gate.close_gate.Goals as goal
 
--- past the checks nothing is decided
-free : (c : tie.After-enum-told) (q : Request) → decided close_gate (book_in c.before.before.before.before.before.args.book.now) q ≡ none
-free c q = checked-same _ none (sym (c.before.before.outside-batch.ensures close_gate q refl) ∙ c.enum_told.given.1)
-
 pub returns-in-Fails : goal.returns-in-Fails
 returns-in-Fails c =
     let both = refused_all close_gate _ _ c.requires
@@ -38,12 +34,8 @@ put_u8-requires c =
     omega arith
 
 pub returns : goal.returns
-returns c =-- LEFT bare place clear
-
-    let phase = c.before.before in
-    let ended = phase.before.before.before.before in
-    let counted = ended.before.before in
-    let clear = counted.before.before in
-    let start = clear.before.before.before.before.before in
-    closed_answered _ _ start.requires _ (free clear) counted.row_count.ensures.0
-    (phase.put-u8.ensures ∙ ap (λ (x : List ℕ). splice x phase_offset (le 1 2)) ended.end-rows.ensures)
+returns c =
+    let free : (q : Request) → decided close_gate (book_in c.args.book.now) q ≡ none =
+    λ q. checked-same _ none (sym (c.outside_batch.ensures close_gate q refl) ∙ c.in_default.is) in
+    let both = closed_answered _ _ c.requires _ free c.row_count-n.ensures.meaning
+    (c.put_u8.ensures ∙ ap (λ (x : List ℕ). splice x phase_offset (le 1 2)) c.end_rows.ensures) in record { answer = both.0; bytes = both.1.0; still = both.1.1 }

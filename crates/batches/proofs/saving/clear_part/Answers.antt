@@ -5,5 +5,4 @@ use Rattle.batches.proofs.saving.clear_part.Goals as goal
 
 pub returns : goal.returns
 returns c =
-    let (few, room) = c.requires.n_le_most_rows in
-    part_cleared_lem _ _ _ _ few _ c.requires.has_part room c.clear_at.ensures c.clear_at-2.ensures
+    part_cleared_lem _ _ _ _ c.requires.n_le_most_rows.0 _ c.requires.has_part c.requires.n_le_most_rows.1 c.clear_at.ensures c.clear_at-2.ensures

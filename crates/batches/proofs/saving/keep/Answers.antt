@@ -17,31 +17,29 @@ use Rattle.batches.proofs.BatchLaws.{saved-rows-end}
 use borrow.Author.Rules.{rules}
 use Rattle.batches.proofs.saving.keep.Goals as goal
 
--- past the checks nothing is decided
-free : (c : tie.After-enum-told) (q : Request) → decided keep (book_in c.before.before.before.before.before.args.book.now) q ≡ none
-free c q = checked-same _ none (sym (c.before.before.inside-batch.ensures keep q refl) ∙ c.enum_told.given.1)
-
 pub returns-in-Fails : goal.returns-in-Fails
 returns-in-Fails c =
     let both = refused_all keep _ _ c.requires
     (λ q. checked-same _ (some _) (sym (c.inside_batch.ensures keep q refl) ∙ c.in-Fails.is)) in record { answer = both.0; bytes = both.1.0; still = both.1.1 }
 
 pub saved_row_count-saved-requires : goal.saved_row_count-saved-requires
-saved_row_count-saved-requires c =-- LEFT bare place c
- (c.before.before.before.before.before.before.requires, batch c.before)
+saved_row_count-saved-requires c =
+    let free : (q : Request) → decided keep (book_in c.args.book.now) q ≡ none =
+    λ q. checked-same _ none (sym (c.inside_batch.ensures keep q refl) ∙ c.in_default.is) in
+    let batch : is_some (book_in c.args.book.now).saved ≡ true =
+    ending_finds_batch keep _ (request_of []) refl (free (request_of [])) in
+    record { book_value = c.requires; book_value_2 = batch }
 
 pub end_batch-requires : goal.end_batch-requires
-end_batch-requires c =-- LEFT bare place c
-
-    let counted = c.before in
-    let clear = counted.before.before in
-    let pre = clear.before.before.before.before.before.requires in
-    (book_length _ pre, saved-rows-end _ pre (batch clear) _ counted.saved-row-count.ensures.0)
+end_batch-requires c =
+    let free : (q : Request) → decided keep (book_in c.args.book.now) q ≡ none =
+    λ q. checked-same _ none (sym (c.inside_batch.ensures keep q refl) ∙ c.in_default.is) in
+    let batch : is_some (book_in c.args.book.now).saved ≡ true =
+    ending_finds_batch keep _ (request_of []) refl (free (request_of [])) in
+    record { book_len = book_length _ c.requires; n_le_most_rows = saved-rows-end _ c.requires batch _ c.saved_row_count-saved.ensures.meaning }
 
 pub returns : goal.returns
-returns c =-- LEFT bare place clear
-
-    let ended = c.before.before in
-    let clear = ended.before.before.before.before in
-    let start = clear.before.before.before.before.before in
-    kept_answered _ _ start.requires (free clear) ended.end-batch.ensures
+returns c =
+    let free : (q : Request) → decided keep (book_in c.args.book.now) q ≡ none =
+    λ q. checked-same _ none (sym (c.inside_batch.ensures keep q refl) ∙ c.in_default.is) in
+    let both = kept_answered _ _ c.requires free c.end_batch.ensures in record { answer = both.0; bytes = both.1.0; still = both.1.1 }

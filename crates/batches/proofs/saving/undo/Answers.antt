@@ -20,51 +20,41 @@ use Rattle.batches.proofs.BatchLaws.{present_rows_end, saved-rows-end, saved-pas
 use borrow.Author.Rules.{rules}
 use Rattle.batches.proofs.saving.undo.Goals as goal
 
--- past the checks nothing is decided
-free : (c : tie.After-enum-told) (q : Request) → decided undo (book_in c.before.before.before.before.before.args.book.now) q ≡ none
-free c q = checked-same _ none (sym (c.before.before.inside-batch.ensures undo q refl) ∙ c.enum_told.given.1)
-
 pub returns-in-Fails : goal.returns-in-Fails
 returns-in-Fails c =
     let both = refused_all undo _ _ c.requires
     (λ q. checked-same _ (some _) (sym (c.inside_batch.ensures undo q refl) ∙ c.in-Fails.is)) in record { answer = both.0; bytes = both.1.0; still = both.1.1 }
 
 pub saved_row_count-saved-requires : goal.saved_row_count-saved-requires
-saved_row_count-saved-requires c =-- LEFT bare place c
-
-    let clear = c.before.before.before in
-    let start = clear.before.before.before.before.before in
-    (start.requires, batch clear)
+saved_row_count-saved-requires c =
+    let free : (q : Request) → decided undo (book_in c.args.book.now) q ≡ none =
+    λ q. checked-same _ none (sym (c.inside_batch.ensures undo q refl) ∙ c.in_default.is) in
+    let batch : is_some (book_in c.args.book.now).saved ≡ true =
+    ending_finds_batch undo _ (request_of []) refl (free (request_of [])) in
+    record { book_value = c.requires; book_value_2 = batch }
 
 pub copy_part-requires : goal.copy_part-requires
-copy_part-requires c =-- LEFT bare place c
-
-    let counted = c.before.before.before in
-    let clear = counted.before.before in
-    let pre = clear.before.before.before.before.before.requires in
-    let n = book_length _ pre in
-    let (count, few) = counted.row_count.ensures in
-    ((omega arith, omega arith, inr (omega arith)), (few, saved-past-present _ pre (batch clear) _ count, present_rows_end _ pre _ count))
+copy_part-requires c =
+    let free : (q : Request) → decided undo (book_in c.args.book.now) q ≡ none =
+    λ q. checked-same _ none (sym (c.inside_batch.ensures undo q refl) ∙ c.in_default.is) in
+    let batch : is_some (book_in c.args.book.now).saved ≡ true =
+    ending_finds_batch undo _ (request_of []) refl (free (request_of [])) in
+    let n = book_length _ c.requires in
+    record { has_part = (omega arith, omega arith, inr (omega arith)); n_le_most_rows = (c.row_count-rows.ensures.bounded, saved-past-present _ c.requires batch _ c.row_count-rows.ensures.meaning, present_rows_end _ c.requires _ c.row_count-rows.ensures.meaning) }
 
 pub end_batch-requires : goal.end_batch-requires
-end_batch-requires c =-- LEFT bare place c
-
-    let copied = c.before.before.before in
-    let saved = copied.before.before in
-    let clear = saved.before.before.before.before in
-    let pre = clear.before.before.before.before.before.requires in
-    let n = book_length _ pre in
-    let (few, room) = saved-rows-end _ pre (batch clear) _ saved.saved-row-count.ensures.0 in
-    (omega arith, (few, saved_room_left _ _ _ n few room copied.copy-part.ensures))
+end_batch-requires c =
+    let free : (q : Request) → decided undo (book_in c.args.book.now) q ≡ none =
+    λ q. checked-same _ none (sym (c.inside_batch.ensures undo q refl) ∙ c.in_default.is) in
+    let batch : is_some (book_in c.args.book.now).saved ≡ true =
+    ending_finds_batch undo _ (request_of []) refl (free (request_of [])) in
+    let n = book_length _ c.requires in
+    let (few, room) = saved-rows-end _ c.requires batch _ c.saved_row_count-saved.ensures.meaning in
+    record { book_len = omega arith; n_le_most_rows = (few, saved_room_left _ _ _ n few room c.copy_part.ensures) }
 
 pub returns : goal.returns
-returns c =-- LEFT bare place clear
-
-    let ended = c.before.before in
-    let copied = ended.before.before.before.before in
-    let saved = copied.before.before in
-    let counted = saved.before.before in
-    let clear = counted.before.before in
-    let start = clear.before.before.before.before.before in
-    undone_answered _ _ start.requires _ (free clear) (rw (counted.row_count.ensures.0, saved.saved-row-count.ensures.0))
-    (ended.end-batch.ensures ∙ ap batch_ended copied.copy-part.ensures)
+returns c =
+    let free : (q : Request) → decided undo (book_in c.args.book.now) q ≡ none =
+    λ q. checked-same _ none (sym (c.inside_batch.ensures undo q refl) ∙ c.in_default.is) in
+    let both = undone_answered _ _ c.requires _ free (rw (c.row_count-rows.ensures.meaning, c.saved_row_count-saved.ensures.meaning))
+    (c.end_batch.ensures ∙ ap batch_ended c.copy_part.ensures) in record { answer = both.0; bytes = both.1.0; still = both.1.1 }

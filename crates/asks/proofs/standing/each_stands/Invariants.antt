@@ -1,0 +1,21 @@
+-- The first ask that falls decides; where none fell, all stand if those that are left do.
+use Prim.Native.Nat.{◌+◌, ◌-◌, ◌≤◌}
+use mathlib.Core.Path.{◌≡◌, refl, ◌∙◌, sym}
+use native.Mathlib.Omega.{arith}
+use Rattle.rules.specs.Basics.{every, counting}
+use Rattle.rules.specs.Limits.{most_accounts}
+use Rattle.rules.specs.Books.{ask_at}
+use Rattle.rules.specs.Asks.{ask_stands, asks_stand}
+use Rattle.rules.proofs.Basics.CountingLaws.{every_done, every_next, every_fails}
+use Rattle.image.specs.Valid.{book_in}
+use borrow.Author.Rules.{rules}
+use Rattle.asks.proofs.standing.each_stands.Given as goal
+
+abbrev pub invariant-loop-number : goal.invariant-loop-number
+invariant-loop-number l =
+    (1 ≤ l.number)
+    × (l.number ≤ most_accounts + 1)
+    × (asks_stand (book_in l.book) ≡ every (λ a. ask_stands (book_in l.book) (ask_at (book_in l.book) a)) (counting (most_accounts + 1 - l.number) l.number))
+
+abbrev pub decreases-loop-number : goal.decreases-loop-number
+decreases-loop-number l = most_accounts + 1 - l.number

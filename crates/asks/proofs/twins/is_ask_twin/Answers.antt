@@ -1,0 +1,26 @@
+-- The row is read at its place, and its proposer's ask at its own.
+use mathlib.Core.Path.{◌∙◌}
+use native.Mathlib.Omega.{arith}
+use Rattle.book.proofs.StateLaws.{book_length, row_count_high, numbered_row_stands}
+use Rattle.book.proofs.BookRows.{numbered_tabled}
+use Rattle.asks.proofs.TwinLaws.{twin_tested}
+use Rattle.asks.proofs.twins.is_ask_twin.Goals as goal
+
+pub row_offset-requires : goal.row_offset-requires
+row_offset-requires c = omega (arith, c.requires.1, row_count_high _ c.requires.0)
+
+pub row_at-row-requires : goal.row_at-row-requires
+row_at-row-requires c =
+    omega (arith, c.requires.1, c.row_offset.ensures, row_count_high _ c.requires.0, book_length _ c.requires.0)
+
+pub asked_row-asked-requires : goal.asked_row-asked-requires
+asked_row-asked-requires c =
+    let row = c.row_at-row.ensures ∙ numbered_row_stands _ c.requires.0 c.args.number _ c.requires.1 c.row_offset.ensures in
+    let k = numbered_tabled _ c.requires.0 c.args.number c.requires.1 in
+    (c.requires.0, rw row k.proposer_low, rw row k.proposer_high)
+
+pub returns : goal.returns
+returns c =
+    let row = c.row_at-row.ensures ∙ numbered_row_stands _ c.requires.0 c.args.number _ c.requires.1 c.row_offset.ensures in
+    let k = numbered_tabled _ c.requires.0 c.args.number c.requires.1 in
+    twin_tested _ c.requires.0 c.row_at-row.result c.asked_row-asked.result (rw row k.proposer_low) (rw row k.proposer_high) c.asked_row-asked.ensures ∙ rw row

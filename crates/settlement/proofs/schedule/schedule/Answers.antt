@@ -1,0 +1,28 @@
+-- What was checked is what the book's state refuses the schedule for; where that is nothing, the bytes written are the book with the
+-- schedule added.
+use mathlib.Core.Path.{sym, ◌∙◌}
+use mathlib.Core.Option.{none, some}
+use native.Mathlib.Omega.{arith}
+use Rattle.rules.specs.Requests.{schedule}
+use Rattle.rules.proofs.Checks.Clearing.{checked-same}
+use Rattle.book.proofs.StateLaws.{book_length}
+use Rattle.book.proofs.Answers.{refused_answered}
+use Rattle.settlement.proofs.Decisions.{few_schedules}
+use Rattle.settlement.proofs.SchedulingLaws.{scheduled_answered}
+use borrow.Author.Rules.{rules}
+use Rattle.settlement.proofs.schedule.schedule.Goals as goal
+
+pub returns-in-Fails : goal.returns-in-Fails
+returns-in-Fails c =
+    let both = refused_answered schedule _ _ c.requires.book_value _ (checked-same _ (some _) (sym (c.schedule_fault.ensures _) ∙ c.in-Fails.is)) in record { answer = both.0; bytes = both.1.0; still = both.1.1 }
+
+pub append_schedule-requires : goal.append_schedule-requires
+append_schedule-requires c =
+    let few = few_schedules _ _ (checked-same _ none (sym (c.schedule_fault.ensures c.args.request) ∙ c.in_default.is)) in
+    (book_length _ c.requires.book_value, omega (arith, few, c.schedule_count-n.ensures.meaning))
+
+pub returns : goal.returns
+returns c =
+    let free = checked-same _ none (sym (c.schedule_fault.ensures _) ∙ c.in_default.is) in
+    let both = scheduled_answered _ _ c.requires.book_value _ _ c.requires.ready free c.schedule_count-n.ensures.meaning
+    (rw c.handed_in-x.ensures at c.append_schedule.ensures) in record { answer = both.0; bytes = both.1.0; still = both.1.1 }

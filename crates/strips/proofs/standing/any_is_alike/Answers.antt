@@ -1,0 +1,33 @@
+-- A row found so far or among the rows that are left is one among all.
+use Prim.Native.Nat.{◌+◌, ◌-◌, ◌≤◌}
+use mathlib.Core.Path.{◌≡◌, refl}
+use mathlib.Core.Bool.{◌||◌}
+use native.Mathlib.Omega.{arith}
+use lib.ListN.{length, drop}
+use borrow.Author.Rules.{rules}
+use Rattle.rules.specs.Basics.{any_passes}
+use Rattle.rules.specs.Limits.{most_rows}
+use Rattle.image.specs.Valid.{book_in}
+use Rattle.book.proofs.WaitLaws.{told_next, told_last}
+use Rattle.strips.specs.Ready.{strip_requests, alike_among}
+use Rattle.strips.proofs.standing.any_is_alike.Goals as goal
+
+pub loop-number-init : goal.loop-number-init
+loop-number-init c = (c.row_count-rows.ensures.meaning, c.row_count-rows.ensures.bounded, search rules, search rules, refl)
+
+pub row_is_alike-here-requires : goal.row_is_alike-here-requires
+row_is_alike-here-requires c =
+    (c.requires.0, (c.loop-number.invariant.2, omega (arith, c.loop-number.invariant.0)), c.requires.1)
+
+pub loop-number-preserved : goal.loop-number-preserved
+loop-number-preserved c = (
+  c.loop-number.invariant.0,
+  c.loop-number.invariant.1,
+  search rules,
+  search rules,
+  told_next _ _ c.loop-number.number c.loop-number.found c.row_is_alike-here.result c.loop-number.invariant.2 (omega (arith, c.loop-number.invariant.0)) c.row_is_alike-here.ensures c.loop-number.invariant.4,
+)
+
+pub returns : goal.returns
+returns c =
+    told_last _ _ (c.loop-number.number - 1) _ (omega (arith, c.loop-number.invariant.0)) c.loop-number.invariant.4

@@ -1,0 +1,82 @@
+-- The tests of a strip are made in rank, so that the first that fails is the refusal.
+use Prim.Native.Nat.{◌-◌}
+use mathlib.Core.Path.{◌≡◌, sym, ap, ◌∙◌}
+use native.Mathlib.Omega.{arith}
+use borrow.Author.Rules.{rules}
+use Rattle.rules.specs.declared.Request.{Request}
+use Rattle.rules.specs.Basics.{any_passes}
+use Rattle.rules.specs.Requests.{head_length}
+use Rattle.rules.specs.Registration.{has_twin}
+use Rattle.image.specs.Valid.{book_in}
+use Rattle.strip_rows.proofs.RowSteps.{first-register, first_request}
+use Rattle.strips.specs.Ready.{strip_requests, proposer}
+use Rattle.strips.proofs.ReadyLaws.{requests_length}
+use Rattle.strips.proofs.StandingLaws.{standing_twin}
+use Rattle.strips.proofs.DecidingLaws.{later_decides, standing-decides, twins-decide, no-room-decides}
+use Rattle.strips.proofs.strip.state_fault.Goals as goal
+
+pub returns-then-phase-ne-REGISTRATION : goal.returns-then-phase-ne-REGISTRATION
+returns-then-phase-ne-REGISTRATION c = later_decides _ _ (λ e. c.if-phase-ne-REGISTRATION.true (c.phase.ensures ∙ e))
+
+pub row_request-first-requires : goal.row_request-first-requires
+row_request-first-requires c =
+    first-register _ head_length c.args.n (c.args.n - 1) (omega (arith, c.requires.1.is_strip.some_rows)) c.requires.1.is_strip.rows
+
+pub any_is_alike-requires : goal.any_is_alike-requires
+any_is_alike-requires c = (c.requires.0, c.requires.1.is_strip.rows)
+
+pub returns-then-any_is_alike : goal.returns-then-any_is_alike
+returns-then-any_is_alike c =
+    let proposes : c.row_request-first.result.account ≡ proposer c.args.bytes.now c.args.n =
+    ap (λ (q : Request). q.account) (first_request _ head_length c.args.n (c.args.n - 1) (omega (arith, c.requires.1.is_strip.some_rows)) c.row_request-first.ensures) in
+    let stands : c.any_is_alike.result ≡ any_passes (has_twin (book_in c.args.book.now).part.rows) (strip_requests c.args.bytes.now c.args.n) =
+    (rw proposes at c.any_is_alike.ensures)
+    ∙ standing_twin (book_in c.args.book.now).part.rows (strip_requests c.args.bytes.now c.args.n) _ c.requires.1.one_proposer in
+    let in-phase : (book_in c.args.book.now).phase ≡ 1 =
+    sym c.phase.ensures ∙ c.if-phase-ne-REGISTRATION.false in
+    standing-decides _ _ in-phase (sym stands ∙ c.if-any_is_alike.true)
+
+pub has_twins-requires : goal.has_twins-requires
+has_twins-requires c = c.requires.1.is_strip.rows
+
+pub returns-then-has_twins : goal.returns-then-has_twins
+returns-then-has_twins c =
+    let proposes : c.row_request-first.result.account ≡ proposer c.args.bytes.now c.args.n =
+    ap (λ (q : Request). q.account) (first_request _ head_length c.args.n (c.args.n - 1) (omega (arith, c.requires.1.is_strip.some_rows)) c.row_request-first.ensures) in
+    let stands : c.any_is_alike.result ≡ any_passes (has_twin (book_in c.args.book.now).part.rows) (strip_requests c.args.bytes.now c.args.n) =
+    (rw proposes at c.any_is_alike.ensures)
+    ∙ standing_twin (book_in c.args.book.now).part.rows (strip_requests c.args.bytes.now c.args.n) _ c.requires.1.one_proposer in
+    let in-phase : (book_in c.args.book.now).phase ≡ 1 =
+    sym c.phase.ensures ∙ c.if-phase-ne-REGISTRATION.false in
+    twins-decide _ _ in-phase (sym stands ∙ c.if-any_is_alike.false) (sym c.has_twins.ensures ∙ c.if-has_twins.true)
+
+pub returns-then-row_count-n-gt-MOST_ROWS : goal.returns-then-row_count-n-gt-MOST_ROWS
+returns-then-row_count-n-gt-MOST_ROWS c =
+    let proposes : c.row_request-first.result.account ≡ proposer c.args.bytes.now c.args.n =
+    ap (λ (q : Request). q.account) (first_request _ head_length c.args.n (c.args.n - 1) (omega (arith, c.requires.1.is_strip.some_rows)) c.row_request-first.ensures) in
+    let stands : c.any_is_alike.result ≡ any_passes (has_twin (book_in c.args.book.now).part.rows) (strip_requests c.args.bytes.now c.args.n) =
+    (rw proposes at c.any_is_alike.ensures)
+    ∙ standing_twin (book_in c.args.book.now).part.rows (strip_requests c.args.bytes.now c.args.n) _ c.requires.1.one_proposer in
+    let in-phase : (book_in c.args.book.now).phase ≡ 1 =
+    sym c.phase.ensures ∙ c.if-phase-ne-REGISTRATION.false in
+    no-room-decides _ _ in-phase (sym stands ∙ c.if-any_is_alike.false) (sym c.has_twins.ensures ∙ c.if-has_twins.false)
+    (omega (arith, c.row_count.ensures.meaning, requests_length c.args.bytes.now head_length c.args.n))
+
+pub margin_or_exposure_fault-requires : goal.margin_or_exposure_fault-requires
+margin_or_exposure_fault-requires c =
+    let proposes : c.row_request-first.result.account ≡ proposer c.args.bytes.now c.args.n =
+    ap (λ (q : Request). q.account) (first_request _ head_length c.args.n (c.args.n - 1) (omega (arith, c.requires.1.is_strip.some_rows)) c.row_request-first.ensures) in
+    let stands : c.any_is_alike.result ≡ any_passes (has_twin (book_in c.args.book.now).part.rows) (strip_requests c.args.bytes.now c.args.n) =
+    (rw proposes at c.any_is_alike.ensures)
+    ∙ standing_twin (book_in c.args.book.now).part.rows (strip_requests c.args.bytes.now c.args.n) _ c.requires.1.one_proposer in
+    let in-phase : (book_in c.args.book.now).phase ≡ 1 =
+    sym c.phase.ensures ∙ c.if-phase-ne-REGISTRATION.false in
+    record {
+      book_value = (c.requires.0, c.requires.1, proposes);
+      addable = record {
+        in_registration = in-phase;
+        none_standing = sym stands ∙ c.if-any_is_alike.false;
+        none_alike = sym c.has_twins.ensures ∙ c.if-has_twins.false;
+        has_room = omega (arith, c.row_count.ensures.meaning, requests_length c.args.bytes.now head_length c.args.n);
+      };
+    }
