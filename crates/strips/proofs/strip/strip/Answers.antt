@@ -105,5 +105,5 @@ returns c =
     let free : first_to_apply (state_checks (book_in c.args.book.now) strip (strip_requests c.args.bytes.now c.row_count-n.result)) ≡ none =
     checked-same _ none (sym c.state_fault.ensures ∙ c.in_default-state_fault.is) in
     let fine = found none c.in_default-requests_fault.is in
-    let both = accepted-strip _ _ _ _ _ c.accept.ensures
+    let both = accepted-strip _ _ _ _ _ (c.accept.ensures.answer, (c.accept.ensures.bytes, c.accept.ensures.still))
     (λ x e. strip-step _ x _ _ e c.requires.1 c.row_count-n.ensures read fine free) in record { answer = both.0; bytes = both.1.0; still = both.1.1 }
