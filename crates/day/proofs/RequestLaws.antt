@@ -31,7 +31,7 @@ use Rattle.rules.proofs.Records.RoundTrip.{read_as, read_is_known, read_fits}
 use Rattle.image.specs.Valid.{is_sound, is_book, book_in, book_bytes}
 use Rattle.image.proofs.Round.{book_is_sound}
 use Rattle.book.specs.Kinds.{decided, outcome_on, book_after, Ready}
-use Rattle.book.proofs.BookRows.{counts_in}
+use Rattle.book.proofs.BookRows.{counts_in_lem}
 use Rattle.book.proofs.Answers.{Answered as KindAnswered}
 use Rattle.day.specs.Answers.{change_answer}
 use Rattle.day.specs.Plain.{is_plain}
@@ -162,7 +162,7 @@ read_code s q b e = read_fits s q e b 3 (omega arith)
 pub ranges_found : (s : List ℕ) → is_sound s ≡ true → (n : Counts) (q : Request) (x : Checked) (o : Option Refusal) → n ≡ counts_in s
     → x ≡ checked (first_to_apply (range_checks n q)) → x ≡ checked o → first_to_apply (range_checks (counts_of (book_in s).setup) q) ≡ o
 ranges_found s h n q x o e f g =
-    ap (λ (m : Counts). first_to_apply (range_checks m q)) (counts_in s h ∙ sym e) ∙ checked-same _ o (sym f ∙ g)
+    ap (λ (m : Counts). first_to_apply (range_checks m q)) (counts_in_lem s h ∙ sym e) ∙ checked-same _ o (sym f ∙ g)
 
 pub in_range_ready : (b : Book) (q : Request) → is_plain q.kind ≡ true → q.code < 256 ^ 8 → first_to_apply (range_checks (counts_of b.setup) q) ≡ none
     → Ready (kind_of q.kind) b q

@@ -1,0 +1,8 @@
+-- What is a book is sound.
+use borrow.Author.Rules.{rules}
+use Rattle.rules.specs.Limits.{most_hours, book_size}
+use Rattle.image.proofs.Round.{book_is_sound}
+use Rattle.day.proofs.interface.exposure_in.Goals as goal
+
+pub exposure_in-requires : goal.exposure_in-requires
+exposure_in-requires c = book_is_sound most_hours book_size _ c.requires

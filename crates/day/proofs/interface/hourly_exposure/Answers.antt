@@ -1,0 +1,18 @@
+-- Bytes that are a book are read as one, and others are not.
+use mathlib.Core.Path.{sym, ◌∙◌}
+use borrow.Author.Rules.{rules}
+use Rattle.rules.specs.Limits.{most_hours, book_size}
+use Rattle.image.proofs.Round.{book_is_sound}
+use Rattle.book.specs.Answers.{hourly_exposure_answer}
+use Rattle.day.proofs.interface.hourly_exposure.Goals as goal
+
+pub hourly_exposure_in-requires : goal.hourly_exposure_in-requires
+hourly_exposure_in-requires c = book_is_sound most_hours book_size _ (sym c.is_book.ensures ∙ c.if-is_book.true)
+
+pub returns-then-is_book : goal.returns-then-is_book
+unfolding hourly_exposure_answer
+returns-then-is_book c = rw (sym c.is_book.ensures ∙ c.if-is_book.true) c.hourly_exposure_in.ensures
+
+pub returns : goal.returns
+unfolding hourly_exposure_answer
+returns c = rw (sym c.is_book.ensures ∙ c.if-is_book.false)

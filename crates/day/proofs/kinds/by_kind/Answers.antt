@@ -1,0 +1,84 @@
+-- Each kind is answered by the function that is named in its arm; no other number comes there.
+use Prim.Native.Nat.{◌≤◌}
+use mathlib.Core.Logic.{⊎_elim}
+use Rattle.rules.specs.Limits.{most_hours, book_size}
+use Rattle.rules.specs.Requests.{register, confirm, withdraw, guarantee, schedule, ask, commit}
+use Rattle.image.proofs.Round.{book_is_sound}
+use Rattle.day.proofs.RequestLaws.{plain_by_kind, batch_range, none_left, none_first, ready_for}
+use borrow.Author.Rules.{rules}
+use Rattle.std.proofs.Common.{arith}
+use Rattle.day.proofs.kinds.by_kind.Goals as goal
+use Rattle.day.proofs.kinds.by_kind.Goals.{in_default-via-then-kind-lt1, in_default-via-else-kind-lt1+else-kind-lt9}
+
+pub register-requires : goal.register-requires
+register-requires c =
+    let both = ready_for _ _ register c.requires.book_value c.in-1.is c.requires.kind_value.1 in record { book_value = both.0; ready = both.1 }
+
+pub confirm-requires : goal.confirm-requires
+confirm-requires c =
+    let both = ready_for _ _ confirm c.requires.book_value c.in-2.is c.requires.kind_value.1 in record { book_value = both.0; ready = both.1 }
+
+pub withdraw-requires : goal.withdraw-requires
+withdraw-requires c =
+    let both = ready_for _ _ withdraw c.requires.book_value c.in-3.is c.requires.kind_value.1 in record { book_value = both.0; ready = both.1 }
+
+pub guarantee-requires : goal.guarantee-requires
+guarantee-requires c =
+    let both = ready_for _ _ guarantee c.requires.book_value c.in-4.is c.requires.kind_value.1 in record { book_value = both.0; ready = both.1 }
+
+pub schedule-requires : goal.schedule-requires
+schedule-requires c =
+    let both = ready_for _ _ schedule c.requires.book_value c.in-9.is c.requires.kind_value.1 in record { book_value = both.0; ready = both.1 }
+
+pub ask-requires : goal.ask-requires
+ask-requires c =
+    let both = ready_for _ _ ask c.requires.book_value c.in-12.is c.requires.kind_value.1 in record { book_value = both.0; ready = both.1 }
+
+pub commit-requires : goal.commit-requires
+commit-requires c =
+    record { book_value = c.requires.book_value; ready = (ready_for _ _ commit c.requires.book_value c.in-13.is c.requires.kind_value.1).1 }
+
+pub batch_or_gate-requires : goal.batch_or_gate-requires
+batch_or_gate-requires c =
+    record { book_value = book_is_sound most_hours book_size _ c.requires.book_value; le_kind = (omega arith, omega arith) }
+
+pub returns-in-1 : goal.returns-in-1
+returns-in-1 c =
+    let both = plain_by_kind _ _ register c.in-1.is (c.register.ensures.answer, (c.register.ensures.bytes, c.register.ensures.still)) in record { answer = both.0; bytes = both.1.0; still = both.1.1 }
+
+pub returns-in-2 : goal.returns-in-2
+returns-in-2 c =
+    let both = plain_by_kind _ _ confirm c.in-2.is (c.confirm.ensures.answer, (c.confirm.ensures.bytes, c.confirm.ensures.still)) in record { answer = both.0; bytes = both.1.0; still = both.1.1 }
+
+pub returns-in-3 : goal.returns-in-3
+returns-in-3 c =
+    let both = plain_by_kind _ _ withdraw c.in-3.is (c.withdraw.ensures.answer, (c.withdraw.ensures.bytes, c.withdraw.ensures.still)) in record { answer = both.0; bytes = both.1.0; still = both.1.1 }
+
+pub returns-in-4 : goal.returns-in-4
+returns-in-4 c =
+    let both = plain_by_kind _ _ guarantee c.in-4.is (c.guarantee.ensures.answer, (c.guarantee.ensures.bytes, c.guarantee.ensures.still)) in record { answer = both.0; bytes = both.1.0; still = both.1.1 }
+
+pub returns-in-9 : goal.returns-in-9
+returns-in-9 c =
+    let both = plain_by_kind _ _ schedule c.in-9.is (c.schedule.ensures.answer, (c.schedule.ensures.bytes, c.schedule.ensures.still)) in record { answer = both.0; bytes = both.1.0; still = both.1.1 }
+
+pub returns-in-12 : goal.returns-in-12
+returns-in-12 c =
+    let both = plain_by_kind _ _ ask c.in-12.is (c.ask.ensures.answer, (c.ask.ensures.bytes, c.ask.ensures.still)) in record { answer = both.0; bytes = both.1.0; still = both.1.1 }
+
+pub returns-in-13 : goal.returns-in-13
+returns-in-13 c =
+    let both = plain_by_kind _ _ commit c.in-13.is (c.commit.ensures.answer, (c.commit.ensures.bytes, c.commit.ensures.still)) in record { answer = both.0; bytes = both.1.0; still = both.1.1 }
+
+pub returns-in-5-to-8 : goal.returns-in-5-to-8
+returns-in-5-to-8 c =
+    record { answer = c.batch_or_gate.ensures.answer _; bytes = c.batch_or_gate.ensures.bytes _; still = c.batch_or_gate.ensures.still }
+
+pub returns-in_default : goal.returns-in_default
+returns-in_default c =
+    let n = c.args.request.kind in
+    let plain = c.requires.kind_value.0 in
+    elim c.in_default.branch [
+      | in_default-via-then-kind-lt1 w ↦ absurd (none_first n plain (omega arith))
+      | in_default-via-else-kind-lt1+else-kind-lt9 w ↦ absurd (none_left n plain (omega arith) (omega arith) (omega arith) (omega arith))
+    ]
