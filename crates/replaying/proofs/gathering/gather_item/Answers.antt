@@ -5,19 +5,18 @@ use lib.ListN.{length-take, length-drop}
 use Rattle.wire.proofs.NumberLaws.{bytes_known}
 use Rattle.replaying.proofs.GatherLaws.{item_left, item_whole}
 use borrow.Author.Rules.{rules}
-use Rattle.replaying.proofs.gathering.gather_item.Statement.{statement}
-use Rattle.replaying.proofs.gathering.gather_item.Tie as tie
+use Rattle.replaying.proofs.gathering.gather_item.Goals as goal
 
-replay-item-requires : tie.Need-replay-item-requires
-replay-item-requires c κs =
-    let start = c.before.before.before.before.before in
-    ((start.requires.1.onward start.requires.0.0).0, simp (length-take, length-drop) (omega arith))
+pub replay_item-step-requires : goal.replay_item-step-requires
+replay_item-step-requires c =
+    record { book_value = (c.requires.underway.onward c.requires.goes_on_value.0).0; step_room_in_bounds = simp (length-take, length-drop) (omega arith) }
 
-same-length-2 : tie.Need-same-length-2
-same-length-2 c = search rules
+pub shape_of-out : goal.shape_of-out
+shape_of-out c = search rules
 
-returns : tie.Need-returns
-returns c =
+pub returns : goal.returns
+returns c =-- LEFT bare place c
+
     let replayed = c.before.before.before.before.before in
     let known = replayed.before.before.before.before.before in
     let start = known.before in
@@ -43,17 +42,3 @@ returns c =
         refl,
       ),
     )
-
-pub gather-item-spec : {M : Type 1} → statement M
-gather-item-spec =
-    tie.close
-    (tie.spec
-    (λ c. search rules)
-    (λ c. search rules)
-    (λ c. search rules)
-    replay-item-requires
-    (λ c. search rules)
-    (λ c. search rules)
-    (λ c. search rules)
-    same-length-2
-    returns)

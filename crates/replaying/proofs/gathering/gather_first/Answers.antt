@@ -2,14 +2,14 @@
 use native.Mathlib.Omega.{arith}
 use Rattle.replaying.proofs.GatherLaws.{first_left, first_whole}
 use borrow.Author.Rules.{rules}
-use Rattle.replaying.proofs.gathering.gather_first.Statement.{statement}
-use Rattle.replaying.proofs.gathering.gather_first.Tie as tie
+use Rattle.replaying.proofs.gathering.gather_first.Goals as goal
 
-same-length-2 : tie.Need-same-length-2
-same-length-2 c = search rules
+pub shape_of-out : goal.shape_of-out
+shape_of-out c = search rules
 
-returns : tie.Need-returns
-returns c =
+pub returns : goal.returns
+returns c =-- LEFT bare place c
+
     let (answer, left) = c.before.before.before.before.begin.ensures in
     let (book, lines) = left in
     let (out, rest) = lines in
@@ -25,6 +25,3 @@ returns c =
         },
       ),
     )
-
-pub gather-first-spec : {M : Type 1} → statement M
-gather-first-spec = tie.close (tie.spec (λ c κs. search rules) (λ c. search rules) same-length-2 returns)

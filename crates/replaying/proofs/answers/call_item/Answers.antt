@@ -1,0 +1,20 @@
+-- The two parts of the item are the record and the prices of its call.
+use mathlib.Core.Path.{sym}
+use lib.Seq.{length-take-le}
+use Rattle.items.proofs.StreamLaws.{record_within}
+use Rattle.replaying.proofs.CallLaws.{item_called}
+use borrow.Author.Rules.{rules}
+use Rattle.replaying.proofs.answers.call_item.Goals as goal
+
+pub slice_bounds-call_in-end : goal.slice_bounds-call_in-end
+slice_bounds-call_in-end c = rw c.record_length-n.ensures (sym (length-take-le _ _ (record_within _)))
+
+pub slice_bounds-call_in-count : goal.slice_bounds-call_in-count
+slice_bounds-call_in-count c = rw c.record_length-n.ensures (record_within _)
+
+pub slice_bounds-call_in-start : goal.slice_bounds-call_in-start
+slice_bounds-call_in-start c = rw c.record_length-n.ensures (record_within _)
+
+pub returns : goal.returns
+returns c =
+    let both = item_called _ _ c.requires.book_value c.record_length-n.ensures c.requires.results_value.0 c.requires.results_value.1 (c.call_in.ensures.answer, c.call_in.ensures.still) in record { answer = both.0; still = both.1 }

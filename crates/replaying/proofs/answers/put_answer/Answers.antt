@@ -1,0 +1,17 @@
+-- The answer's own line, and behind it those of a settle.
+use native.Mathlib.Omega.{arith}
+use Rattle.replaying.proofs.AnswerLaws.{put_settling, put_plain}
+use borrow.Author.Rules.{rules}
+use Rattle.replaying.proofs.answers.put_answer.Goals as goal
+
+pub put_settled-requires : goal.put_settled-requires
+put_settled-requires c =
+    record { n_in_bounds = (c.requires.n_in_bounds.0, c.requires.n_in_bounds.1, c.requires.n_in_bounds.2, c.requires.each c.if-settled.true); m_in_bounds = omega arith }
+
+pub returns-then-settled : goal.returns-then-settled
+returns-then-settled c =
+    record { written = put_settling _ _ _ _ _ _ _ _ c.if-settled.true c.outcome_numbers-numbers.ensures c.put_answered-past.ensures.written c.put_settled.ensures.written; upper_bound = omega arith }
+
+pub returns : goal.returns
+returns c =
+    record { written = put_plain _ _ _ _ _ _ _ _ c.if-settled.false c.outcome_numbers-numbers.ensures c.put_answered-past.ensures.written; upper_bound = omega arith }
