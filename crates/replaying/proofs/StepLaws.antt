@@ -51,6 +51,11 @@ module _ (lines : List Line) {out out₁ : List ℕ} {past : ℕ} (put : Written
       → Does (ends_after lines) w book book₁ out out₁ rest
   does_end e same more = (rw (e, past_lines), (same, (put.put, (rw e room, more))))
 
+-- a step that is another's does what that one does
+pub does_as : (book out : List ℕ) {x y : Step} {w : Stepped} {book₁ out₁ : List ℕ} {rest : Type 0} → y ≡ x
+    → Does x w book book₁ out out₁ rest → Does y w book book₁ out out₁ rest
+does_as book out e d = rw e d
+
 -- where the replay ends nothing is promised of its going on
 pub ended_not_on : {P : Type 0} {past : ℕ} {w : Stepped} → w ≡ record { goes_on = false; next = 0; end = past } → w.goes_on ≡ true → P
 ended_not_on e h = let z : ◌≡◌ {A = ℕ} 0 1 = cc in absurd (omega arith)

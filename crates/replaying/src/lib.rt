@@ -1,5 +1,6 @@
 // A day's stream replayed item by item on the bytes of a book, and the lines that each item prints.
 #![tactic(auto)]
+
 pub mod answers;
 pub mod gathering;
 pub mod steps;

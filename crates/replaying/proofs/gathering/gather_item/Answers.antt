@@ -2,6 +2,8 @@
 use mathlib.Core.Path.{refl}
 use native.Mathlib.Omega.{arith}
 use lib.ListN.{length-take, length-drop}
+use Rattle.std.proofs.Common.{◌-◌, length}
+use borrow.Rule.Slice.PartMut.{same_len_mid}
 use Rattle.wire.proofs.NumberLaws.{bytes_known}
 use Rattle.replaying.proofs.GatherLaws.{item_left, item_whole}
 use borrow.Author.Rules.{rules}
@@ -11,34 +13,24 @@ pub replay_item-step-requires : goal.replay_item-step-requires
 replay_item-step-requires c =
     record { book_value = (c.requires.underway.onward c.requires.goes_on_value.0).0; step_room_in_bounds = simp (length-take, length-drop) (omega arith) }
 
-pub shape_of-out : goal.shape_of-out
-shape_of-out c = search rules
-
 pub returns : goal.returns
-returns c =-- LEFT bare place c
-
-    let replayed = c.before.before.before.before.before in
-    let known = replayed.before.before.before.before.before in
-    let start = known.before in
-    let on = start.requires.1.onward start.requires.0.0 in
-    let bytes = bytes_known _ known.shared-slice-known.given in
-    let (answer, left) = replayed.replay-item.ensures in
-    let (book, lines) = left in
-    let (out, rest) = lines in
-    let (bound, goes) = rest in
-    let (still, onward) = goes in
-    let whole = item_whole _ _ _ _ start.requires.0.0 bytes on.0 start.requires.1.room _ _ answer book out in (
-      item_left _ _ _ _ start.requires.0.0 bytes on.0 start.requires.1.room answer book out,
-      (
-        record {
-          whole = whole;
-          underway =
-              record {
-                room = omega (arith, same-length-2 c);
-                counted = omega arith;
-                onward = λ t. let f = onward t in (still, f.1, omega arith);
-              };
-        },
-        refl,
-      ),
-    )
+returns c =
+    let on = c.requires.underway.onward c.requires.goes_on_value.0 in
+    let bytes = bytes_known _ c.type_inv.stream in
+    let step = c.replay_item-step.ensures in
+    let same =
+    same_len_mid c.args.gathered.end (length c.args.out.now - c.args.gathered.end) c.args.out.now c.replay_item-step.new.out c.replay_item-step.auto.out in
+    record {
+      left = item_left _ _ _ _ c.requires.goes_on_value.0 bytes on.0 c.requires.underway.room step.answer step.book step.out;
+      follows =
+          record {
+            whole = item_whole _ _ _ _ c.requires.goes_on_value.0 bytes on.0 c.requires.underway.room _ _ step.answer step.book step.out;
+            underway =
+                record {
+                  room = omega (arith, same, step.bound, c.requires.goes_on_value.1);
+                  counted = omega arith;
+                  onward = λ t. (step.still, (step.onward t).1, omega (arith, (step.onward t).0));
+                };
+          };
+      counted = refl;
+    }

@@ -5,19 +5,13 @@ use borrow.Author.Rules.{rules}
 use Rattle.replaying.proofs.steps.open_setup.Goals as goal
 
 pub returns-in-Accepted : goal.returns-in-Accepted
-returns-in-Accepted c =-- LEFT bare place opened
-
-    let numbered = c.before.before.before.before.before.before in
-    let opened = numbered.before.before.before in
-    let opening = opened.«open».ensures in
-    let line = c.before.before.before.before.put-answered.ensures in
-    does-open _ _ opened.before.before.before.before.before.requires.0 _ opening.0 opening.1 _ numbered.outcome-numbers.ensures line.0 (omega arith) c.enum_told.given.1
+returns-in-Accepted c =
+    let opening = c.open-outcome.ensures in
+    let does = does-open _ _ c.requires.0 _ opening.answer opening.filled _ c.outcome_numbers-numbers.ensures c.put_answered-past.ensures.written (omega arith) c.in-Accepted.is in
+    record { answer = does.0; book = does.1.0; out = does.1.1.0; bound = does.1.1.1.0; opens = does.1.1.1.1 }
 
 pub returns-in-Refused : goal.returns-in-Refused
-returns-in-Refused c =-- LEFT bare place opened
-
-    let numbered = c.before.before.before.before.before.before.before in
-    let opened = numbered.before.before.before in
-    let opening = opened.«open».ensures in
-    let line = c.before.before.before.before.before.put-answered.ensures in
-    does-refuse _ _ opened.before.before.before.before.before.requires.0 _ opening.0 opening.1 _ numbered.outcome-numbers.ensures line.0 (omega arith) c.before.enum-told2.given.1 c.ended.ensures
+returns-in-Refused c =
+    let opening = c.open-outcome.ensures in
+    let does = does-refuse _ _ c.requires.0 _ opening.answer opening.filled _ c.outcome_numbers-numbers.ensures c.put_answered-past.ensures.written (omega arith) c.in-Refused.is c.ended.ensures in
+    record { answer = does.0; book = does.1.0; out = does.1.1.0; bound = does.1.1.1.0; opens = does.1.1.1.1 }
