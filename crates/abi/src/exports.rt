@@ -17,8 +17,7 @@ use crate::packing::pack;
 use rules::{Outcome, Refusal, Verdict};
 
 // Opens a book from the bytes of a set-up.
-#[unsafe(no_mangle)]
-pub extern "C" fn energy_book_open(setup: &[u8], book: &mut [u8]) -> u64
+pub fn energy_book_open(setup: &[u8], book: &mut [u8]) -> u64
     ensures answer { Packs (numbers (open_outcome setup.now book.old)) result }
     ensures filled { book.new ≡ open_bytes setup.now book.old }
 {
@@ -26,16 +25,14 @@ pub extern "C" fn energy_book_open(setup: &[u8], book: &mut [u8]) -> u64
 }
 
 // Whether bytes are a book.
-#[unsafe(no_mangle)]
-pub extern "C" fn energy_book_is_book(book: &[u8]) -> bool
+pub fn energy_book_is_book(book: &[u8]) -> bool
     ensures { result ≡ is_book book.now }
 {
     asks::whole::is_book(book)
 }
 
 // A call of any kind. Only settle looks at the price table and the buffers for results and balances.
-#[unsafe(no_mangle)]
-pub extern "C" fn energy_book_call(
+pub fn energy_book_call(
     bytes: &[u8],
     book: &mut [u8],
     prices: &[u8],
@@ -50,8 +47,7 @@ pub extern "C" fn energy_book_call(
 }
 
 // The net position of an account in an hour, as a signed figure in the first 8 bytes of the buffer.
-#[unsafe(no_mangle)]
-pub extern "C" fn energy_book_net(book: &[u8], account: u8, hour: u8, figure: &mut [u8]) -> u64
+pub fn energy_book_net(book: &[u8], account: u8, hour: u8, figure: &mut [u8]) -> u64
     ensures { Lends net_bytes (net_read_out (net_answer book.now account hour)) figure.old result figure.new }
 {
     let reading = day::interface::net(book, account, hour);
@@ -59,8 +55,7 @@ pub extern "C" fn energy_book_net(book: &[u8], account: u8, hour: u8, figure: &m
 }
 
 // The exposure of an operator, in the first 8 bytes of the buffer.
-#[unsafe(no_mangle)]
-pub extern "C" fn energy_book_exposure(book: &[u8], operator: u8, figure: &mut [u8]) -> u64
+pub fn energy_book_exposure(book: &[u8], operator: u8, figure: &mut [u8]) -> u64
     ensures { LendsExposure (exposure_answer book.now operator) figure.old result figure.new }
 {
     let reading = day::interface::exposure(book, operator);
@@ -68,13 +63,7 @@ pub extern "C" fn energy_book_exposure(book: &[u8], operator: u8, figure: &mut [
 }
 
 // The hourly exposure of an operator, in the first 8 bytes of the buffer.
-#[unsafe(no_mangle)]
-pub extern "C" fn energy_book_hourly_exposure(
-    book: &[u8],
-    operator: u8,
-    hour: u8,
-    figure: &mut [u8],
-) -> u64
+pub fn energy_book_hourly_exposure(book: &[u8], operator: u8, hour: u8, figure: &mut [u8]) -> u64
     ensures { LendsExposure (hourly_exposure_answer book.now operator hour) figure.old result figure.new }
 {
     let reading = day::interface::hourly_exposure(book, operator, hour);
@@ -82,8 +71,7 @@ pub extern "C" fn energy_book_hourly_exposure(
 }
 
 // What a record says: the fields of its request, in the first 34 bytes of the buffer.
-#[unsafe(no_mangle)]
-pub extern "C" fn energy_book_read(bytes: &[u8], fields: &mut [u8]) -> u64
+pub fn energy_book_read(bytes: &[u8], fields: &mut [u8]) -> u64
     ensures { Lends request_bytes (request_read_out (reading bytes.now)) fields.old result fields.new }
 {
     let said = day::interface::read(bytes);
@@ -105,8 +93,7 @@ fn write_fields(fields: &[u8], buffer: &mut [u8]) -> Outcome
 }
 
 // Writes the record of the request that the fields say into the first bytes of the buffer.
-#[unsafe(no_mangle)]
-pub extern "C" fn energy_book_write(fields: &[u8], buffer: &mut [u8]) -> u64
+pub fn energy_book_write(fields: &[u8], buffer: &mut [u8]) -> u64
     ensures answer { Packs (numbers (fields_outcome fields.now buffer.old)) result }
     ensures filled { buffer.new ≡ fields_written fields.now buffer.old }
 {

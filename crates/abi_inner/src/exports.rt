@@ -12,8 +12,7 @@ use abi::lending::{lend_exposure, lend_net};
 use abi::packing::pack;
 
 // As `energy_book_call`, on bytes that are known to be a book. It leaves a book.
-#[unsafe(no_mangle)]
-pub extern "C" fn energy_book_call_in(
+pub fn energy_book_call_in(
     bytes: &[u8],
     book: &mut [u8],
     prices: &[u8],
@@ -30,8 +29,7 @@ pub extern "C" fn energy_book_call_in(
 }
 
 // As `energy_book_net`, on bytes that are known to be a book.
-#[unsafe(no_mangle)]
-pub extern "C" fn energy_book_net_in(book: &[u8], account: u8, hour: u8, figure: &mut [u8]) -> u64
+pub fn energy_book_net_in(book: &[u8], account: u8, hour: u8, figure: &mut [u8]) -> u64
     requires { is_book book.now ≡ true }
     ensures { Lends net_bytes (net_read_out (net_reading (book_in book.now) account hour)) figure.old result figure.new }
 {
@@ -40,8 +38,7 @@ pub extern "C" fn energy_book_net_in(book: &[u8], account: u8, hour: u8, figure:
 }
 
 // As `energy_book_exposure`, on bytes that are known to be a book.
-#[unsafe(no_mangle)]
-pub extern "C" fn energy_book_exposure_in(book: &[u8], operator: u8, figure: &mut [u8]) -> u64
+pub fn energy_book_exposure_in(book: &[u8], operator: u8, figure: &mut [u8]) -> u64
     requires { is_book book.now ≡ true }
     ensures { LendsExposure (exposure_reading (book_in book.now) operator) figure.old result figure.new }
 {
@@ -50,13 +47,7 @@ pub extern "C" fn energy_book_exposure_in(book: &[u8], operator: u8, figure: &mu
 }
 
 // As `energy_book_hourly_exposure`, on bytes that are known to be a book.
-#[unsafe(no_mangle)]
-pub extern "C" fn energy_book_hourly_exposure_in(
-    book: &[u8],
-    operator: u8,
-    hour: u8,
-    figure: &mut [u8],
-) -> u64
+pub fn energy_book_hourly_exposure_in(book: &[u8], operator: u8, hour: u8, figure: &mut [u8]) -> u64
     requires { is_book book.now ≡ true }
     ensures { LendsExposure (hourly_exposure_reading (book_in book.now) operator hour) figure.old result figure.new }
 {
