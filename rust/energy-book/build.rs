@@ -1,7 +1,6 @@
-//! Links the static libraries of the crates `abi` and `abi_inner`: those in the folder that ENERGY_BOOK_LIB_DIR names, or else those that
-//! `rt staticlib` proved and built, which is called where an archive is missing or older than something under `crates/` or `crates.txt`.
+//! Links the static libraries `abi` and `abi_inner`: those in the folder that ENERGY_BOOK_LIB_DIR names, or else those that
+//! `tools/staticlib` proved and built, which is called where an archive is missing or older than a source of some crate or `crates.txt`.
 
-use std::fs::File;
 use std::path::{Path, PathBuf};
 use std::process::Command;
 use std::time::SystemTime;
@@ -31,10 +30,10 @@ fn archive(name: &str) -> String {
     format!("lib{name}.a")
 }
 
-/// Builds the archives that are missing or old, and keeps copies beside what cargo builds, since `rt ci` removes its own.
+/// Builds the archives that are missing or old, and keeps copies beside what cargo builds, which stay as they are when others are built.
 fn built() -> PathBuf {
     let root = Path::new(&env::var_os("CARGO_MANIFEST_DIR").unwrap()).join("../..");
-    let sources = [root.join("crates"), root.join("crates.txt")];
+    let sources = sources(&root).expect("the sources can be read");
     for path in &sources {
         println!("cargo:rerun-if-changed={}", path.display());
     }
@@ -43,18 +42,21 @@ fn built() -> PathBuf {
     for name in LIBRARIES {
         let stands = root.join("target/staticlib").join(archive(name));
         if !modified(&stands).is_ok_and(|time| time >= changed) {
-            let before = SystemTime::now();
             prove(&root, name);
-            // It has the time before the proof, so that what is edited meanwhile is newer.
-            File::options()
-                .write(true)
-                .open(&stands)
-                .and_then(|file| file.set_modified(before))
-                .expect("the archive that rt wrote");
         }
-        fs::copy(stands, folder.join(archive(name))).expect("the archive that rt wrote");
+        fs::copy(stands, folder.join(archive(name))).expect("the archive that tools/staticlib wrote");
     }
     folder
+}
+
+/// `crates.txt` and the folders of each crate that hold its sources; beside them lies what `rt` makes.
+fn sources(root: &Path) -> io::Result<Vec<PathBuf>> {
+    let mut found = vec![root.join("crates.txt")];
+    for entry in fs::read_dir(root.join("crates"))? {
+        let folder = entry?.path();
+        found.extend(["src", "specs", "proofs"].map(|part| folder.join(part)).into_iter().filter(|part| part.exists()));
+    }
+    Ok(found)
 }
 
 fn modified(path: &Path) -> io::Result<SystemTime> {
@@ -73,12 +75,12 @@ fn newest(path: &Path) -> io::Result<SystemTime> {
 }
 
 fn prove(root: &Path, name: &str) {
-    let run = Command::new("rt")
-        .args(["staticlib", name])
-        .current_dir(root)
-        .output()
-        .expect("`rt` is on the PATH; or set ENERGY_BOOK_LIB_DIR to a folder that has both archives");
+    let run = Command::new(root.join("tools/staticlib")).arg(name).output().expect("tools/staticlib can be run");
     if !run.status.success() {
-        panic!("`rt staticlib {name}` failed:\n{}{}", String::from_utf8_lossy(&run.stdout), String::from_utf8_lossy(&run.stderr));
+        let said = [run.stdout, run.stderr].concat();
+        panic!(
+            "`tools/staticlib {name}` failed; it needs `rt` on the PATH, or else ENERGY_BOOK_LIB_DIR names a folder that has both archives:\n{}",
+            String::from_utf8_lossy(&said)
+        );
     }
 }

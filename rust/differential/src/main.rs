@@ -52,7 +52,7 @@ fn default_run() -> Result<(), String> {
 /// Streams replayed by the program, some of them cut short or too long.
 fn replays() -> Result<(), String> {
     let Some(program) = replay::program() else {
-        println!("replays: none, since the program is not built (rt check replay)");
+        println!("replays: none, since the program is not built (./replay builds it)");
         return Ok(());
     };
     for seed in 1..=REPLAYS {

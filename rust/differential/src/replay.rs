@@ -5,7 +5,7 @@ use std::io::{self, Write};
 use std::path::{Path, PathBuf};
 use std::process::{Command, Stdio};
 
-/// Where `rt check replay` writes the program; none where it did not yet.
+/// Where `./replay` puts the program; none where it did not yet.
 pub fn program() -> Option<PathBuf> {
     let program = Path::new(env!("CARGO_MANIFEST_DIR")).join("../../target/bin/replay");
     program.exists().then_some(program)

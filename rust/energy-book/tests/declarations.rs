@@ -1,4 +1,5 @@
-//! The declarations of include/energy_book.h and of src/raw.rs against the functions that the crate `abi` exports.
+//! The declarations of include/energy_book.h, of src/raw.rs and of src/inner.rs against the functions that the crates `abi_c` and
+//! `abi_inner_c` export.
 
 use std::collections::BTreeMap;
 use std::fs;
@@ -31,7 +32,7 @@ fn types(list: &str) -> Vec<String> {
 
 fn exported(path: &str) -> Declared {
     let source = text(path);
-    let functions = source.split("#[no_mangle]\npub extern \"C\" fn ").skip(1);
+    let functions = source.split("#[unsafe(no_mangle)]\npub extern \"C\" fn ").skip(1);
     functions
         .map(|function| {
             let (list, behind) = parameters(function);
@@ -83,7 +84,7 @@ fn declared_in_c() -> Declared {
 
 #[test]
 fn declarations_are_those_of_the_exported_functions() {
-    let exported = exported("crates/abi/src/exports.rt");
+    let exported = exported("crates/abi_c/src/lib.rt");
     assert_eq!(exported.len(), 8);
     assert_eq!(declared_in_rust("rust/energy-book/src/raw.rs"), exported);
     assert_eq!(declared_in_c(), exported);
@@ -91,7 +92,7 @@ fn declarations_are_those_of_the_exported_functions() {
 
 #[test]
 fn inner_declarations_are_those_of_the_exported_functions() {
-    let exported = exported("crates/abi_inner/src/exports.rt");
+    let exported = exported("crates/abi_inner_c/src/lib.rt");
     assert_eq!(exported.len(), 4);
     assert_eq!(declared_in_rust("rust/energy-book/src/inner.rs"), exported);
 }
