@@ -15,3 +15,5 @@ pub mod Ledgers
 pub mod Lists
 -- Settling: priority, results, balances and their total.
 pub mod Settling
+-- Starred: the starred cases as one set.
+pub mod Starred

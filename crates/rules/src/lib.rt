@@ -1,5 +1,6 @@
 // The plain values of the energy account book: what the definitions in specs/ and the code of the crates above share.
 #![tactic(auto)]
+
 pub mod balances;
 pub mod hours;
 pub mod kinds;
