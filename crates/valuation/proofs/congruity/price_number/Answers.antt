@@ -10,9 +10,3 @@ overflow_mul-result c = record { fits = product_fits 32 (search rules) (search r
 pub overflow_add-result : goal.overflow_add-result
 overflow_add-result c =
     omega (arith, product_fits 8 {a = c.args.hours} {b = c.args.point.zone} (search rules) (search rules))
-
-pub returns-then-x-point : goal.returns-then-x-point
-returns-then-x-point c = rw c.if-x-point.true
-
-pub returns : goal.returns
-returns c = rw c.if-x-point.false
