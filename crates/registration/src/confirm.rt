@@ -72,6 +72,7 @@ fn confirmed_row(r: Row) -> Row
 }
 
 // Whether the exposure of the account's operator is covered once the pending row is confirmed; `trade` is the confirmed row.
+#[tactic(auto, using(crate::proofs::ConfirmLaws::sale_covered))]
 fn covered_with_trade(book: &[u8], row: Row, trade: Row, number: u8) -> bool
     requires book_value { (is_sound book.now ≡ true) × IsAccount (book_in book.now) number }
     requires waits_in { WaitsIn (book_in book.now) row × (trade ≡ with_status confirmed_status row) }

@@ -2,12 +2,8 @@
 -- that of the rows and the trade, which is worked out and tested.
 use Rattle.std.proofs.Common.{◌∙◌, rules}
 use Rattle.rules.specs.Basics.{nil, cons}
-use Rattle.registration.proofs.ConfirmLaws.{purchase_frees_none, trade-in-range, sale_covered}
+use Rattle.registration.proofs.ConfirmLaws.{purchase_frees_none, trade-in-range}
 use Rattle.registration.proofs.confirm.covered_with_trade.Goals as goal
-
-pub returns-then-row-eq-SELLS : goal.returns-then-row-eq-SELLS
-returns-then-row-eq-SELLS c =
-    sale_covered _ _ c.requires.book_value.0 c.requires.waits_in.0 _ c.requires.book_value.1 c.if-row-eq-SELLS.true
 
 pub exposure_with-owed-requires : goal.exposure_with-owed-requires
 exposure_with-owed-requires c =
@@ -17,4 +13,4 @@ pub returns : goal.returns
 returns c =
     c.covered_in_force.ensures
     ∙ rw (c.exposure_with-owed.ensures.meaning, c.operator_of-operator.ensures.meaning, c.requires.waits_in.1)
-    (purchase_frees_none _ _ _ _ _ c.if-row-eq-SELLS.false)
+    (purchase_frees_none _ _ _ _ _ (search rules))
