@@ -3,6 +3,7 @@ use asks::whole::is_book;
 use book::opening::open;
 use day::interface::{exposure, net};
 use rules::verdicts::outcome_numbers;
+use std::io::{Result, Write};
 use test_lines::{HEAD, begin, bytes, end, exposure_line, net_line, number, small, verdict};
 use wire::numbers::get_u16;
 use wire::regions::copy_in;
@@ -11,15 +12,15 @@ use wire::regions::copy_in;
 const BOOK_SIZE: u16 = image::layout::BOOK_SIZE as u16;
 
 // Opens a book in the first bytes of the room, as many as asked for.
-fn show_open(body: &[u8], room: &mut [u8]) {
+fn show_open<W: Write>(out: &mut W, body: &[u8], room: &mut [u8]) -> Result<()> {
     if body.len() < 2 {
-        return;
+        return Ok(());
     }
     let lent = io::count(get_u16(body, 0) as isize, room);
     let outcome = open(&body[2..], &mut room[..lent]);
-    begin(b'o');
-    verdict(outcome_numbers(outcome));
-    end();
+    begin(out, b'o')?;
+    verdict(out, outcome_numbers(outcome))?;
+    end(out)
 }
 
 // Whether the first bytes of the room are a book, as 1 or 0.
@@ -32,15 +33,15 @@ fn book_flag(size: u16, room: &[u8]) -> u64 {
 }
 
 // Whether so many bytes of the room are a book.
-fn show_judged(body: &[u8], room: &[u8]) {
+fn show_judged<W: Write>(out: &mut W, body: &[u8], room: &[u8]) -> Result<()> {
     if body.len() < 2 {
-        return;
+        return Ok(());
     }
     let size = get_u16(body, 0);
-    begin(b'l');
-    number(size as u64);
-    number(book_flag(size, room));
-    end();
+    begin(out, b'l')?;
+    number(out, size as u64)?;
+    number(out, book_flag(size, room))?;
+    end(out)
 }
 
 // Puts bytes into the room, from the offset that stands before them.
@@ -70,67 +71,71 @@ fn exchange(room: &mut [u8], at: usize, new: u8) -> u8 {
 }
 
 // Whether the room has a book with one byte changed. The byte is put back.
-fn show_damaged(body: &[u8], room: &mut [u8]) {
+fn show_damaged<W: Write>(out: &mut W, body: &[u8], room: &mut [u8]) -> Result<()> {
     if body.len() < 3 {
-        return;
+        return Ok(());
     }
     let offset = get_u16(body, 0);
     let new = body[2];
     let old = exchange(room, offset as usize, new);
-    begin(b'd');
-    number(offset as u64);
-    small(new);
-    number(book_flag(BOOK_SIZE, room));
-    end();
+    let flag = book_flag(BOOK_SIZE, room);
     exchange(room, offset as usize, old);
+    begin(out, b'd')?;
+    number(out, offset as u64)?;
+    small(out, new)?;
+    number(out, flag)?;
+    end(out)
 }
 
 // The net position of an account in an hour.
-fn show_net(body: &[u8], room: &[u8]) {
+fn show_net<W: Write>(out: &mut W, body: &[u8], room: &[u8]) -> Result<()> {
     if body.len() < 2 {
-        return;
+        return Ok(());
     }
     let n = io::count(BOOK_SIZE as isize, room);
-    net_line(body[0], body[1], net(&room[..n], body[0], body[1]));
+    net_line(out, body[0], body[1], net(&room[..n], body[0], body[1]))
 }
 
 // The exposure of an operator.
-fn show_exposure(body: &[u8], room: &[u8]) {
+fn show_exposure<W: Write>(out: &mut W, body: &[u8], room: &[u8]) -> Result<()> {
     if body.len() < 1 {
-        return;
+        return Ok(());
     }
     let n = io::count(BOOK_SIZE as isize, room);
-    exposure_line(body[0], exposure(&room[..n], body[0]));
+    exposure_line(out, body[0], exposure(&room[..n], body[0]))
 }
 
 // Bytes of the room: from an offset on, as many as asked for.
-fn show_bytes(body: &[u8], room: &[u8]) {
+fn show_bytes<W: Write>(out: &mut W, body: &[u8], room: &[u8]) -> Result<()> {
     if body.len() < 4 {
-        return;
+        return Ok(());
     }
     let from = io::count(get_u16(body, 0) as isize, room);
     let rest = &room[from..];
     let n = io::count(get_u16(body, 2) as isize, rest);
-    begin(b'x');
-    bytes(&rest[..n]);
-    end();
+    begin(out, b'x')?;
+    bytes(out, &rest[..n])?;
+    end(out)
 }
 
 // A case. What it puts into the room stands for the cases after it.
-pub fn run(case: &[u8], room: &mut [u8]) {
+pub fn run<W: Write>(out: &mut W, case: &[u8], room: &mut [u8]) -> Result<()> {
     if case.len() < HEAD {
-        return;
+        return Ok(());
     }
     let tag = case[0];
     let body = &case[HEAD..];
     match tag {
-        b'o' => show_open(body, room),
-        b'l' => show_judged(body, room),
-        b'p' => put(body, room),
-        b'd' => show_damaged(body, room),
-        b'a' => show_net(body, room),
-        b'e' => show_exposure(body, room),
-        b'x' => show_bytes(body, room),
-        _ => begin(b'?'),
+        b'o' => show_open(out, body, room),
+        b'l' => show_judged(out, body, room),
+        b'p' => {
+            put(body, room);
+            Ok(())
+        }
+        b'd' => show_damaged(out, body, room),
+        b'a' => show_net(out, body, room),
+        b'e' => show_exposure(out, body, room),
+        b'x' => show_bytes(out, body, room),
+        _ => begin(out, b'?'),
     }
 }

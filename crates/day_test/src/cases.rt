@@ -1,12 +1,11 @@
 // One case: a call of one of the public functions on the book, or its account hours valued, and the lines that it prints.
 use crate::hours::show_hours;
-use bytes::copy;
-use check::same;
 use day::calls::call;
 use day::interface::{exposure, hourly_exposure, net, open};
 use rules::Numbers;
 use rules::kinds::SETTLE;
 use rules::verdicts::outcome_numbers;
+use std::io::{Result, Write};
 use test_lines::{
     begin, bytes, end, exposure_line, hourly_exposure_line, net_line, number, verdict,
 };
@@ -19,32 +18,40 @@ pub const BOOK_SIZE: isize = image::layout::BOOK_SIZE as isize;
 const UNWRITTEN: u8 = 0xAA;
 
 // Opens a book.
-fn show_open(body: &[u8], book: &mut [u8]) {
+fn show_open<W: Write>(out: &mut W, body: &[u8], book: &mut [u8]) -> Result<()> {
     let outcome = open(body, book);
-    begin(b'o');
-    verdict(outcome_numbers(outcome));
-    end();
+    begin(out, b'o')?;
+    verdict(out, outcome_numbers(outcome))?;
+    end(out)
 }
 
 // A line for a refused call that changed a byte, and the two buffers after an accepted settle.
-fn show_buffers(record: &[u8], answer: Numbers, kept: bool, results: &[u8], balances: &[u8]) {
+fn show_buffers<W: Write>(
+    out: &mut W,
+    record: &[u8],
+    answer: Numbers,
+    kept: bool,
+    results: &[u8],
+    balances: &[u8],
+) -> Result<()> {
     if answer.number != 0 {
         if !kept {
-            io::write_all(libc::STDOUT_FILENO, b"changed\n");
+            out.write_all(b"changed\n")?;
         }
-        return;
+        return Ok(());
     }
     if record.len() < 3 {
-        return;
+        return Ok(());
     }
     if record[2] == SETTLE {
-        begin(b'r');
-        bytes(results);
-        end();
-        begin(b'b');
-        bytes(balances);
-        end();
+        begin(out, b'r')?;
+        bytes(out, results)?;
+        end(out)?;
+        begin(out, b'b')?;
+        bytes(out, balances)?;
+        end(out)?;
     }
+    Ok(())
 }
 
 // Fills a buffer with what stands there before a call.
@@ -73,7 +80,7 @@ fn remember(book: &[u8], remembered: &mut [u8]) {
     if remembered.len() < book.len() {
         return;
     }
-    copy(book, remembered);
+    copy_in(remembered, 0, book);
 }
 
 // A call whose two buffers are not written yet.
@@ -90,32 +97,33 @@ fn called(
 }
 
 // The line of a call.
-fn show_verdict(answer: Numbers) {
-    begin(b'c');
-    verdict(answer);
-    end();
+fn show_verdict<W: Write>(out: &mut W, answer: Numbers) -> Result<()> {
+    begin(out, b'c')?;
+    verdict(out, answer)?;
+    end(out)
 }
 
 // A call with two buffers. The book's bytes before it go into `before`.
-fn show_answer(
+fn show_answer<W: Write>(
+    out: &mut W,
     record: &[u8],
     book: &mut [u8],
     before: &mut [u8],
     prices: &[u8],
     results: &mut [u8],
     balances: &mut [u8],
-) {
+) -> Result<()> {
     remember(book, before);
     let answer = called(record, book, prices, results, balances);
-    show_verdict(answer);
-    let kept = same(before, book) & is_unwritten(results) & is_unwritten(balances);
-    show_buffers(record, answer, kept, results, balances);
+    show_verdict(out, answer)?;
+    let kept = (&*before == &*book) & is_unwritten(results) & is_unwritten(balances);
+    show_buffers(out, record, answer, kept, results, balances)
 }
 
 // A call: the sizes of the two buffers, the length of its record, the record, the price table.
-fn show_call(body: &[u8], book: &mut [u8], before: &mut [u8]) {
+fn show_call<W: Write>(out: &mut W, body: &[u8], book: &mut [u8], before: &mut [u8]) -> Result<()> {
     if body.len() < 6 {
-        return;
+        return Ok(());
     }
     let mut results = io::buffer();
     let mut balances = io::buffer();
@@ -124,54 +132,67 @@ fn show_call(body: &[u8], book: &mut [u8], before: &mut [u8]) {
     let rest = &body[6..];
     let n = io::count(get_u16(body, 4) as isize, rest);
     show_answer(
+        out,
         &rest[..n],
         book,
         before,
         &rest[n..],
         &mut results[..first],
         &mut balances[..second],
-    );
+    )
 }
 
 // The net position of an account in an hour.
-fn show_net(body: &[u8], book: &[u8]) {
+fn show_net<W: Write>(out: &mut W, body: &[u8], book: &[u8]) -> Result<()> {
     if body.len() < 2 {
-        return;
+        return Ok(());
     }
-    net_line(body[0], body[1], net(book, body[0], body[1]));
+    net_line(out, body[0], body[1], net(book, body[0], body[1]))
 }
 
 // The exposure of an operator.
-fn show_exposure(body: &[u8], book: &[u8]) {
+fn show_exposure<W: Write>(out: &mut W, body: &[u8], book: &[u8]) -> Result<()> {
     if body.len() < 1 {
-        return;
+        return Ok(());
     }
-    exposure_line(body[0], exposure(book, body[0]));
+    exposure_line(out, body[0], exposure(book, body[0]))
 }
 
 // The exposures of an operator in the hours from `first` to `last`.
-fn show_hourly(book: &[u8], operator: u8, first: u8, last: u8) {
+fn show_hourly<W: Write>(
+    out: &mut W,
+    book: &[u8],
+    operator: u8,
+    first: u8,
+    last: u8,
+) -> Result<()> {
     let mut hour = first as u16;
     while hour <= last as u16 {
         let number = hour as u8;
-        hourly_exposure_line(operator, number, hourly_exposure(book, operator, number));
+        hourly_exposure_line(
+            out,
+            operator,
+            number,
+            hourly_exposure(book, operator, number),
+        )?;
         hour = hour + 1;
     }
+    Ok(())
 }
 
 // An operator, and the first and the last hour.
-fn show_by_hour(body: &[u8], book: &[u8]) {
+fn show_by_hour<W: Write>(out: &mut W, body: &[u8], book: &[u8]) -> Result<()> {
     if body.len() < 3 {
-        return;
+        return Ok(());
     }
-    show_hourly(book, body[0], body[1], body[2]);
+    show_hourly(out, book, body[0], body[1], body[2])
 }
 
 // Whether the book's bytes are those remembered.
-fn show_same(book: &[u8], remembered: &[u8]) {
-    begin(b'=');
-    number(same(book, remembered) as u64);
-    end();
+fn show_same<W: Write>(out: &mut W, book: &[u8], remembered: &[u8]) -> Result<()> {
+    begin(out, b'=')?;
+    number(out, (book == remembered) as u64)?;
+    end(out)
 }
 
 // Puts bytes into the book, from the offset that stands before them.
@@ -191,17 +212,30 @@ fn damage(body: &[u8], book: &mut [u8]) {
 }
 
 // A case. The book and what is remembered of it stand for the cases after it.
-pub fn run(tag: u8, body: &[u8], book: &mut [u8], remembered: &mut [u8], before: &mut [u8]) {
+pub fn run<W: Write>(
+    out: &mut W,
+    tag: u8,
+    body: &[u8],
+    book: &mut [u8],
+    remembered: &mut [u8],
+    before: &mut [u8],
+) -> Result<()> {
     match tag {
-        b'o' => show_open(body, book),
-        b'c' => show_call(body, book, before),
-        b'a' => show_net(body, book),
-        b'e' => show_exposure(body, book),
-        b'i' => show_by_hour(body, book),
-        b'k' => remember(book, remembered),
-        b'h' => show_hours(body, book),
-        b'=' => show_same(book, remembered),
-        b'p' => damage(body, book),
-        _ => begin(b'?'),
+        b'o' => show_open(out, body, book),
+        b'c' => show_call(out, body, book, before),
+        b'a' => show_net(out, body, book),
+        b'e' => show_exposure(out, body, book),
+        b'i' => show_by_hour(out, body, book),
+        b'k' => {
+            remember(book, remembered);
+            Ok(())
+        }
+        b'h' => show_hours(out, body, book),
+        b'=' => show_same(out, book, remembered),
+        b'p' => {
+            damage(body, book);
+            Ok(())
+        }
+        _ => begin(out, b'?'),
     }
 }

@@ -13,13 +13,21 @@ use rules::limits::MOST_SCHEDULES;
 use settlement::judging::{judge_all, prioritised_in};
 use settlement::settle::{no_results, price_count};
 use setup::counts::{PRICE_WIDTH, counts};
+use std::io::{Result, Write};
 use test_lines::hour_line;
 use valuation::hours::value_hour;
 use valuation::prices::too_high;
 use valuation::registered::{no_charges, no_energy};
 
 // The lines of an account.
-fn show_account(book: &[u8], prices: &[u8], energy: &[u32], charges: &[u64], number: u8)
+fn show_account<W: Write>(
+    out: &mut W,
+    book: &[u8],
+    prices: &[u8],
+    energy: &[u32],
+    charges: &[u64],
+    number: u8,
+) -> Result<()>
     requires priced { Priced book.now prices.now × IsAccount (book_in book.now) number }
     requires all_registered { AllRegistered book.now prices.now energy.now charges.now }
 {
@@ -27,26 +35,40 @@ fn show_account(book: &[u8], prices: &[u8], energy: &[u32], charges: &[u64], num
     let mut hour: u8 = 1;
     while hour <= n.hours {
         let valued = value_hour(book, prices, energy, charges, number, hour);
-        hour_line(number, hour, valued);
+        hour_line(out, number, hour, valued)?;
         hour = hour + 1;
     }
+    Ok(())
 }
 
 // The lines of all accounts.
-fn show_accounts(book: &[u8], prices: &[u8], energy: &[u32], charges: &[u64])
+fn show_accounts<W: Write>(
+    out: &mut W,
+    book: &[u8],
+    prices: &[u8],
+    energy: &[u32],
+    charges: &[u64],
+) -> Result<()>
     requires priced { Priced book.now prices.now }
     requires all_registered { AllRegistered book.now prices.now energy.now charges.now }
 {
     let n = counts(book);
     let mut number: u8 = 1;
     while number <= n.accounts {
-        show_account(book, prices, energy, charges, number);
+        show_account(out, book, prices, energy, charges, number)?;
         number = number + 1;
     }
+    Ok(())
 }
 
 // Judges the schedules in their order and values each account hour.
-fn show_in_order(book: &[u8], prices: &[u8], order: [Placed; MOST_SCHEDULES], n: usize)
+fn show_in_order<W: Write>(
+    out: &mut W,
+    book: &[u8],
+    prices: &[u8],
+    order: [Placed; MOST_SCHEDULES],
+    n: usize,
+) -> Result<()>
     requires { Priced book.now prices.now × InOrder book.now order n }
 {
     let mut results = no_results();
@@ -61,35 +83,36 @@ fn show_in_order(book: &[u8], prices: &[u8], order: [Placed; MOST_SCHEDULES], n:
         &mut charges,
         &mut results,
     );
-    show_accounts(book, prices, &energy, &charges);
+    show_accounts(out, book, prices, &energy, &charges)
 }
 
 // The lines of a book at a price table for it.
-fn show_valued(book: &[u8], prices: &[u8])
+fn show_valued<W: Write>(out: &mut W, book: &[u8], prices: &[u8]) -> Result<()>
     requires { Priced book.now prices.now }
 {
     let n = schedule_count(book) as usize;
     let order = prioritised_in(book, n);
-    show_in_order(book, prices, order, n);
+    show_in_order(out, book, prices, order, n)
 }
 
 // The lines of a book, where the price table is one for it.
-fn show_priced(book: &[u8], prices: &[u8])
+fn show_priced<W: Write>(out: &mut W, book: &[u8], prices: &[u8]) -> Result<()>
     requires { is_sound book.now ≡ true }
 {
     let n = price_count(book);
     if prices.len() != PRICE_WIDTH * n {
-        return;
+        return Ok(());
     }
     if too_high(prices, n) {
-        return;
+        return Ok(());
     }
-    show_valued(book, prices);
+    show_valued(out, book, prices)
 }
 
 // The lines of every account hour: none where the bytes are no book, or the price table is not one for it.
-pub fn show_hours(prices: &[u8], book: &[u8]) {
+pub fn show_hours<W: Write>(out: &mut W, prices: &[u8], book: &[u8]) -> Result<()> {
     if is_book(book) {
-        show_priced(book, prices);
+        show_priced(out, book, prices)?;
     }
+    Ok(())
 }

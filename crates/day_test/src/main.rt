@@ -1,62 +1,69 @@
 // Runs the cases on standard input: opens books, calls, reads, and prints what the public functions answer and whether a refused call
 // changed a byte; values account hours. tests/README.md has the form of a case; tests/days makes the input and what is to be printed.
 #![tactic(auto)]
+
 mod cases;
 mod hours;
 
 use cases::BOOK_SIZE;
-use libc::STDIN_FILENO;
-use test_lines::HEAD;
+use std::io::{BufWriter, Read, Result, Write, writer};
+use test_lines::{HEAD, read_full};
 use wire::numbers::get_u16;
 
 // No input has more cases.
 const MOST_CASES: u32 = 1_000_000;
 
 // Reads the body of a case, as many bytes as its head says.
-fn read_body(size: u16, body: &mut [u8]) {
+fn read_body<R: Read>(from: &mut R, size: u16, body: &mut [u8]) -> Result<()> {
     let n = io::count(size as isize, body);
-    io::read_full(STDIN_FILENO, &mut body[..n]);
+    read_full(from, &mut body[..n])?;
+    Ok(())
 }
 
 // Runs the next case. False where none is left.
-fn run_next(
+fn run_next<R: Read, W: Write>(
+    from: &mut R,
+    out: &mut W,
     head: &mut [u8],
     body: &mut [u8],
     book: &mut [u8],
     remembered: &mut [u8],
     before: &mut [u8],
-) -> bool {
-    if io::read_full(STDIN_FILENO, head) < HEAD {
-        return false;
+) -> Result<bool> {
+    if read_full(from, head)? < HEAD {
+        return Ok(false);
     }
     if head.len() < HEAD {
-        return false;
+        return Ok(false);
     }
     let size = get_u16(head, 1);
-    read_body(size, body);
+    read_body(from, size, body)?;
     let n = io::count(size as isize, body);
-    cases::run(head[0], &body[..n], book, remembered, before);
-    true
+    cases::run(out, head[0], &body[..n], book, remembered, before)?;
+    Ok(true)
 }
 
-fn run_cases(
+fn run_cases<R: Read, W: Write>(
+    from: &mut R,
+    out: &mut W,
     head: &mut [u8],
     body: &mut [u8],
     book: &mut [u8],
     remembered: &mut [u8],
     before: &mut [u8],
-) {
+) -> Result<()> {
     let mut left = MOST_CASES;
     while 0 < left {
-        if run_next(head, body, book, remembered, before) {
+        if run_next(from, out, head, body, book, remembered, before)? {
             left = left - 1;
         } else {
             left = 0;
         }
     }
+    Ok(())
 }
 
-fn main() {
+fn main(rt: HostRuntime) -> Result<()> {
     let mut head = [0; HEAD];
     let mut body = io::large_buffer();
     let mut book = io::large_buffer();
@@ -65,11 +72,16 @@ fn main() {
     let n = io::count(BOOK_SIZE, &book);
     let m = io::count(BOOK_SIZE, &remembered);
     let k = io::count(BOOK_SIZE, &before);
+    let mut from = rt.reader();
+    let mut out = BufWriter::new(rt.alloc(), writer(&rt))?;
     run_cases(
+        &mut from,
+        &mut out,
         &mut head,
         &mut body,
         &mut book[..n],
         &mut remembered[..m],
         &mut before[..k],
-    );
+    )?;
+    out.flush()
 }

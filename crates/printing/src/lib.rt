@@ -1,5 +1,6 @@
-// A replay on standard output: opens the book of a stream's set-up, answers each item, and writes the lines that they print.
+// A replay on a writer: opens the book of a stream's set-up, answers each item, and writes the lines that they print.
 #![tactic(auto)]
+
 ghost use Rattle.std.specs.Prelude.{◌≡◌, ◌+◌, ◌≤◌, length};
 ghost use Rattle.rules.specs.Limits.{book_size, longest_stream};
 ghost use Rattle.replaying.specs.Lent.{step_room};
@@ -10,6 +11,7 @@ use image::layout::BOOK_SIZE;
 use replaying::Gathered;
 use replaying::gathering::{gather, gather_first};
 use replaying::steps::STREAM_ROOM;
+use std::io::{Read, Write};
 
 // Bytes of lines that are written together; those of any step fit in.
 const LINES_ROOM: usize = 65_536;
@@ -42,21 +44,27 @@ pub struct Input {
     pub failed: bool,
 }
 
-// Reads standard input until it ends, the buffer is full, or a read fails.
-pub fn read_stream(space: &mut [u8]) -> Input
+// Reads until the input ends, the buffer is full, or a read fails.
+pub fn read_stream<R: Read>(from: &mut R, space: &mut [u8]) -> Input
     ensures { IsPrefixLen result.length space.new }
 {
     let mut filled = 0;
     while filled < space.len() {
-        let got = libc::read(libc::STDIN_FILENO, &mut space[filled..]);
-        let more = io::count(got, &space[filled..]);
-        if more == 0 {
-            return Input {
-                length: filled,
-                failed: got < 0,
-            };
+        match from.read(&mut space[filled..]) {
+            Ok(0) => {
+                return Input {
+                    length: filled,
+                    failed: false,
+                };
+            }
+            Ok(more) => filled += more,
+            Err(_) => {
+                return Input {
+                    length: filled,
+                    failed: true,
+                };
+            }
         }
-        filled += more;
     }
     Input {
         length: filled,
@@ -65,26 +73,26 @@ pub fn read_stream(space: &mut [u8]) -> Input
 }
 
 // Writes the gathered lines, and says whether all were written.
-fn write_lines(out: &[u8], gathered: Gathered) -> bool
+fn write_lines<W: Write>(to: &mut W, out: &[u8], gathered: Gathered) -> bool
     requires { gathered.end ≤ length out.now }
 {
     let end = gathered.end;
-    io::write_all(libc::STDOUT_FILENO, &out[..end])
+    to.write_all(&out[..end]).is_ok()
 }
 
 // Replays a stream, in bytes lent for its book and for the lines that are written together. Says whether all lines were written: a write that
 // fails ends the replay.
-pub fn replay_day(stream: &[u8], book: &mut [u8], out: &mut [u8]) -> bool
+pub fn replay_day<W: Write>(to: &mut W, stream: &[u8], book: &mut [u8], out: &mut [u8]) -> bool
     requires { (length book.old ≡ book_size) × (step_room ≤ length out.old) }
     ensures { Replayed stream.now book.old out.old book.new out.new result }
 {
     let first = gather_first(stream, book, out);
     let mut gathered = gather(stream, first, book, out);
-    let mut written = write_lines(out, gathered);
+    let mut written = write_lines(to, out, gathered);
     while written & gathered.goes_on {
         gathered.end = 0;
         gathered = gather(stream, gathered, book, out);
-        written = write_lines(out, gathered);
+        written = write_lines(to, out, gathered);
     }
     written
 }

@@ -6,6 +6,7 @@ use records::reader::read;
 use records::writer::write;
 use rules::verdicts::{outcome_numbers, refusal_numbers};
 use rules::{Checked, Counts, Numbers, Reading, Request};
+use std::io::{Result, Write};
 use test_lines::{HEAD, begin, bytes, end, number, verdict};
 use units::{Cents, CentsPerMwh, Kwh};
 use wire::numbers::{get_u16, get_u32, get_u64};
@@ -17,10 +18,10 @@ const ROOM: u8 = 24;
 const REQUEST: usize = 34;
 
 // A line with a verdict.
-fn put_numbers(tag: u8, n: Numbers) {
-    begin(tag);
-    verdict(n);
-    end();
+fn put_numbers<W: Write>(out: &mut W, tag: u8, n: Numbers) -> Result<()> {
+    begin(out, tag)?;
+    verdict(out, n)?;
+    end(out)
 }
 
 // The numbers of a row of checks: 0 is acceptance.
@@ -40,60 +41,60 @@ fn wide(x: u32) -> u64 {
 }
 
 // The fields of bits 0 to 7.
-fn trade_fields(q: Request) {
-    number(q.kind as u64);
-    number(q.account as u64);
-    number(q.other as u64);
-    number(q.code);
-    number(q.side as u64);
-    number(q.first as u64);
-    number(q.last as u64);
-    number(wide(q.quantity.0));
+fn trade_fields<W: Write>(out: &mut W, q: Request) -> Result<()> {
+    number(out, q.kind as u64)?;
+    number(out, q.account as u64)?;
+    number(out, q.other as u64)?;
+    number(out, q.code)?;
+    number(out, q.side as u64)?;
+    number(out, q.first as u64)?;
+    number(out, q.last as u64)?;
+    number(out, wide(q.quantity.0))
 }
 
 // The fields of bits 8 to 12.
-fn other_fields(q: Request) {
-    number(q.number as u64);
-    number(q.operator as u64);
-    number(q.guarantee.0);
-    number(q.point as u64);
-    number(wide(q.price.0));
+fn other_fields<W: Write>(out: &mut W, q: Request) -> Result<()> {
+    number(out, q.number as u64)?;
+    number(out, q.operator as u64)?;
+    number(out, q.guarantee.0)?;
+    number(out, q.point as u64)?;
+    number(out, wide(q.price.0))
 }
 
 // The fields of a request in the order of the bits.
-fn show_fields(q: Request) {
-    begin(b'f');
-    trade_fields(q);
-    other_fields(q);
-    end();
+fn show_fields<W: Write>(out: &mut W, q: Request) -> Result<()> {
+    begin(out, b'f')?;
+    trade_fields(out, q)?;
+    other_fields(out, q)?;
+    end(out)
 }
 
 // A request written into the first bytes of the buffer, as many as there is room for, and all of the buffer after it.
-fn write_within(q: Request, room: u8, buffer: &mut [u8]) {
+fn write_within<W: Write>(out: &mut W, q: Request, room: u8, buffer: &mut [u8]) -> Result<()> {
     let lent = io::count(room as isize, buffer);
     let outcome = write(q, &mut buffer[..lent]);
-    begin(b'w');
-    verdict(outcome_numbers(outcome));
-    bytes(buffer);
-    end();
+    begin(out, b'w')?;
+    verdict(out, outcome_numbers(outcome))?;
+    bytes(out, buffer)?;
+    end(out)
 }
 
 // A request written into a buffer of which every byte is known.
-fn show_written(q: Request, room: u8) {
+fn show_written<W: Write>(out: &mut W, q: Request, room: u8) -> Result<()> {
     let mut buffer = [0xAA; 24];
-    write_within(q, room, &mut buffer);
+    write_within(out, q, room, &mut buffer)
 }
 
 // A record: read, and where it is accepted compared with the counts and written again.
-fn show_record(record: &[u8], counts: Counts) {
+fn show_record<W: Write>(out: &mut W, record: &[u8], counts: Counts) -> Result<()> {
     let reading = read(record);
     match reading {
-        Reading::Unread(r) => put_numbers(b'r', refusal_numbers(r)),
+        Reading::Unread(r) => put_numbers(out, b'r', refusal_numbers(r)),
         Reading::Read(q) => {
-            put_numbers(b'r', checked_numbers(Checked::Clear));
-            show_fields(q);
-            put_numbers(b'c', checked_numbers(check_ranges(q, counts)));
-            show_written(q, ROOM);
+            put_numbers(out, b'r', checked_numbers(Checked::Clear))?;
+            show_fields(out, q)?;
+            put_numbers(out, b'c', checked_numbers(check_ranges(q, counts)))?;
+            show_written(out, q, ROOM)
         }
     }
 }
@@ -120,43 +121,43 @@ fn request(s: &[u8]) -> Request
 }
 
 // A request, written into as many bytes as the first says.
-fn show_writing(body: &[u8]) {
+fn show_writing<W: Write>(out: &mut W, body: &[u8]) -> Result<()> {
     if body.len() < 1 + REQUEST {
-        return;
+        return Ok(());
     }
     let room = body[0];
-    show_written(request(&body[1..]), room);
+    show_written(out, request(&body[1..]), room)
 }
 
 // The counts that later records are compared with.
-fn show_counts(body: &[u8], before: Counts) -> Counts {
+fn show_counts<W: Write>(out: &mut W, body: &[u8], before: Counts) -> Result<Counts> {
     if body.len() < 5 {
-        return before;
+        return Ok(before);
     }
     let n = setup::counts::counts(body);
-    begin(b'n');
-    number(n.hours as u64);
-    number(n.operators as u64);
-    number(n.accounts as u64);
-    number(n.points as u64);
-    number(n.zones as u64);
-    end();
-    n
+    begin(out, b'n')?;
+    number(out, n.hours as u64)?;
+    number(out, n.operators as u64)?;
+    number(out, n.accounts as u64)?;
+    number(out, n.points as u64)?;
+    number(out, n.zones as u64)?;
+    end(out)?;
+    Ok(n)
 }
 
 // A case. Gives the counts for the cases after it.
-pub fn run(case: &[u8], counts: Counts) -> Counts {
+pub fn run<W: Write>(out: &mut W, case: &[u8], counts: Counts) -> Result<Counts> {
     if case.len() < HEAD {
-        return counts;
+        return Ok(counts);
     }
     let tag = case[0];
     let body = &case[HEAD..];
     match tag {
-        b'n' => return show_counts(body, counts),
-        b'r' => show_record(body, counts),
-        b's' => put_numbers(b's', checked_numbers(setup::fault::fault(body))),
-        b'w' => show_writing(body),
-        _ => begin(b'?'),
+        b'n' => return show_counts(out, body, counts),
+        b'r' => show_record(out, body, counts)?,
+        b's' => put_numbers(out, b's', checked_numbers(setup::fault::fault(body)))?,
+        b'w' => show_writing(out, body)?,
+        _ => begin(out, b'?')?,
     }
-    counts
+    Ok(counts)
 }

@@ -1,12 +1,14 @@
 // Runs the cases on standard input and prints what the record reader, the range checks, the record writer and the set-up's check
 // say of each. tests/README.md has the form of a case; tests/paper.py makes the input and what is to be printed.
 #![tactic(auto)]
+
 mod cases;
 
 use rules::Counts;
-use test_lines::case_end;
+use std::io::{BufWriter, Result, Write, writer};
+use test_lines::{case_end, read_full};
 
-fn run_cases(input: &[u8]) {
+fn run_cases<W: Write>(out: &mut W, input: &[u8]) -> Result<()> {
     let mut counts = Counts {
         hours: 0,
         operators: 0,
@@ -17,13 +19,16 @@ fn run_cases(input: &[u8]) {
     let mut at = 0;
     while at < input.len() {
         let end = case_end(input, at);
-        counts = cases::run(&input[at..end], counts);
+        counts = cases::run(out, &input[at..end], counts)?;
         at = end;
     }
+    Ok(())
 }
 
-fn main() {
+fn main(rt: HostRuntime) -> Result<()> {
     let mut space = io::large_buffer();
-    let n = io::read_full(libc::STDIN_FILENO, &mut space);
-    run_cases(&space[..n]);
+    let n = read_full(&mut rt.reader(), &mut space)?;
+    let mut out = BufWriter::new(rt.alloc(), writer(&rt))?;
+    run_cases(&mut out, &space[..n])?;
+    out.flush()
 }

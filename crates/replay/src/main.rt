@@ -1,23 +1,25 @@
 // Replays the day on standard input.
 #![tactic(auto)]
-use printing::{book_buffer, line_buffer, read_stream, replay_day, stream_buffer};
 
-// Says on standard error what failed.
-fn complain(line: &[u8]) {
-    io::write_all(libc::STDERR_FILENO, line);
+use printing::{book_buffer, line_buffer, read_stream, replay_day, stream_buffer};
+use std::io::writer;
+
+// Says on standard error what failed. Nothing is left to do where that fails too.
+fn complain(rt: &impl Eprint, line: &str) {
+    let _ = rt.eprintln(line);
 }
 
-fn main() {
+fn main(rt: HostRuntime) {
     let mut space = stream_buffer();
     let mut book = book_buffer();
     let mut out = line_buffer();
-    let input = read_stream(&mut space);
+    let input = read_stream(&mut rt.reader(), &mut space);
     if input.failed {
-        complain(b"replay: reading standard input failed\n");
+        complain(&rt, "replay: reading standard input failed");
         return;
     }
     let n = input.length;
-    if !replay_day(&space[..n], &mut book, &mut out) {
-        complain(b"replay: writing standard output failed\n");
+    if !replay_day(&mut writer(&rt), &space[..n], &mut book, &mut out) {
+        complain(&rt, "replay: writing standard output failed");
     }
 }

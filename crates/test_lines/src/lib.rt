@@ -1,10 +1,12 @@
 // What the test programs share: the cases on standard input and the lines on standard output. tests/README.md has their form.
 #![tactic(auto)]
-ghost use Rattle.std.specs.Prelude.{◌<◌, ◌≤◌, length};
 
-use libc::STDOUT_FILENO;
+ghost use Rattle.std.specs.Prelude.{◌<◌, ◌≤◌, length, IfOk};
+ghost use Rattle.io.specs.Counts.{IsPrefixLen};
+
 use rules::verdicts::refusal_numbers;
 use rules::{ExposureReading, NetReading, Numbers, Position, ValuedHour};
+use std::io::{Read, Result, Write};
 use wire::numbers::get_u16;
 
 // The bytes of a case before its body: a tag and a length.
@@ -26,62 +28,74 @@ pub fn case_end(input: &[u8], at: usize) -> usize
     at + HEAD + size
 }
 
+// Reads until the buffer is full or the input ends, and says how many bytes it put at the front.
+pub fn read_full<R: Read>(from: &mut R, buffer: &mut [u8]) -> Result<usize>
+    ensures { IfOk result (λ n. IsPrefixLen n buffer.new) }
+{
+    let mut filled = 0;
+    while filled < buffer.len() {
+        let more = from.read(&mut buffer[filled..])?;
+        if more == 0 {
+            return Ok(filled);
+        }
+        filled += more;
+    }
+    Ok(filled)
+}
+
 // Begins a line.
-pub fn begin(tag: u8) {
-    io::write_all(STDOUT_FILENO, &[tag]);
+pub fn begin<W: Write>(out: &mut W, tag: u8) -> Result<()> {
+    out.write_all(&[tag])
 }
 
 // A number of a line.
-pub fn number(n: u64) {
-    io::write_all(STDOUT_FILENO, b" ");
-    io::print_decimal(STDOUT_FILENO, n);
+pub fn number<W: Write>(out: &mut W, n: u64) -> Result<()> {
+    write!(out, " {n}")
 }
 
 // A byte of a line, as a number.
-pub fn small(n: u8) {
-    number(n as u64);
+pub fn small<W: Write>(out: &mut W, n: u8) -> Result<()> {
+    number(out, n as u64)
 }
 
 // A number below zero of a line.
-pub fn negative(n: u64) {
-    io::write_all(STDOUT_FILENO, b" -");
-    io::print_decimal(STDOUT_FILENO, n);
+pub fn negative<W: Write>(out: &mut W, n: u64) -> Result<()> {
+    write!(out, " -{n}")
 }
 
 // A number of a line with its sign: the difference of two.
-fn difference(plus: u64, minus: u64) {
+fn difference<W: Write>(out: &mut W, plus: u64, minus: u64) -> Result<()> {
     if plus < minus {
-        negative(minus - plus);
+        negative(out, minus - plus)
     } else {
-        number(plus - minus);
+        number(out, plus - minus)
     }
 }
 
 // Ends a line.
-pub fn end() {
-    io::write_all(STDOUT_FILENO, b"\n");
+pub fn end<W: Write>(out: &mut W) -> Result<()> {
+    out.write_all(b"\n")
 }
 
 // A verdict of a line.
-pub fn verdict(n: Numbers) {
-    number(n.number as u64);
-    number(n.first as u64);
-    number(n.second as u64);
+pub fn verdict<W: Write>(out: &mut W, n: Numbers) -> Result<()> {
+    number(out, n.number as u64)?;
+    number(out, n.first as u64)?;
+    number(out, n.second as u64)
 }
 
 // A byte in hexadecimal.
-fn byte(b: u8) {
-    io::print_hex(STDOUT_FILENO, b as u64, 2);
+fn byte<W: Write>(out: &mut W, b: u8) -> Result<()> {
+    write!(out, "{b:02x}")
 }
 
 // Bytes of a line, in hexadecimal.
-pub fn bytes(s: &[u8]) {
-    io::write_all(STDOUT_FILENO, b" ");
-    let mut i = 0;
-    while i < s.len() {
-        byte(s[i]);
-        i = i + 1;
+pub fn bytes<W: Write>(out: &mut W, s: &[u8]) -> Result<()> {
+    out.write_all(b" ")?;
+    for b in s {
+        byte(out, *b)?;
     }
+    Ok(())
 }
 
 const ACCEPTED: Numbers = Numbers {
@@ -91,64 +105,69 @@ const ACCEPTED: Numbers = Numbers {
 };
 
 // A net position of a line, with its sign.
-fn position(p: Position) {
+fn position<W: Write>(out: &mut W, p: Position) -> Result<()> {
     match p {
-        Position::Long(energy) => number(energy.0 as u64),
-        Position::Short(energy) => negative(energy.0 as u64),
+        Position::Long(energy) => number(out, energy.0 as u64),
+        Position::Short(energy) => negative(out, energy.0 as u64),
     }
 }
 
 // The line of a net position that was read.
-pub fn net_line(account: u8, hour: u8, reading: NetReading) {
-    begin(b'a');
-    small(account);
-    small(hour);
+pub fn net_line<W: Write>(out: &mut W, account: u8, hour: u8, reading: NetReading) -> Result<()> {
+    begin(out, b'a')?;
+    small(out, account)?;
+    small(out, hour)?;
     match reading {
-        NetReading::Unread(r) => verdict(refusal_numbers(r)),
+        NetReading::Unread(r) => verdict(out, refusal_numbers(r))?,
         NetReading::Read(p) => {
-            verdict(ACCEPTED);
-            position(p);
+            verdict(out, ACCEPTED)?;
+            position(out, p)?;
         }
     }
-    end();
+    end(out)
 }
 
 // What is left of the line of an exposure that was read.
-fn exposure_rest(reading: ExposureReading) {
+fn exposure_rest<W: Write>(out: &mut W, reading: ExposureReading) -> Result<()> {
     match reading {
-        ExposureReading::Unread(r) => verdict(refusal_numbers(r)),
+        ExposureReading::Unread(r) => verdict(out, refusal_numbers(r))?,
         ExposureReading::Read(m) => {
-            verdict(ACCEPTED);
-            number(m.0);
+            verdict(out, ACCEPTED)?;
+            number(out, m.0)?;
         }
     }
-    end();
+    end(out)
 }
 
 // The line of an exposure that was read.
-pub fn exposure_line(operator: u8, reading: ExposureReading) {
-    begin(b'e');
-    small(operator);
-    exposure_rest(reading);
+pub fn exposure_line<W: Write>(out: &mut W, operator: u8, reading: ExposureReading) -> Result<()> {
+    begin(out, b'e')?;
+    small(out, operator)?;
+    exposure_rest(out, reading)
 }
 
 // The line of an exposure in an hour that was read.
-pub fn hourly_exposure_line(operator: u8, hour: u8, reading: ExposureReading) {
-    begin(b'i');
-    small(operator);
-    small(hour);
-    exposure_rest(reading);
+pub fn hourly_exposure_line<W: Write>(
+    out: &mut W,
+    operator: u8,
+    hour: u8,
+    reading: ExposureReading,
+) -> Result<()> {
+    begin(out, b'i')?;
+    small(out, operator)?;
+    small(out, hour)?;
+    exposure_rest(out, reading)
 }
 
 // The line of an account hour: physical balance, purchase, sale, CCT and hourly amount.
-pub fn hour_line(account: u8, hour: u8, x: ValuedHour) {
-    begin(b'h');
-    small(account);
-    small(hour);
-    difference(x.physical.bought.0 as u64, x.physical.sold.0 as u64);
-    number(x.purchase.0);
-    number(x.sale.0);
-    difference(x.cct.gained.0, x.cct.lost.0);
-    difference(x.amount.gained.0, x.amount.lost.0);
-    end();
+pub fn hour_line<W: Write>(out: &mut W, account: u8, hour: u8, x: ValuedHour) -> Result<()> {
+    begin(out, b'h')?;
+    small(out, account)?;
+    small(out, hour)?;
+    difference(out, x.physical.bought.0 as u64, x.physical.sold.0 as u64)?;
+    number(out, x.purchase.0)?;
+    number(out, x.sale.0)?;
+    difference(out, x.cct.gained.0, x.cct.lost.0)?;
+    difference(out, x.amount.gained.0, x.amount.lost.0)?;
+    end(out)
 }
