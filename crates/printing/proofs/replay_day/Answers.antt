@@ -1,0 +1,20 @@
+use Rattle.std.proofs.Common.{rules, refl, ◌≡◌, arith, ◌∙◌}
+use Rattle.printing.proofs.RoundLaws.{led_none, led_on, replayed}
+use Rattle.printing.proofs.replay_day.Goals as goal
+
+-- src/lib.rt:92:5
+pub loop-written-init : goal.loop-written-init
+loop-written-init g c = (led_none _ _, c.gather-gathered.ensures.follows.underway, omega arith, refl, refl)
+
+-- src/lib.rt:92:5
+pub loop-written-preserved : goal.loop-written-preserved
+loop-written-preserved g c =
+    let round = c.gather-gathered-in-loop-written.ensures in
+    (led_on _ c.loop-written.invariant.0 round.left round.follows, round.follows.underway, omega arith, omega arith, omega arith)
+
+-- src/lib.rt:85:1
+pub returns : goal.returns
+returns g c =
+    let first = c.gather_first-first.ensures in
+    let round = c.gather-gathered.ensures in
+    replayed _ _ _ _ first.left round.left (round.follows.whole ∙ first.whole) c.loop-written.invariant.0 c.loop-written-test.false
