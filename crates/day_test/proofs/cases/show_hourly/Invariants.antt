@@ -1,5 +1,5 @@
 -- The measure is how many hours may still come.
-use Rattle.std.proofs.Common.{◌+◌, ◌-◌, ◌≤◌}
+use Rattle.std.proofs.Common.{◌-◌, ◌≤◌}
 use Rattle.day_test.proofs.cases.show_hourly.Given as goal
 
 abbrev pub invariant-loop-hour : goal.invariant-loop-hour
