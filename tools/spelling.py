@@ -117,12 +117,36 @@ def dashed(name, functions):
     return out
 
 
+INNER = re.compile(
+    r"(?m)^\s*(?:(?:abbrev|unfoldable|pub)\s+)*([a-z][^\s(){}\[\],;:.]*)"
+    r"(?:\s*(?:\([^()]*(?:\([^()]*\)[^()]*)*\)|\{[^{}]*\}))*\s*:\s"
+)
+
+
+def inner_names(texts):
+    """What the first turn left: names declared further in, whose dashes join no two definitions."""
+    defined, functions = set(), set(LIBRARY)
+    for p, t in texts.items():
+        if not p.endswith(".antt") or os.path.basename(p) in ("Proof.antt", "Answers.antt", "Invariants.antt"):
+            continue
+        u = uncommented(t, p)
+        defined.update(n for n in INNER.findall(u) if "-" in n)
+        if "/specs/" in p and "/Examples/" not in p:
+            functions.update(m.group(2) for m in HEAD.finditer(u) if "-" not in m.group(2))
+    new = {n: dashed(n, functions) for n in defined - imported(texts)}
+    taken = {m for p, t in texts.items() if p.endswith(".antt") for m in TOKEN.findall(uncommented(t, p))}
+    plain = {"only-asks", "energy-of", "inside-batch", "outside-batch"}  # fields, or beside nothing of that name
+    return {o: n + "_lem" if n in taken and o not in plain else n for o, n in new.items() if o != n}
+
+
 def respelled(text, path, whole, part):
     u = uncommented(text, path)
     out, at = [], 0
     for m in TOKEN.finditer(u):
         n = m.group(0)
-        if m.start() and u[m.start() - 1] == ".":
+        if u[max(0, m.start() - 3) : m.start()] in (" c.", "(c."):
+            to = part.get(n) if whole is not part else None  # a step, whose name Rattle makes
+        elif m.start() and u[m.start() - 1] == ".":
             to = part.get(n) or (re.search("[A-Z]", n) and "-" not in n and whole.get(n)) or None
         elif path.endswith(".rt") and n == n.lower() and "-" not in n:
             to = None  # a function of src/, which keeps its name
@@ -149,6 +173,14 @@ def main(argv):
         for o, n in sorted(part.items()):
             print("field", o, n, "ALSO " + whole[o] if o in whole and whole[o] != n else "")
         return 0
+    turn(texts, whole, part)
+    texts = read(".")
+    inner = inner_names(texts)
+    turn(texts, inner, inner)
+    return 0
+
+
+def turn(texts, whole, part):
     both = dict(part) | whole
     for p, t in texts.items():
         if not p.endswith(".edit"):
@@ -160,7 +192,6 @@ def main(argv):
         with open(p, encoding="utf-8") as f:
             t = f.read()
         write(p, t, re.sub(r"`[^`\n]+`", lambda m: TOKEN.sub(lambda n: both.get(n.group(0), n.group(0)), m.group(0)), t))
-    return 0
 
 
 def write(path, old, new):

@@ -33,7 +33,7 @@ use Rattle.book.proofs.StateLaws.{book_image, book_length, book_ok_lem, book_is_
 use Rattle.book.proofs.Answers.{in_wrong_phase}
 use Rattle.registration.specs.Proposing.{Proposing}
 use Rattle.registration.specs.Cover.{covered_with_row}
-use Rattle.registration.proofs.RegisterLaws.{no_number_left, margin_breaks, row-uncovered, covered-with-row}
+use Rattle.registration.proofs.RegisterLaws.{no_number_left, margin_breaks, row_uncovered, covered_with_row_lem}
 use Rattle.image.specs.Image.{asked_for}
 use Rattle.asks.specs.Standing.{some_ask_twin}
 use Rattle.asks.proofs.PlaceLaws.{asked_pending, cleared_written}
@@ -63,23 +63,23 @@ module _ (s : List ℕ) (h : is_sound s ≡ true) where
 
   module _ (a : ℕ) (r : Row) (low : 1 ≤ a) (high : a ≤ most_accounts) (held : ask_at (book_in s) a ≡ asked_for r) where
     -- a place without an ask passes
-    pub none-stands : r.status ≡ 0 → true ≡ ask_stands (book_in s) (ask_at (book_in s) a)
-    none-stands e = rw (held, eq-eqb r.status 0 e)
+    pub none_stands : r.status ≡ 0 → true ≡ ask_stands (book_in s) (ask_at (book_in s) a)
+    none_stands e = rw (held, eq-eqb r.status 0 e)
 
     module _ (other : r.status ≡ 0 → ⊥) where
       there : ask_at (book_in s) a ≡ some r
       there = held ∙ rw (ne_eqb r.status 0 other)
 
       -- its row is a pending one of the book
-      pub ask-row : AskRow (book_in s).setup a r
-      ask-row = asked_pending s h a r low high there
+      pub ask_row : AskRow (book_in s).setup a r
+      ask_row = asked_pending s h a r low high there
 
-      pub ask-in-range : row_ok (book_in s).setup r ≡ true
-      ask-in-range = row_sound (book_in s).setup r ask-row.row_sound
+      pub ask_in_range : row_ok (book_in s).setup r ≡ true
+      ask_in_range = row_sound (book_in s).setup r ask_row.row_sound
 
       -- and the one that its register proposes
-      proposes-it : proposed (register_of r) ≡ r
-      proposes-it = ap (λ (n : ℕ). with_status n r) (sym (eqb-true r.status 1 ask-row.waits))
+      proposes_it : proposed (register_of r) ≡ r
+      proposes_it = ap (λ (n : ℕ). with_status n r) (sym (eqb-true r.status 1 ask_row.waits))
 
       -- register would accept it, or not
       passes : decided register (book_in s) (register_of r) ≡ none → true ≡ ask_stands (book_in s) (ask_at (book_in s) a)
@@ -91,33 +91,33 @@ module _ (s : List ℕ) (h : is_sound s ≡ true) where
       falls why e = rw there (sym (ap (λ (o : Option Refusal). not (is_some o)) e))
 
       -- past the phase of registration register would refuse it
-      pub later-falls : ((book_in s).phase ≡ 1 → ⊥) → false ≡ ask_stands (book_in s) (ask_at (book_in s) a)
-      later-falls n = falls _ (in_wrong_phase (book_in s) (register_of r) register n)
+      pub later_falls : ((book_in s).phase ≡ 1 → ⊥) → false ≡ ask_stands (book_in s) (ask_at (book_in s) a)
+      later_falls n = falls _ (in_wrong_phase (book_in s) (register_of r) register n)
 
       module _ (alone : some_ask_twin (book_in s) ≡ false) (first : (book_in s).phase ≡ 1) where
         no_twin : any_passes (alike r.proposer r.counterparty r.code) (book_in s).part.rows ≡ false
-        no_twin = none_twin (book_in s) alone r (ap (ask_at (book_in s)) ask-row.own ∙ there)
+        no_twin = none_twin (book_in s) alone r (ap (ask_at (book_in s)) ask_row.own ∙ there)
 
         -- and where no number is left
-        pub full-falls : most_rows ≤ length (book_in s).part.rows → false ≡ ask_stands (book_in s) (ask_at (book_in s) a)
-        full-falls full = falls _ (no_number_left (book_in s) (register_of r) first no_twin full)
+        pub full_falls : most_rows ≤ length (book_in s).part.rows → false ≡ ask_stands (book_in s) (ask_at (book_in s) a)
+        full_falls full = falls _ (no_number_left (book_in s) (register_of r) first no_twin full)
 
         module _ (room : length (book_in s).part.rows < most_rows) where
-          proposing-it : Proposing (book_in s) (register_of r)
-          proposing-it =
-              record { proposes = rw proposes-it ask-in-range; in_registration = first; no_twin = no_twin; has_room = room }
+          proposing_it : Proposing (book_in s) (register_of r)
+          proposing_it =
+              record { proposes = rw proposes_it ask_in_range; in_registration = first; no_twin = no_twin; has_room = room }
 
           -- and where it breaks a margin
-          pub broken-falls : not (is_some (broken_by (book_in s).setup (book_in s).part.rows (r ∷ []) r.proposer)) ≡ false
+          pub broken_falls : not (is_some (broken_by (book_in s).setup (book_in s).part.rows (r ∷ []) r.proposer)) ≡ false
               → false ≡ ask_stands (book_in s) (ask_at (book_in s) a)
-          broken-falls e =
+          broken_falls e =
               let (hour, found) = some_of (broken_by (book_in s).setup (book_in s).part.rows (r ∷ []) r.proposer) (not-false _ e) in
-              falls _ (margin_breaks (book_in s) (register_of r) proposing-it hour (rw proposes-it found))
+              falls _ (margin_breaks (book_in s) (register_of r) proposing_it hour (rw proposes_it found))
 
           -- else the guarantee decides
-          pub covered-decides : not (is_some (broken_by (book_in s).setup (book_in s).part.rows (r ∷ []) r.proposer)) ≡ true → (t : Bool)
+          pub covered_decides : not (is_some (broken_by (book_in s).setup (book_in s).part.rows (r ∷ []) r.proposer)) ≡ true → (t : Bool)
               → t ≡ covered_with_row (book_in s) r (operator_of (book_in s).setup r.proposer) → t ≡ ask_stands (book_in s) (ask_at (book_in s) a)
-          covered-decides kept true test =
-              passes (covered-with-row (book_in s) (register_of r) proposing-it (rw proposes-it (none_of _ (not-true _ kept))) true (rw proposes-it test) refl)
-          covered-decides kept false test =
-              falls _ (row-uncovered (book_in s) (register_of r) proposing-it (rw proposes-it (none_of _ (not-true _ kept))) false (rw proposes-it test) refl)
+          covered_decides kept true test =
+              passes (covered_with_row_lem (book_in s) (register_of r) proposing_it (rw proposes_it (none_of _ (not-true _ kept))) true (rw proposes_it test) refl)
+          covered_decides kept false test =
+              falls _ (row_uncovered (book_in s) (register_of r) proposing_it (rw proposes_it (none_of _ (not-true _ kept))) false (rw proposes_it test) refl)

@@ -63,32 +63,32 @@ module _ (b : Book) where
 
   -- where every ask stands, none has one
   module _ (stand : asks_stand b ≡ true) where
-    free-of-twins : (a : ℕ) (x : Row) → 1 ≤ a → a ≤ most_accounts → ask_at b a ≡ some x
+    free_of_twins : (a : ℕ) (x : Row) → 1 ≤ a → a ≤ most_accounts → ask_at b a ≡ some x
         → any_passes (has_twin b.part.rows) (register_of x ∷ []) ≡ false
     unfolding asks_stand would_register
-    free-of-twins a x low high e =
+    free_of_twins a x low high e =
         let accepts : would_register b x ≡ true = ap (ask_stands b) (sym e) ∙ every_up_to (λ a. ask_stands b (ask_at b a)) most_accounts stand a low high in
         passed_14 b (register_of x ∷ []) register refl (clear _ (none_of _ (not-true _ accepts)))
 
-    not-twin : (r : Row) → 1 ≤ r.proposer → r.proposer ≤ most_accounts → (i : ℕ) → r ≡ get_or b.part.rows i no_row → i < length b.part.rows
+    not_twin : (r : Row) → 1 ≤ r.proposer → r.proposer ≤ most_accounts → (i : ℕ) → r ≡ get_or b.part.rows i no_row → i < length b.part.rows
         → is_ask_twin b r ≡ false
     unfolding is_ask_twin
-    not-twin r low high i e inside = go (ask_at b r.proposer) refl
+    not_twin r low high i e inside = go (ask_at b r.proposer) refl
       where
         go : (o : Option Row) → ask_at b r.proposer ≡ o → is_ask_twin b r ≡ false
         go none held = rw held
         go (some x) held =
-            let alone = (first_and_rest (any_none _ _ (free-of-twins r.proposer x low high held))).0 in
+            let alone = (first_and_rest (any_none _ _ (free_of_twins r.proposer x low high held))).0 in
             rw held (rw e (each_at no_row i (any_none _ b.part.rows alone) inside))
 
-    pub none-twins : Each (λ r. (1 ≤ r.proposer) × (r.proposer ≤ most_accounts)) b.part.rows → some_ask_twin b ≡ false
-    none-twins known =
+    pub none_twins : Each (λ r. (1 ≤ r.proposer) × (r.proposer ≤ most_accounts)) b.part.rows → some_ask_twin b ≡ false
+    none_twins known =
         none_any (is_ask_twin b)
-        (at_each no_row b.part.rows (λ i inside. let k = each_at no_row i known inside in not-twin _ k.0 k.1 i refl inside))
+        (at_each no_row b.part.rows (λ i inside. let k = each_at no_row i known inside in not_twin _ k.0 k.1 i refl inside))
 
 -- so where a row is a twin of an ask, not every ask stands
 pub twin_falls : (s : List ℕ) → is_sound s ≡ true → some_ask_twin (book_in s) ≡ true → asks_stand (book_in s) ≡ false
 twin_falls s h e =
     test_fails (asks_stand (book_in s)) (not (some_ask_twin (book_in s)))
-    (λ stand. rw (none-twins (book_in s) stand (each_map (λ r t. (t.proposer_low, t.proposer_high)) (rows_tabled s h))))
+    (λ stand. rw (none_twins (book_in s) stand (each_map (λ r t. (t.proposer_low, t.proposer_high)) (rows_tabled s h))))
     (rw e)

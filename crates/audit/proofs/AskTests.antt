@@ -139,9 +139,9 @@ module _ (top : ℕ) (s : List ℕ) where
     length-room = length-take-le asks_size (drop (asks_offset top) s) (omega (arith, length-drop (asks_offset top) s))
 
     -- no ask stands
-    pub zero-asks : zeros_from s (asks_offset top) asks_size ≡ true → asks_valid top s ≡ true
+    pub zero_asks : zeros_from s (asks_offset top) asks_size ≡ true → asks_valid top s ≡ true
     unfolding asks_valid
-    zero-asks t =
+    zero_asks t =
         up_to_every _ most_accounts (λ a low high.
         let i : ℕ = a - 1 in
         let cs : List (List ℕ) = replicate most_accounts (zeros row_width) in
@@ -155,18 +155,18 @@ module _ (top : ℕ) (s : List ℕ) where
         zero_place s (ask_offset top a) a (omega arith) e)
 
     -- the section of the image
-    pub asks-exact : slots row_width most_accounts ask_bytes asks ≡ room → asks_exact top s ≡ true
+    pub asks_exact_lem : slots row_width most_accounts ask_bytes asks ≡ room → asks_exact top s ≡ true
     unfolding asks_exact
-    asks-exact e =
+    asks_exact_lem e =
         let again : map ask_bytes asks ≡ places =
         sym (chunks_slots row_width most_accounts ask_bytes length_ask asks) ∙ rw (asks_count, e) in
         up_to_every _ most_accounts (λ a low high.
         place_exact s (ask_offset top a) (omega arith)
         (rw (place_there (a - 1) (omega arith)) at (each_at [] (a - 1) (again_each ask_bytes ask_in places again) (rw length-chunks (omega arith)))))
 
-    pub exact-asks : Bytes s → asks_exact top s ≡ true → slots row_width most_accounts ask_bytes asks ≡ room
+    pub exact_asks : Bytes s → asks_exact top s ≡ true → slots row_width most_accounts ask_bytes asks ≡ room
     unfolding asks_exact slots cells
-    exact-asks b t =
+    exact_asks b t =
         let n = length-chunks row_width most_accounts room in
         let again : map ask_bytes asks ≡ places =
         each_again ask_bytes ask_in (at_each [] places (λ i h.

@@ -89,32 +89,32 @@ module _ (top : ℕ) (s : List ℕ) (few : (counts_in s).operators ≤ most_oper
   abbrev kept : List ℕ
   kept = take (part_size top) (drop (saved_offset top) s)
 
-  abbrev none-saved : Bool
-  none-saved = zeros_from s (saved_offset top) (part_size top)
+  abbrev none_saved : Bool
+  none_saved = zeros_from s (saved_offset top) (part_size top)
 
-  abbrev some-saved : Bool
-  some-saved = part_valid top s (saved_offset top) && follows (rows_of s (saved_offset top)) rows
+  abbrev some_saved : Bool
+  some_saved = part_valid top s (saved_offset top) && follows (rows_of s (saved_offset top)) rows
 
   rows_there : part_valid top s (saved_offset top) ≡ true → (part_at top operators s (saved_offset top)).rows ≡ rows_of s (saved_offset top)
   rows_there t = ap (λ (p : Part). p.rows) (part_places top s (saved_offset top) operators few (few_rows top s (saved_offset top) t))
 
-  saved_there : (n : ℕ) → saved_ok (setup_of s) rows (saved_in n top operators kept) ≡ true → saved_exact n top operators s ≡ true → (if eqb n 0 then none-saved else some-saved) ≡ true
+  saved_there : (n : ℕ) → saved_ok (setup_of s) rows (saved_in n top operators kept) ≡ true → saved_exact n top operators s ≡ true → (if eqb n 0 then none_saved else some_saved) ≡ true
   unfolding saved_in saved_ok saved_exact part_valid
   saved_there zero h p = p
   saved_there (suc n) h p =
       let q : Part = part_at top operators s (saved_offset top) in
       let w = (and_both (part_ok (setup_of s) q) (follows q.rows rows)).0 h in
       let t : part_valid top s (saved_offset top) ≡ true = (and_both (part_ok (setup_of s) q) (part_exact top operators s (saved_offset top))).1 (w.0, p) in
-      otherwise n none-saved some-saved
+      otherwise n none_saved some_saved
       ∙ (and_both (part_valid top s (saved_offset top)) (follows (rows_of s (saved_offset top)) rows)).1 (t, ap (λ (r : List Row). follows r rows) (sym (rows_there t)) ∙ w.1)
 
-  saved_here : (n : ℕ) → (if eqb n 0 then none-saved else some-saved) ≡ true
+  saved_here : (n : ℕ) → (if eqb n 0 then none_saved else some_saved) ≡ true
       → (saved_ok (setup_of s) rows (saved_in n top operators kept) ≡ true) × (saved_exact n top operators s ≡ true)
   unfolding saved_in saved_ok saved_exact part_valid
   saved_here zero t = (refl, t)
   saved_here (suc n) t =
       let q : Part = part_at top operators s (saved_offset top) in
-      let v = (and_both (part_valid top s (saved_offset top)) (follows (rows_of s (saved_offset top)) rows)).0 (sym (otherwise n none-saved some-saved) ∙ t) in
+      let v = (and_both (part_valid top s (saved_offset top)) (follows (rows_of s (saved_offset top)) rows)).0 (sym (otherwise n none_saved some_saved) ∙ t) in
       let w = (and_both (part_ok (setup_of s) q) (part_exact top operators s (saved_offset top))).0 v.0 in
       ((and_both (part_ok (setup_of s) q) (follows q.rows rows)).1 (w.0, ap (λ (r : List Row). follows r rows) (rows_there v.0) ∙ v.1), w.1)
 
@@ -177,7 +177,7 @@ module _ (s : List ℕ) where
   valid_sections : length s ≡ book_size → Holds (book_tests here) → Holds (book_exact_tests most_hours book_size s) → Sections s
   unfolding setup_valid part_valid schedules_valid phase_valid
   valid_sections l (setup and phased and part and saved and count and schedules and ended and early and batch and asks and _)
-      (behind-setup and bare and flagged and behind-schedules and exact and saved_exact_lem and asks-exact and spare and _) =
+      (behind-setup and bare and flagged and behind-schedules and exact and saved_exact_lem and asks_exact_lem and spare and _) =
       let f = setup_in_front s (sound_setup here.setup setup) in
       let a : setup_valid s ≡ true = holds_all (setup_valid_tests s) (setup and bare and behind-setup and no_more) in
       let k = setup_known s l a in
@@ -200,7 +200,7 @@ module _ (s : List ℕ) where
         followed = together.1;
         schedules_valid = holds_all (schedules_valid_tests s) (le-leb _ _ few and each and behind-schedules and no_more);
         phase_valid = holds_all (phase_valid_tests s) (phased and flagged and (sym (none_left e) ∙ ended) and (sym none_yet ∙ early) and (sym none_open ∙ batch) and no_more);
-        asks_valid_lem = asks_valid_lem most_hours s (ap (λ (u : Setup). asks_ok u here.asks) (sym f) ∙ asks) asks-exact;
+        asks_valid_lem = asks_valid_lem most_hours s (ap (λ (u : Setup). asks_ok u here.asks) (sym f) ∙ asks) asks_exact_lem;
         spare_zero = spare;
       }
 
@@ -258,12 +258,12 @@ module _ (s : List ℕ) (b : Bytes s) where
       → schedules ≡ schedules_valid s → phase ≡ phase_valid s → asks ≡ asks_valid most_hours s → spare ≡ zeros_from s (used_size most_hours) (book_size - used_size most_hours)
       → (((schedules && phase) && asks) && spare) ≡ is_sound s
   rest_decides {schedules} {phase} {asks} {spare} l a v p w e f k z =
-      test_same _ _ (λ t. sections_sound l (by-rest (chain_holds schedules (phase ∷ asks ∷ spare ∷ []) t))) (λ t.
+      test_same _ _ (λ t. sections_sound l (by_rest (chain_holds schedules (phase ∷ asks ∷ spare ∷ []) t))) (λ t.
       let d = sound_valid t in
       holds_chain ((e ∙ d.schedules_valid) and (f ∙ d.phase_valid) and (k ∙ d.asks_valid_lem) and (z ∙ d.spare_zero) and no_more))
     where
-      by-rest : Holds (schedules ∷ phase ∷ asks ∷ spare ∷ []) → Sections s
-      by-rest (schedules-hold and phase-holds and asks-hold and spare-holds and _) = record {
+      by_rest : Holds (schedules ∷ phase ∷ asks ∷ spare ∷ []) → Sections s
+      by_rest (schedules-hold and phase-holds and asks-hold and spare-holds and _) = record {
         setup_valid = a;
         part_valid = p;
         saved_valid = v;

@@ -53,10 +53,10 @@ pub record TestsLeft {A : Type 0} (read : List ℕ → A) (w : ℕ) (test : A �
 module _ {A : Type 0} {read : List ℕ → A} {w : ℕ} {test : A → Bool} {s : List ℕ} {all ok : Bool} {k n : ℕ} (left : TestsLeft read w test s all ok k n)
   where
     -- the first that is left is tested
-    pub tested-next : (m : ℕ) {x : A} {t : Bool} → n ≡ m + 1 → x ≡ read (take w (drop k s)) → t ≡ test x
+    pub tested_next : (m : ℕ) {x : A} {t : Bool} → n ≡ m + 1 → x ≡ read (take w (drop k s)) → t ≡ test x
         → TestsLeft read w test s all (ok && t) (k + w) m
-    tested-next m e found said = record { together = every_step read w ok test s k n m e found said left.together }
+    tested_next m e found said = record { together = every_step read w ok test s k n m e found said left.together }
 
     -- none is left
-    pub tested-all : n ≤ 0 → ok ≡ all
-    tested-all h = every_done read w ok test s k n h left.together
+    pub tested_all : n ≤ 0 → ok ≡ all
+    tested_all h = every_done read w ok test s k n h left.together

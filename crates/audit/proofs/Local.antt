@@ -13,7 +13,7 @@ use borrow.Author.Tests.{eqb-true, eq-eqb, leb-true}
 use Rattle.wire.specs.Numbers.{number, number_at, le, Bytes}
 use Rattle.wire.specs.Regions.{zeros_from}
 use Rattle.wire.specs.Parts.{zeros, flat, cut, start_of, chunks}
-use Rattle.wire.proofs.NumberLaws.{bytes_at, number-le, number_at_one, le-number_wide, bytes_take, bytes_drop}
+use Rattle.wire.proofs.NumberLaws.{bytes_at, number-le, number_at_one, le_number_wide, bytes_take, bytes_drop}
 use Rattle.wire.proofs.ZeroLaws.{zeros_read, zeros_tested}
 use Rattle.wire.proofs.PartLaws.{cut-flat, flat-cut, cut_at, rest_zeros_read, rest_zeros_tested}
 use Rattle.wire.proofs.SlotLaws.{length-chunks, slots_again}
@@ -32,7 +32,7 @@ use Rattle.image.proofs.Reading.Places.{book_at, counts_at, decode_places}
 use Rattle.audit.specs.Exact.{part_exact, saved_exact, book_exact_tests, book_exact}
 use Rattle.audit.proofs.SetupTests.{setup_exact, exact_setup}
 use Rattle.audit.proofs.PartTests.{slots_zero, part_exact_lem, exact_part}
-use Rattle.audit.proofs.AskTests.{asks-exact, exact-asks}
+use Rattle.audit.proofs.AskTests.{asks_exact_lem, exact_asks}
 
 -- ---- the flag
 
@@ -93,7 +93,7 @@ module _ (top size : ℕ) (s : List ℕ) (b : Bytes s) (l : length s ≡ size) (
   byte_at : (i : ℕ) → i < length s → take 1 (drop i s) ≡ le 1 (get_or s i 0)
   unfolding number_at
   byte_at i h =
-      let e = le-number_wide (bytes_take 1 (bytes_drop i b)) 1 (length-take-le 1 (drop i s) (omega (arith, length-drop i s))) in
+      let e = le_number_wide (bytes_take 1 (bytes_drop i b)) 1 (length-take-le 1 (drop i s) (omega (arith, length-drop i s))) in
       sym e ∙ ap (le 1) (number_at_one s i)
 
   saved_place : start_of ws saved_section ≡ saved_offset top
@@ -120,7 +120,7 @@ module _ (top size : ℕ) (s : List ℕ) (b : Bytes s) (l : length s ≡ size) (
   schedule_count_lem =
       let room : List ℕ = take (schedule_width * most_schedules) (drop schedules_offset s) in
       ap (le 2) (length-map (chunks schedule_width schedule_count room) schedule_in ∙ length-chunks schedule_width schedule_count room)
-      ∙ le-number_wide (bytes_take 2 (bytes_drop schedule_count_offset b)) 2 (length-take-le 2 (drop schedule_count_offset s) (omega (arith, length-drop schedule_count_offset s)))
+      ∙ le_number_wide (bytes_take 2 (bytes_drop schedule_count_offset b)) 2 (length-take-le 2 (drop schedule_count_offset s) (omega (arith, length-drop schedule_count_offset s)))
 
   in_places : flat (take setup_room s ∷ take 1 (drop phase_offset s) ∷ take 1 (drop flag_offset s) ∷ take 2 (drop schedule_count_offset s)
       ∷ take (schedule_width * most_schedules) (drop schedules_offset s) ∷ take (part_size top) (drop present_offset s)
@@ -146,7 +146,7 @@ module _ (top size : ℕ) (s : List ℕ) (b : Bytes s) (l : length s ≡ size) (
       let t4 = rest_zeros_tested ws s schedules_section (schedule_width * schedule_count) (omega arith) (omega arith) (ap (drop (schedule_width * schedule_count)) (cut_at ws s schedules_section) ∙ z4) in
       let t5 = part_exact_lem top (counts_in s).operators s present_offset b (omega arith) few known.part_sound.rows_high (at present_section) in
       let t6 = saved_test.0 (at saved_section ∙ rw saved_place) in
-      let t7 = asks-exact top s (omega arith) (at asks_section ∙ rw asks_place) in
+      let t7 = asks_exact_lem top s (omega arith) (at asks_section ∙ rw asks_place) in
       let t8 = zeros_tested (size - used_size top) s (used_size top) (omega arith) (sym (at spare_section ∙ rw spare_place)) in
       holds_all (book_exact_tests top size s) (t0.0 and t0.1 and t2 and t4 and t5 and t6 and t7 and t8 and no_more)
 
@@ -164,7 +164,7 @@ module _ (top size : ℕ) (s : List ℕ) (b : Bytes s) (l : length s ≡ size) (
       (length-take-le (schedule_width * most_schedules) (drop schedules_offset s) (omega (arith, length-drop schedules_offset s))) few_schedules (sym (ap (drop (schedule_width * schedule_count)) (cut_at ws s schedules_section)) ∙ z4) in
       let a5 = exact_part top (counts_in s).operators s present_offset b (omega arith) few known.part_sound.rows_high part in
       let a6 = saved_test.1 saved in
-      let a7 = exact-asks top s (omega arith) b asks in
+      let a7 = exact_asks top s (omega arith) b asks in
       let a8 = sym (zeros_read (size - used_size top) s (used_size top) (omega arith) spare) in
       alike-flat (a0 beside a1 beside a2 beside a3 beside a4 beside a5 beside a6 beside a7 beside a8 beside no_others) ∙ in_places
 

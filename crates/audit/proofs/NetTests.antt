@@ -14,7 +14,7 @@ use lib.IntN.{sub_ℕ}
 use borrow.Author.Tests.{eqb-true, eq-eqb}
 use Rattle.wire.specs.Numbers.{number, number_at, le, signed, Bytes}
 use Rattle.wire.specs.Parts.{flat}
-use Rattle.wire.proofs.NumberLaws.{length-signed, number-le_rest, le_same, le-number_wide, number_small, signed_sub, bytes_take, bytes_drop}
+use Rattle.wire.proofs.NumberLaws.{length-signed, number_le_rest, le_same, le_number_wide, number_small, signed_sub, bytes_take, bytes_drop}
 use Rattle.wire.proofs.PartLaws.{inner}
 use Rattle.wire.proofs.SlotLaws.{uniform_map, read_cell, flat_by_cells}
 use Rattle.rules.specs.declared.Row.{Row}
@@ -42,10 +42,10 @@ pub net_test : (b s : ℕ) (c : List ℕ) → Bytes c → length c ≡ net_width
     → (signed net_width (sub_ℕ b s) ≡ c) ↔ (eqb ((number c + s) % 256 ^ net_width) (b % 256 ^ net_width) ≡ true)
 net_test b s c h l =
     let w : ℕ = b + 4294967295 * s in
-    let e : le 4 (number c) ≡ c = le-number_wide h 4 l in
+    let e : le 4 (number c) ≡ c = le_number_wide h 4 l in
     let small : number c < 256 ^ length c = number_small h in
     let low : number c < 4294967296 = rw l at small in (
-      (λ (t : signed net_width (sub_ℕ b s) ≡ c). eq-eqb _ _ (ahead b s (number c) (sym (number-le_rest 4 w) ∙ ap number (sym (signed_sub net_width b s) ∙ t)))),
+      (λ (t : signed net_width (sub_ℕ b s) ≡ c). eq-eqb _ _ (ahead b s (number c) (sym (number_le_rest 4 w) ∙ ap number (sym (signed_sub net_width b s) ∙ t)))),
       (λ (t : eqb ((number c + s) % 256 ^ net_width) (b % 256 ^ net_width) ≡ true). signed_sub net_width b s ∙ le_same 4 w (number c) (behind b s (number c) low (eqb-true _ _ t)) ∙ e),
     )
 
@@ -84,8 +84,8 @@ module _ (top : ℕ) (rows : List Row) (s : List ℕ) (at : ℕ) (b : Bytes s) (
     abbrev hours : List ℕ
     hours = take (account_width top) (drop (account_width top * (a - 1)) stored)
 
-    length-hours : length hours ≡ net_width * top
-    length-hours =
+    length_hours : length hours ≡ net_width * top
+    length_hours =
         let i = in_account a low high in
         let n = length_nets_stored in
         length-take-le (account_width top) (drop (account_width top * (a - 1)) stored) (omega (arith, length-drop (account_width top * (a - 1)) stored))
@@ -113,11 +113,11 @@ module _ (top : ℕ) (rows : List Row) (s : List ℕ) (at : ℕ) (b : Bytes s) (
       let g = cells_at (account_width top) most_accounts (account_nets top rows) (length-account top rows) stored length_nets_stored e a al ah in
       up_to_every _ top (λ h hl hh.
       (word_test a h al ah hl hh).0
-      (cells_at net_width top (λ x. signed net_width (figure (net_of rows a x))) (λ x. length-signed net_width (figure (net_of rows a x))) (hours a al ah) (length-hours a al ah) g h hl hh ∙ word_at a al ah h hl hh)))
+      (cells_at net_width top (λ x. signed net_width (figure (net_of rows a x))) (λ x. length-signed net_width (figure (net_of rows a x))) (hours a al ah) (length_hours a al ah) g h hl hh ∙ word_at a al ah h hl hh)))
 
   pub held_nets : nets_match top rows s at ≡ true → nets_bytes top rows ≡ stored
   unfolding nets_bytes account_nets joined nets_match
   held_nets t =
       at_cells (account_width top) most_accounts (account_nets top rows) (length-account top rows) stored length_nets_stored (λ a al ah.
-      at_cells net_width top (λ x. signed net_width (figure (net_of rows a x))) (λ x. length-signed net_width (figure (net_of rows a x))) (hours a al ah) (length-hours a al ah) (λ h hl hh.
+      at_cells net_width top (λ x. signed net_width (figure (net_of rows a x))) (λ x. length-signed net_width (figure (net_of rows a x))) (hours a al ah) (length_hours a al ah) (λ h hl hh.
       (word_test a h al ah hl hh).1 (every_up_to _ top (every_up_to _ most_accounts t a al ah) h hl hh) ∙ sym (word_at a al ah h hl hh)))

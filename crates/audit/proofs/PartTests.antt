@@ -10,7 +10,7 @@ use lib.Seq.{length-take-le}
 use Rattle.wire.specs.Numbers.{number, number_at, le, Bytes}
 use Rattle.wire.specs.Regions.{zeros_from}
 use Rattle.wire.specs.Parts.{zeros, flat, cut, start_of, Wide, slots, chunks}
-use Rattle.wire.proofs.NumberLaws.{le-number_wide, bytes_take, bytes_drop}
+use Rattle.wire.proofs.NumberLaws.{le_number_wide, bytes_take, bytes_drop}
 use Rattle.wire.proofs.ZeroLaws.{zeros_read, zeros_tested}
 use Rattle.wire.proofs.PartLaws.{cut-flat, flat-cut, cut_at, cut_rest, wide_at, wide_cut, bytes_cut, inner}
 use Rattle.wire.proofs.SlotLaws.{length-chunks, slots_rest, slots_again}
@@ -130,7 +130,7 @@ module _ (top ops : ℕ) (s : List ℕ) (at : ℕ) (b : Bytes s) (l : at + part_
       let z0 = stretch_read ws s at (part_size top) 0 (guarantee_width * ops) (at + guarantee_width * ops) (omega arith) (omega arith) l (omega arith) guarantees in
       let z2 = stretch_read ws s at (part_size top) 2 (row_width * n) (at + row_offset n) (omega arith) (omega arith) l (omega arith) rows in
       let a0 = slots_again guarantee_width enc dec guarantee_again most_operators ops (bytes_c 0) (wide_at ws c 0 wide_c) o z0 in
-      let a1 : le 2 (length p.rows) ≡ get_or c 1 [] = ap (le 2) rows_count ∙ le-number_wide (bytes_c 1) 2 (wide_at ws c 1 wide_c) in
+      let a1 : le 2 (length p.rows) ≡ get_or c 1 [] = ap (le 2) rows_count ∙ le_number_wide (bytes_c 1) 2 (wide_at ws c 1 wide_c) in
       let a2 : slots row_width most_rows row_bytes p.rows ≡ get_or c 2 [] =
       ap (λ (k : ℕ). slots row_width most_rows row_bytes (map row_in (chunks row_width k (get_or c 2 [])))) count
       ∙ slots_again row_width row_bytes row_in row_again most_rows n (bytes_c 2) (wide_at ws c 2 wide_c) m z2 in

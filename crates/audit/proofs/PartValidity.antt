@@ -134,18 +134,18 @@ module _ (u : Setup) (p : Part) (behind-guarantees behind-rows nets : Bool) wher
   in_order : length p.guarantees ≡ operator_count u → length p.rows ≤ most_rows
       → (part_ok u p && all_of of_places) ≡ (all_of of_guarantees && all_of of_rows && all_of of_sums)
   unfolding part_ok
-  in_order all few = test_same _ _ valid-first places-first
+  in_order all few = test_same _ _ valid_first places_first
     where
-      valid-first : (part_ok u p && all_of of_places) ≡ true → (all_of of_guarantees && all_of of_rows && all_of of_sums) ≡ true
-      valid-first t =
+      valid_first : (part_ok u p && all_of of_places) ≡ true → (all_of of_guarantees && all_of of_rows && all_of of_sums) ≡ true
+      valid_first t =
           let (v, z) = (and_both (all_of (part_tests u p)) (all_of of_places)).0 t in
           to_order (all_holds (part_tests u p) v) (all_holds of_places z)
 
-      by-sections : Holds (all_of of_guarantees ∷ all_of of_rows ∷ all_of of_sums ∷ []) → (part_ok u p && all_of of_places) ≡ true
-      by-sections (g and r and m and _) = from_order all few (all_holds of_guarantees g) (all_holds of_rows r) (all_holds of_sums m)
+      by_sections : Holds (all_of of_guarantees ∷ all_of of_rows ∷ all_of of_sums ∷ []) → (part_ok u p && all_of of_places) ≡ true
+      by_sections (g and r and m and _) = from_order all few (all_holds of_guarantees g) (all_holds of_rows r) (all_holds of_sums m)
 
-      places-first : (all_of of_guarantees && all_of of_rows && all_of of_sums) ≡ true → (part_ok u p && all_of of_places) ≡ true
-      places-first t = by-sections (chain_holds (all_of of_guarantees) (all_of of_rows ∷ all_of of_sums ∷ []) t)
+      places_first : (all_of of_guarantees && all_of of_rows && all_of of_sums) ≡ true → (part_ok u p && all_of of_places) ≡ true
+      places_first t = by_sections (chain_holds (all_of of_guarantees) (all_of of_rows ∷ all_of of_sums ∷ []) t)
 
 -- the number of rows that a part that stands says is in range
 pub few_rows : (top : ℕ) (s : List ℕ) (at : ℕ) → part_valid top s at ≡ true → row_count s at ≤ most_rows

@@ -13,7 +13,7 @@ use lib.Seq.{take-take, length-take-le, take_all, drop-drop, drop_at}
 use Rattle.wire.specs.Numbers.{number, number_at, le, Bytes}
 use Rattle.wire.specs.Regions.{zeros_from}
 use Rattle.wire.specs.Parts.{zeros, padded, chunks}
-use Rattle.wire.proofs.NumberLaws.{number-le, le-number_wide, bytes_take, bytes_drop}
+use Rattle.wire.proofs.NumberLaws.{number-le, le_number_wide, bytes_take, bytes_drop}
 use Rattle.wire.proofs.ZeroLaws.{le_zero, zeros_read, zeros_tested}
 use Rattle.wire.proofs.PartLaws.{inner}
 use Rattle.units.specs.declared.Cents.{Cents}
@@ -42,7 +42,7 @@ unfolding number_at
 lodged_none s at b l =
     let x : List ℕ = take guarantee_width (drop at s) in
     let lx : length x ≡ guarantee_width = length-take-le guarantee_width (drop at s) (omega (arith, length-drop at s)) in
-    let e : le guarantee_width (number x) ≡ x = le-number_wide (bytes_take 8 (bytes_drop at b)) guarantee_width lx in
+    let e : le guarantee_width (number x) ≡ x = le_number_wide (bytes_take 8 (bytes_drop at b)) guarantee_width lx in
     rw (operator_at s at) (
       (λ (t : zeros_from s at guarantee_width ≡ true). ap (λ (y : List ℕ). cents (number y)) (zeros_read guarantee_width s at (omega arith) t ∙ sym (le_zero guarantee_width)) ∙ ap cents (number-le guarantee_width 0 (omega arith))),
       (λ (g : cents (number x) ≡ cents 0). zeros_tested guarantee_width s at (omega arith) (sym e ∙ ap (λ (y : Cents). le guarantee_width y.0) g ∙ le_zero guarantee_width)),

@@ -188,20 +188,20 @@ module _ (s : List ℕ) (h : is_sound s ≡ true) where
       ∙ part_rest p f
 
   module _ (batch : is_some (book_in s).saved ≡ true) where
-    saved-past : (n : ℕ) → length (restored (book_in s).saved (book_in s).part).rows ≤ n → n ≤ most_rows → NoRowsPast s (saved_offset most_hours) n
-    saved-past n low few =
+    saved_past : (n : ℕ) → length (restored (book_in s).saved (book_in s).part).rows ≤ n → n ≤ most_rows → NoRowsPast s (saved_offset most_hours) n
+    saved_past n low few =
         let (p, e) = some_of (book_in s).saved batch in
         let f : PartFits p = rw e at (book_fits s h).saved_fits in
         rows_past_more s (saved_offset most_hours) (length p.rows) n (rw e at low) few (saved_end p e f)
 
-    pub saved-rows-end : (n : ℕ) → n ≡ length (restored (book_in s).saved (book_in s).part).rows → (n ≤ most_rows) × NoRowsPast s (saved_offset most_hours) n
-    saved-rows-end n e =
+    pub saved_rows_end : (n : ℕ) → n ≡ length (restored (book_in s).saved (book_in s).part).rows → (n ≤ most_rows) × NoRowsPast s (saved_offset most_hours) n
+    saved_rows_end n e =
         let few : n ≤ most_rows = omega (arith, saved_rows_fewer s h batch, row_count_high s h) in
-        (few, saved-past n (omega arith) few)
+        (few, saved_past n (omega arith) few)
 
     -- the present rows are no fewer
-    pub saved-past-present : (n : ℕ) → n ≡ length (book_in s).part.rows → NoRowsPast s (saved_offset most_hours) n
-    saved-past-present n e = saved-past n (omega (arith, saved_rows_fewer s h batch)) (omega (arith, row_count_high s h))
+    pub saved_past_present : (n : ℕ) → n ≡ length (book_in s).part.rows → NoRowsPast s (saved_offset most_hours) n
+    saved_past_present n e = saved_past n (omega (arith, saved_rows_fewer s h batch)) (omega (arith, row_count_high s h))
 
   -- with a batch or without
   pub saved_past_rows : (n : ℕ) → n ≡ length (book_in s).part.rows → NoRowsPast s (saved_offset most_hours) n
@@ -209,7 +209,7 @@ module _ (s : List ℕ) (h : is_sound s ≡ true) where
     where
       go : (o : Option Part) → (book_in s).saved ≡ o → NoRowsPast s (saved_offset most_hours) n
       go none f = none_saved_rows f n (omega (arith, row_count_high s h))
-      go (some p) f = saved-past-present (rw f) n e
+      go (some p) f = saved_past_present (rw f) n e
 
 -- a copy over the present part leaves the saved one
 pub saved_room_left : (s x : List ℕ) (n : ℕ) → length s ≡ book_size → n ≤ most_rows → NoRowsPast s (saved_offset most_hours) n

@@ -37,25 +37,25 @@ module _ (P : Kind → Type 0) (i j k : Kind) where
 module _ (b : Book) (q : Request) where
   module _ (first : b.phase ≡ 1) where
     -- refusal 12 of opening a batch and of closing the gate
-    pub with-batch : (k : Kind) → k one_of (open_batch ∷ close_gate ∷ []) ≡ true → is_some b.saved ≡ true → decided k b q ≡ some BatchOpen
+    pub with_batch : (k : Kind) → k one_of (open_batch ∷ close_gate ∷ []) ≡ true → is_some b.saved ≡ true → decided k b q ≡ some BatchOpen
     unfolding decided state_checks first_to_apply
-    with-batch k m o =
+    with_batch k m o =
         of_two (λ i. decided i b q ≡ some BatchOpen) open_batch close_gate k m (rw (eq-eqb _ 1 first, o)) (rw (eq-eqb _ 1 first, o))
 
-    pub outside-batch : (k : Kind) → k one_of (open_batch ∷ close_gate ∷ []) ≡ true → is_some b.saved ≡ false → decided k b q ≡ none
+    pub outside_batch : (k : Kind) → k one_of (open_batch ∷ close_gate ∷ []) ≡ true → is_some b.saved ≡ false → decided k b q ≡ none
     unfolding decided state_checks first_to_apply
-    outside-batch k m o =
+    outside_batch k m o =
         of_two (λ i. decided i b q ≡ none) open_batch close_gate k m (rw (eq-eqb _ 1 first, o)) (rw (eq-eqb _ 1 first, o))
 
     -- refusal 13 of undo and of keep
-    pub without-batch : (k : Kind) → k one_of (undo ∷ keep ∷ []) ≡ true → is_some b.saved ≡ false → decided k b q ≡ some NoBatch
+    pub without_batch : (k : Kind) → k one_of (undo ∷ keep ∷ []) ≡ true → is_some b.saved ≡ false → decided k b q ≡ some NoBatch
     unfolding decided state_checks first_to_apply
-    without-batch k m o =
+    without_batch k m o =
         of_two (λ i. decided i b q ≡ some NoBatch) undo keep k m (rw (eq-eqb _ 1 first, o)) (rw (eq-eqb _ 1 first, o))
 
-    pub inside-batch : (k : Kind) → k one_of (undo ∷ keep ∷ []) ≡ true → is_some b.saved ≡ true → decided k b q ≡ none
+    pub inside_batch : (k : Kind) → k one_of (undo ∷ keep ∷ []) ≡ true → is_some b.saved ≡ true → decided k b q ≡ none
     unfolding decided state_checks first_to_apply
-    inside-batch k m o =
+    inside_batch k m o =
         of_two (λ i. decided i b q ≡ none) undo keep k m (rw (eq-eqb _ 1 first, o)) (rw (eq-eqb _ 1 first, o))
 
 -- the phase of the two kinds that want no open batch, and of the two that want one

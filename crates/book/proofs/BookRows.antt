@@ -131,8 +131,8 @@ module _ (s : List ℕ) (h : is_sound s ≡ true) where
         ∙ part_rows_lem most_hours (counts_in s).operators s present_offset n (e ∙ sym (row_count_stands s h)) few
 
     -- what the sums ask of them
-    pub rows-summable : (present_offset + rows_offset + row_width * n ≤ length s) × (n ≤ most_rows) × Each (Tabled most_hours) (rows_from s (present_offset + rows_offset) n)
-    rows-summable = (omega (arith, book_length s h, few), few, rw rows_in at rows_tabled)
+    pub rows_summable : (present_offset + rows_offset + row_width * n ≤ length s) × (n ≤ most_rows) × Each (Tabled most_hours) (rows_from s (present_offset + rows_offset) n)
+    rows_summable = (omega (arith, book_length s h, few), few, rw rows_in at rows_tabled)
 
 -- ---- the operator of a calling account
 

@@ -13,7 +13,7 @@ use Rattle.image.specs.Layout.{present_offset, net_offset, net_width}
 use Rattle.image.specs.Valid.{is_sound, book_in}
 use Rattle.book.specs.Members.{IsAccount, IsHour}
 use Rattle.book.specs.Netted.{netted}
-use Rattle.book.proofs.ReadingLaws.{net-near, net-stored}
+use Rattle.book.proofs.ReadingLaws.{net_near, net_stored_lem}
 
 -- ---- from its bytes
 
@@ -27,16 +27,16 @@ module _ (s : List ℕ) (k : is_sound s ≡ true) (a h : ℕ) (i : IsAccount (bo
   pub net_bought : v < 2 ^ 31 → record { bought = kwh v; sold = kwh 0 } ≡ netted (net_of (book_in s).part.rows a h)
   unfolding netted
   net_bought l =
-      let near = net-near s k a h i j in
-      let e = net-stored s k a h i j v q in
+      let near = net_near s k a h i j in
+      let e = net_stored_lem s k a h i j v q in
       net_same v 0 _ _ (omega arith) (omega arith)
 
   -- and from there on what was sold beyond what was bought
   pub net_sold : 2 ^ 31 ≤ v → (w : ℕ) → w ≡ 2 ^ 32 - v → record { bought = kwh 0; sold = kwh w } ≡ netted (net_of (book_in s).part.rows a h)
   unfolding netted
   net_sold l w d =
-      let near = net-near s k a h i j in
-      let e = net-stored s k a h i j v q in
+      let near = net_near s k a h i j in
+      let e = net_stored_lem s k a h i j v q in
       net_same 0 w _ _ (omega arith) (omega arith)
 
 -- ---- against its sums

@@ -11,7 +11,7 @@ use lib.Seq.{take_all, drop-drop, length-take-le}
 use Rattle.wire.specs.Numbers.{number_at, le, signed, Bytes}
 use Rattle.wire.specs.Regions.{splice}
 use Rattle.wire.specs.Parts.{zeros, padded, flat, start_of, slots, chunks}
-use Rattle.wire.proofs.NumberLaws.{length-le, le-number_wide, bytes_take, bytes_drop}
+use Rattle.wire.proofs.NumberLaws.{length-le, le_number_wide, bytes_take, bytes_drop}
 use Rattle.wire.proofs.RegionLaws.{splice_take_drop, length_splice, splice_left, splice_right}
 use Rattle.wire.proofs.ZeroLaws.{length-zeros, zeros_none, zeros_add, le_zero, splice_zeros, length_padded}
 use Rattle.wire.proofs.PartLaws.{write_part, write_whole, wide_zeros, wide_set, flat-zeros}
@@ -58,7 +58,7 @@ splice-next d at next x y e h =
 guarantee_bytes : (s : List ℕ) (from : ℕ) → Bytes s → from + operator_entry ≤ length s → le guarantee_width (operator_in (take operator_entry (drop from s))).guarantee.0 ≡ take guarantee_width (drop from s)
 unfolding number_at
 guarantee_bytes s from b l =
-    rw (operator_at s from) (le-number_wide (bytes_take guarantee_width (bytes_drop from b)) 8 (length-take-le guarantee_width (drop from s) (omega (arith, length-drop from s))))
+    rw (operator_at s from) (le_number_wide (bytes_take guarantee_width (bytes_drop from b)) 8 (length-take-le guarantee_width (drop from s) (omega (arith, length-drop from s))))
 
 -- guarantees side by side
 abbrev pub guarantees_bytes : List Cents → List ℕ

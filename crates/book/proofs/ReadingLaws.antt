@@ -86,15 +86,15 @@ margins_near margins x small h =
 module _ (s : List ℕ) (h : is_sound s ≡ true) (a t : ℕ) (i : IsAccount (book_in s) a) (j : IsHour (book_in s) t)
   where
     -- it is within the margins
-    pub net-near : (sold (book_in s).part.rows a t ≤ bought (book_in s).part.rows a t + most_energy) × (bought (book_in s).part.rows a t ≤ sold (book_in s).part.rows a t + most_energy)
-    net-near =
+    pub net_near : (sold (book_in s).part.rows a t ≤ bought (book_in s).part.rows a t + most_energy) × (bought (book_in s).part.rows a t ≤ sold (book_in s).part.rows a t + most_energy)
+    net_near =
         let u : Setup = (book_in s).setup in
         margins_near (margins_at u a t) (account_hour (book_in s).part.rows a t) (margins_in_range u _ a t (values_in s h))
         ((book_is_sound s h).part_sound.keeps_margins a t i.0 i.1 j.0 j.1)
 
     -- it has its place
-    pub net-has-place : InTable most_hours a t
-    net-has-place =
+    pub net_has_place : InTable most_hours a t
+    net_has_place =
         let k = (book_is_sound s h).setup_sound in
         record {
           account_low = i.0;
@@ -104,10 +104,10 @@ module _ (s : List ℕ) (h : is_sound s ≡ true) (a t : ℕ) (i : IsAccount (bo
         }
 
     -- where 4 bytes hold it
-    pub net-stored : (v : ℕ) → v ≡ number_at s (present_offset + net_offset most_hours a t) 4
+    pub net_stored_lem : (v : ℕ) → v ≡ number_at s (present_offset + net_offset most_hours a t) 4
         → v ≡ (bought (book_in s).part.rows a t + (256 ^ net_width - 1) * sold (book_in s).part.rows a t) % 256 ^ net_width
-    net-stored v q =
-        let k = net-has-place in
+    net_stored_lem v q =
+        let k = net_has_place in
         let at : ℕ = present_offset + net_offset most_hours a t in
         q
         ∙ ap (λ (z : List ℕ). number_at z at 4) (sound_is_image most_hours book_size s h).0
@@ -138,30 +138,30 @@ module _ (s : List ℕ) (h : is_sound s ≡ true) (n : Counts) (e : n ≡ counts
     by_account : {o : Bool} → not (within 1 a n.accounts) ≡ o → not (within 1 a (account_count u)) ≡ o
     by_account x = ap (λ (m : ℕ). not (within 1 a m)) accounts_counted ∙ x
 
-    pub net-no-account : not (within 1 a n.accounts) ≡ true → net_reading (book_in s) a t ≡ NetReading.Unread (OutOfRange 1)
+    pub net_no_account : not (within 1 a n.accounts) ≡ true → net_reading (book_in s) a t ≡ NetReading.Unread (OutOfRange 1)
     unfolding net_reading
-    net-no-account x = ap (λ (o : Option Refusal). net_reading_of o net) (applies_here _ _ _ (by_account x))
+    net_no_account x = ap (λ (o : Option Refusal). net_reading_of o net) (applies_here _ _ _ (by_account x))
 
-    pub net-no-hour : not (within 1 a n.accounts) ≡ false → not (within 1 t n.hours) ≡ true → net_reading (book_in s) a t ≡ NetReading.Unread (OutOfRange 5)
+    pub net_no_hour : not (within 1 a n.accounts) ≡ false → not (within 1 t n.hours) ≡ true → net_reading (book_in s) a t ≡ NetReading.Unread (OutOfRange 5)
     unfolding net_reading
-    net-no-hour x y = ap (λ (o : Option Refusal). net_reading_of o net) (applies_past _ _ _ (by_account x) ∙ applies_here _ _ [] (by_hour t y))
+    net_no_hour x y = ap (λ (o : Option Refusal). net_reading_of o net) (applies_past _ _ _ (by_account x) ∙ applies_here _ _ [] (by_hour t y))
 
     module _ (x : not (within 1 a n.accounts) ≡ false) (y : not (within 1 t n.hours) ≡ false) where
       account_inside : IsAccount (book_in s) a
       account_inside = (within_true 1 a (account_count u)).0 (not-false _ (by_account x))
 
-      hour-inside : IsHour (book_in s) t
-      hour-inside = (within_true 1 t (periods u)).0 (not-false _ (by_hour t y))
+      hour_inside : IsHour (book_in s) t
+      hour_inside = (within_true 1 t (periods u)).0 (not-false _ (by_hour t y))
 
-      pub net-in-table : InTable most_hours a t
-      net-in-table = net-has-place s h a t account_inside hour-inside
+      pub net_in_table : InTable most_hours a t
+      net_in_table = net_has_place s h a t account_inside hour_inside
 
-      pub net-stands : (v : ℕ) → v ≡ number_at s (present_offset + net_offset most_hours a t) 4
+      pub net_stands : (v : ℕ) → v ≡ number_at s (present_offset + net_offset most_hours a t) 4
           → net_reading (book_in s) a t ≡ NetReading.Read (if ltb v (2 ^ 31) then Long (kwh v) else Short (kwh (2 ^ 32 - v)))
       unfolding net_reading
-      net-stands v q =
-          let near = net-near s h a t account_inside hour-inside in
-          let stored = net-stored s h a t account_inside hour-inside v q in
+      net_stands v q =
+          let near = net_near s h a t account_inside hour_inside in
+          let stored = net_stored_lem s h a t account_inside hour_inside v q in
           ap (λ (o : Option Refusal). net_reading_of o net) (clear_applies (net_checks (book_in s) a t) (rw (by_account x), (rw (by_hour t y), tt)))
           ∙ ap NetReading.Read (stored_position _ _ v stored near.0 near.1)
 
@@ -169,15 +169,15 @@ module _ (s : List ℕ) (h : is_sound s ≡ true) (n : Counts) (e : n ≡ counts
   by_operator o x = ap (λ (m : ℕ). not (within 1 o m)) operators_counted ∙ x
 
   module _ (o : ℕ) where
-    pub exposure-no-operator : not (within 1 o n.operators) ≡ true → exposure_reading (book_in s) o ≡ ExposureReading.Unread (OutOfRange 9)
+    pub exposure-no_operator : not (within 1 o n.operators) ≡ true → exposure_reading (book_in s) o ≡ ExposureReading.Unread (OutOfRange 9)
     unfolding exposure_reading
-    exposure-no-operator x =
+    exposure-no_operator x =
         ap (λ (y : Option Refusal). exposure_reading_of y (exposure u (book_in s).part.rows o)) (applies_here _ _ _ (by_operator o x))
 
-    pub exposure-stands : (m : MilliCents) → not (within 1 o n.operators) ≡ false → m.0 ≡ exposure (setup_of s) (book_in s).part.rows o
+    pub exposure_stands : (m : MilliCents) → not (within 1 o n.operators) ≡ false → m.0 ≡ exposure (setup_of s) (book_in s).part.rows o
         → exposure_reading (book_in s) o ≡ ExposureReading.Read m
     unfolding exposure_reading
-    exposure-stands m x y =
+    exposure_stands m x y =
         ap (λ (z : Option Refusal). exposure_reading_of z (exposure u (book_in s).part.rows o)) (clear_applies (exposure_checks (book_in s) o) (rw (by_operator o x), tt))
         ∙ ap (λ (z : ℕ). ExposureReading.Read (milli_cents z)) (ap (λ (z : Setup). exposure z (book_in s).part.rows o) (setup_in_lem s h) ∙ sym y)
 
@@ -185,23 +185,23 @@ module _ (s : List ℕ) (h : is_sound s ≡ true) (n : Counts) (e : n ≡ counts
     abbrev money : ℕ
     money = hourly_exposure u (book_in s).part.rows o t
 
-    pub hourly-no-hour : not (within 1 t n.hours) ≡ true → hourly_exposure_reading (book_in s) o t ≡ ExposureReading.Unread (OutOfRange 5)
+    pub hourly_no_hour : not (within 1 t n.hours) ≡ true → hourly_exposure_reading (book_in s) o t ≡ ExposureReading.Unread (OutOfRange 5)
     unfolding hourly_exposure_reading
-    hourly-no-hour x = ap (λ (y : Option Refusal). exposure_reading_of y money) (applies_here _ _ _ (by_hour t x))
+    hourly_no_hour x = ap (λ (y : Option Refusal). exposure_reading_of y money) (applies_here _ _ _ (by_hour t x))
 
     module _ (x : not (within 1 t n.hours) ≡ false) where
-      pub hourly-hour-inside : IsHour (book_in s) t
-      hourly-hour-inside = (within_true 1 t (periods u)).0 (not-false _ (by_hour t x))
+      pub hourly_hour_inside : IsHour (book_in s) t
+      hourly_hour_inside = (within_true 1 t (periods u)).0 (not-false _ (by_hour t x))
 
-      pub hourly-no-operator : not (within 1 o n.operators) ≡ true → hourly_exposure_reading (book_in s) o t ≡ ExposureReading.Unread (OutOfRange 9)
+      pub hourly-no_operator : not (within 1 o n.operators) ≡ true → hourly_exposure_reading (book_in s) o t ≡ ExposureReading.Unread (OutOfRange 9)
       unfolding hourly_exposure_reading
-      hourly-no-operator y =
+      hourly-no_operator y =
           ap (λ (z : Option Refusal). exposure_reading_of z money) (applies_past _ _ _ (by_hour t x) ∙ applies_here _ _ [] (by_operator o y))
 
-      pub hourly-stands : (m : MilliCents) → not (within 1 o n.operators) ≡ false → m.0 ≡ money
+      pub hourly_stands : (m : MilliCents) → not (within 1 o n.operators) ≡ false → m.0 ≡ money
           → hourly_exposure_reading (book_in s) o t ≡ ExposureReading.Read m
       unfolding hourly_exposure_reading
-      hourly-stands m y e =
+      hourly_stands m y e =
           ap (λ (z : Option Refusal). exposure_reading_of z money)
           (clear_applies (hourly_exposure_checks (book_in s) o t) (rw (by_hour t x), (rw (by_operator o y), tt)))
           ∙ ap (λ (z : ℕ). ExposureReading.Read (milli_cents z)) (sym e)

@@ -20,7 +20,7 @@ use Rattle.image.proofs.Tables.MoneyLaws.{where_most}
 use Rattle.book.specs.Members.{IsAccount, IsHour}
 use Rattle.book.specs.Netted.{netted}
 use Rattle.book.specs.Worth.{short_of, short_after, short_worth, account_short, short_share, net_with, most_short}
-use Rattle.book.proofs.ReadingLaws.{net-near}
+use Rattle.book.proofs.ReadingLaws.{net_near}
 
 -- ---- an hour
 
@@ -43,23 +43,23 @@ module _ (s : List ℕ) (k : is_sound s ≡ true) (a h : ℕ) (i : IsAccount (bo
   -- what was read is in range
   pub net_small : (net.bought.0 ≤ most_energy) × (net.sold.0 ≤ most_energy)
   unfolding netted
-  net_small = let near = net-near s k a h i j in rw e (omega arith, omega arith)
+  net_small = let near = net_near s k a h i j in rw e (omega arith, omega arith)
 
   module _ (r : ℕ) where
     -- where nothing is added
-    pub short-alone : r ≡ short_of net → (r ≡ short_of (net_with (book_in s).part.rows [] a h)) × (r ≤ most_short)
+    pub short_alone : r ≡ short_of net → (r ≡ short_of (net_with (book_in s).part.rows [] a h)) × (r ≤ most_short)
     unfolding netted
-    short-alone d =
+    short_alone d =
         let b = ap (λ (n : Net). n.bought.0) e in
         let o = ap (λ (n : Net). n.sold.0) e in
         let near = net_small in
         (omega arith, omega arith)
 
     -- and where a trade is
-    pub short-one : (trade : Row) → trade.quantity.0 ≤ most_energy → r ≡ short_after net trade a h
+    pub short_one : (trade : Row) → trade.quantity.0 ≤ most_energy → r ≡ short_after net trade a h
         → (r ≡ short_of (net_with (book_in s).part.rows (trade ∷ []) a h)) × (r ≤ most_short)
     unfolding netted after_trade short_after
-    short-one trade small d =
+    short_one trade small d =
         let b = ap (λ (n : Net). n.bought.0) e in
         let o = ap (λ (n : Net). n.sold.0) e in
         let near = net_small in

@@ -32,7 +32,7 @@ use Rattle.strips.proofs.CallLaws.{AnsweredStrip}
 use Rattle.day.specs.Answers.{call_answer, change_answer, call_with}
 use Rattle.day.proofs.AnswerLaws.{call_on_book, call_on_no_book, call_leaves_a_book}
 use Rattle.day.proofs.Stages.{change-refused, change_decided}
-use Rattle.day.proofs.RequestLaws.{unread_checks, single_checks, buffers-stay, other_kind, AnsweredSaying}
+use Rattle.day.proofs.RequestLaws.{unread_checks, single_checks, buffers_stay, other_kind, AnsweredSaying}
 
 -- ---- settle
 
@@ -76,7 +76,7 @@ module _ (s : List ℕ) (c : Call) (h : is_sound s ≡ true) where
   pub said_given : (q : Request) → reading c.bytes ≡ Read q → (q.kind ≡ 10 → ⊥) → (o : Outcome) (t : List ℕ) → AnsweredSaying q s o t
       → GivesSound (change_answer s c) o t c.results c.balances
   said_given q e other o t x =
-      let stay = buffers-stay s c h q e (other_kind c.bytes q e other) in
+      let stay = buffers_stay s c h q e (other_kind c.bytes q e other) in
       (record { outcome_given = x.0 c e; book_left = x.1.0 c e; results_left = sym stay.0; balances_left = sym stay.1 }, x.1.1)
 
 -- of a strip

@@ -47,14 +47,14 @@ module _ (b : Book) (l : Ledger) (g : Agrees b l) where
 
   -- on the bytes of a valid book
   module _ (v : valid b ≡ true) where
-    pub net-answer-agrees : (a h : ℕ) → net_read_out (net_answer (book_bytes b) a h) ≡ ledger_net_read_out l a h
+    pub net_answer_agrees : (a h : ℕ) → net_read_out (net_answer (book_bytes b) a h) ≡ ledger_net_read_out l a h
     unfolding net_answer
-    net-answer-agrees a h = rw (image_stands b v, image_says b v) (net_reading_agrees a h)
+    net_answer_agrees a h = rw (image_stands b v, image_says b v) (net_reading_agrees a h)
 
-    pub exposure-answer-agrees : (o : ℕ) → exposure_read_out (exposure_answer (book_bytes b) o) ≡ ledger_exposure_read_out l o
+    pub exposure-answer_agrees : (o : ℕ) → exposure_read_out (exposure_answer (book_bytes b) o) ≡ ledger_exposure_read_out l o
     unfolding exposure_answer
-    exposure-answer-agrees o = rw (image_stands b v, image_says b v) (exposure_reading_agrees o)
+    exposure-answer_agrees o = rw (image_stands b v, image_says b v) (exposure_reading_agrees o)
 
-    pub hourly-exposure-answer-agrees : (o h : ℕ) → exposure_read_out (hourly_exposure_answer (book_bytes b) o h) ≡ ledger_hourly_exposure_read_out l o h
+    pub hourly-exposure-answer_agrees : (o h : ℕ) → exposure_read_out (hourly_exposure_answer (book_bytes b) o h) ≡ ledger_hourly_exposure_read_out l o h
     unfolding hourly_exposure_answer
-    hourly-exposure-answer-agrees o h = rw (image_stands b v, image_says b v) (hourly_exposure_reading_agrees o h)
+    hourly-exposure-answer_agrees o h = rw (image_stands b v, image_says b v) (hourly_exposure_reading_agrees o h)

@@ -35,7 +35,7 @@ use Rattle.book.proofs.BookRows.{counts_in_lem}
 use Rattle.book.proofs.Answers.{Answered as KindAnswered}
 use Rattle.day.specs.Answers.{change_answer}
 use Rattle.day.specs.Plain.{is_plain}
-use Rattle.rules.proofs.Checks.Stages.{input-refused, state-decides}
+use Rattle.rules.proofs.Checks.Stages.{input_refused, state_decides}
 use Rattle.day.proofs.Stages.{change-refused, change_decided}
 
 -- ---- what a record reads as, and what its own checks find
@@ -124,11 +124,11 @@ module _ (s : List ℕ) (c : Call) (h : is_sound s ≡ true) (q : Request) (e : 
     ranges = rw says (input_is_ranges (book_in s) c (checked_as (call_kind c)) q (checked_other (call_kind c) other))
 
     -- out of range
-    range-answered : (r : Refusal) → first_to_apply (range_checks (counts_of (book_in s).setup) q) ≡ some r → change_answer s c ≡ refused_on r s c
-    range-answered r f = change-refused s c h r (input-refused (book_in s) c read_clear r (ranges ∙ f))
+    range_answered : (r : Refusal) → first_to_apply (range_checks (counts_of (book_in s).setup) q) ≡ some r → change_answer s c ≡ refused_on r s c
+    range_answered r f = change-refused s c h r (input_refused (book_in s) c read_clear r (ranges ∙ f))
 
     -- in range: what the state decides
-    plain-answered : first_to_apply (range_checks (counts_of (book_in s).setup) q) ≡ none
+    plain_answered : first_to_apply (range_checks (counts_of (book_in s).setup) q) ≡ none
         → change_answer s c
         ≡ record {
           outcome = outcome_on (kind_of q.kind) (book_in s) q;
@@ -137,13 +137,13 @@ module _ (s : List ℕ) (c : Call) (h : is_sound s ≡ true) (q : Request) (e : 
           balances = c.balances;
         }
     unfolding outcome_on book_after decided
-    plain-answered f =
-        change_decided s c other _ (state-decides (book_in s) c read_clear (ranges ∙ f))
+    plain_answered f =
+        change_decided s c other _ (state_decides (book_in s) c read_clear (ranges ∙ f))
         ∙ rw (says, of_kind)
 
     -- either way both buffers are as they were
-    pub buffers-stay : ((change_answer s c).results ≡ c.results) × ((change_answer s c).balances ≡ c.balances)
-    buffers-stay =
+    pub buffers_stay : ((change_answer s c).results ≡ c.results) × ((change_answer s c).balances ≡ c.balances)
+    buffers_stay =
         let x = change_decided s c other (refusal (book_in s) c) refl in
         (ap (λ (x : Answer (List ℕ)). x.results) x, ap (λ (x : Answer (List ℕ)). x.balances) x)
 
@@ -216,14 +216,14 @@ module _ (q : Request) (s : List ℕ) (h : is_sound s ≡ true) (plain : is_plai
   -- out of range
   pub refused_saying : (r : Refusal) → first_to_apply (range_checks (counts_of (book_in s).setup) q) ≡ some r → AnsweredSaying q s (refused r) s
   refused_saying r f = (
-    (λ c e. ap (λ (x : Answer (List ℕ)). x.outcome) (sym (range-answered s c h q e plain r f))),
-    ((λ c e. ap (λ (x : Answer (List ℕ)). x.book) (sym (range-answered s c h q e plain r f))), h),
+    (λ c e. ap (λ (x : Answer (List ℕ)). x.outcome) (sym (range_answered s c h q e plain r f))),
+    ((λ c e. ap (λ (x : Answer (List ℕ)). x.book) (sym (range_answered s c h q e plain r f))), h),
   )
 
   -- in range: as its kind is answered
   pub plain_saying : first_to_apply (range_checks (counts_of (book_in s).setup) q) ≡ none → (o : Outcome) (t : List ℕ)
       → KindAnswered (kind_of q.kind) s q o t → AnsweredSaying q s o t
   plain_saying f o t k = (
-    (λ c e. k.0 ∙ ap (λ (x : Answer (List ℕ)). x.outcome) (sym (plain-answered s c h q e plain f))),
-    ((λ c e. k.1.0 ∙ ap (λ (x : Answer (List ℕ)). x.book) (sym (plain-answered s c h q e plain f))), k.1.1),
+    (λ c e. k.0 ∙ ap (λ (x : Answer (List ℕ)). x.outcome) (sym (plain_answered s c h q e plain f))),
+    ((λ c e. k.1.0 ∙ ap (λ (x : Answer (List ℕ)). x.book) (sym (plain_answered s c h q e plain f))), k.1.1),
   )

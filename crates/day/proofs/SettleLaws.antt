@@ -29,7 +29,7 @@ use Rattle.rules.proofs.Lists.CallLists.{accepts_passed}
 use Rattle.rules.proofs.Lists.Batches.{the_kind}
 use Rattle.image.specs.Valid.{valid}
 use Rattle.image.proofs.Sound.SoundBooks.{book_sound, valid_sound}
-use Rattle.image.proofs.Tables.MoneyLaws.{most_money, settled-gained-most, settled-lost-most}
+use Rattle.image.proofs.Tables.MoneyLaws.{most_money, settled_gained_most, settled_lost_most}
 
 each_made : {A B : Type 0} {P : B → Type 0} (f : A → B) (xs : List A) → ((x : A) → P (f x)) → Each P (map f xs)
 each_made f [] h = nil
@@ -67,32 +67,32 @@ module _ (b : Book) (c : Call) where
     both : (accepts step b c ≡ true) × (call_kind c one_of (settle ∷ []) ≡ true)
     both = (and_both (accepts step b c) (call_kind c one_of (settle ∷ []))).0 h
 
-    is-settle : call_kind c ≡ settle
-    is-settle = the_kind (call_kind c) settle both.1
+    is_settle : call_kind c ≡ settle
+    is_settle = the_kind (call_kind c) settle both.1
 
-    pub settle-writes : (settlement b c ≡ some worked) × ((step b c).balances ≡ filled (balance_bytes worked.balances) c.balances)
+    pub settle_writes : (settlement b c ≡ some worked) × ((step b c).balances ≡ filled (balance_bytes worked.balances) c.balances)
     unfolding step settlement
-    settle-writes = writes_go (refusal b c) is-settle both.0
+    settle_writes = writes_go (refusal b c) is_settle both.0
 
     -- every price is in range
-    pub prices-in-range : Each (λ p. p.0 ≤ most_price) lent_prices
-    prices-in-range =
+    pub prices_in_range : Each (λ p. p.0 ≤ most_price) lent_prices
+    prices_in_range =
         let p = accepts_passed b c both.0 in
-        let i : Clear (input_checks b c settle (call_requests c)) = rw is-settle at p.input in
+        let i : Clear (input_checks b c settle (call_requests c)) = rw is_settle at p.input in
         each_map (λ x e. ltb-false _ _ e) (any_none _ lent_prices (passed_6_prices b c (call_requests c) i))
 
     module _ (v : valid b ≡ true) where
       -- no balance goes beyond what a day can move
-      pub balances-small : Each (λ z. nat_abs z ≤ most_money) (map balance_figure worked.balances)
+      pub balances_small : Each (λ z. nat_abs z ≤ most_money) (map balance_figure worked.balances)
       unfolding balances
-      balances-small =
+      balances_small =
           let ok = book_sound b (valid_sound b v) in
           let js = settled b.setup (net_of b.part.rows) lent_prices b.schedules in
           let figure : ℕ → ℤ = λ o. balance_figure (balance b.setup (net_of b.part.rows) lent_prices js o) in
           rw map-map (each_made {P = λ z. nat_abs z ≤ most_money} figure (up_to (operator_count b.setup)) (λ o.
-          difference_most _ _ most_money (settled-gained-most b ok lent_prices prices-in-range o) (settled-lost-most b ok lent_prices prices-in-range o)))
+          difference_most _ _ most_money (settled_gained_most b ok lent_prices prices_in_range o) (settled_lost_most b ok lent_prices prices_in_range o)))
 
       -- the figures in the buffer sum to what the balances sum to
-      pub written-total : sum_of (figures_in (operator_count b.setup) (step b c).balances) ≡ sum_of (map balance_figure worked.balances)
-      written-total =
-          rw (← balances_many, settle-writes.1) (ap sum_of (figures_back worked.balances c.balances (each_map (λ z m. omega arith) balances-small)))
+      pub written_total : sum_of (figures_in (operator_count b.setup) (step b c).balances) ≡ sum_of (map balance_figure worked.balances)
+      written_total =
+          rw (← balances_many, settle_writes.1) (ap sum_of (figures_back worked.balances c.balances (each_map (λ z m. omega arith) balances_small)))

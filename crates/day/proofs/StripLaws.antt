@@ -14,7 +14,7 @@ use Rattle.rules.specs.Strips.{with_bytes, strip_of_one, registers_of}
 use Rattle.rules.proofs.Basics.Searches.{each_image}
 use Rattle.rules.proofs.Records.StripRows.{rows_bytes}
 use Rattle.rules.proofs.Lists.Strips.{strip_of_one_lem, strip_in_turn}
-use Rattle.rules.proofs.Lists.Carrying.{after-carried}
+use Rattle.rules.proofs.Lists.Carrying.{after_carried}
 use Rattle.image.specs.Valid.{is_book, book_in, book_bytes}
 use Rattle.image.proofs.Round.{book_is_image}
 use Rattle.day.specs.Answers.{call_answer}
@@ -38,6 +38,6 @@ call_strip_in_turn s c h bytes strips passes =
     let on = call_on_book s c h in
     let plain = ap (λ (a : Answer (List ℕ)). is_acceptance a.outcome.verdict) (sym on) ∙ passes in
     ap (λ (x : List ℕ). after call_answer x (registers_of c)) image.0
-    ∙ after-carried books_in_bytes (book_in s) (registers_of c) (each_image (with_bytes c) (rows_bytes c.bytes bytes)) image.1
+    ∙ after_carried books_in_bytes (book_in s) (registers_of c) (each_image (with_bytes c) (rows_bytes c.bytes bytes)) image.1
     ∙ ap book_bytes (strip_in_turn (book_in s) c strips plain)
     ∙ sym (ap (λ (a : Answer (List ℕ)). a.book) on)

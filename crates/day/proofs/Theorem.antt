@@ -27,7 +27,7 @@ use Rattle.rules.proofs.Basics.Searches.{first_and_rest, each_map}
 use Rattle.rules.proofs.Lists.CallLists.{matched}
 use Rattle.rules.proofs.Lists.Batches.{like_an_empty_batch}
 use Rattle.rules.proofs.Lists.Asks.{commit_of_its_ask}
-use Rattle.rules.proofs.Lists.Carrying.{runs-carried, after-carried, heard-carried, accepts_carried, undone_carried, kept_carried, committed-carried, as-asked-carried}
+use Rattle.rules.proofs.Lists.Carrying.{runs-carried, after_carried, heard_carried, accepts_carried, undone_carried, kept_carried, committed_carried, as_asked_carried}
 use Rattle.image.specs.Valid.{book_bytes}
 use Rattle.image.proofs.Setups.SetupRanges.{each_split}
 use Rattle.image.proofs.Setups.SetupAgain.{accepted_in_range}
@@ -37,9 +37,9 @@ use Rattle.book.specs.Answers.{open_bytes}
 use Rattle.day.specs.Answers.{call_answer}
 use Rattle.day.specs.Promise.{Promise}
 use Rattle.day.proofs.Images.{call_on_image, books_in_bytes}
-use Rattle.day.proofs.SettleLaws.{settle-writes, written-total}
+use Rattle.day.proofs.SettleLaws.{settle_writes, written_total}
 use Rattle.day.proofs.Refusals.{runs_not_one}
-use Rattle.day.proofs.Readings.{net-answer-agrees, exposure-answer-agrees, hourly-exposure-answer-agrees}
+use Rattle.day.proofs.Readings.{net_answer_agrees, exposure-answer_agrees, hourly-exposure-answer_agrees}
 
 -- ---- a list from the bytes of the opened book
 
@@ -58,37 +58,37 @@ module _ (setup : List ℕ) (h : setup_refusal setup ≡ none) where
       }
 
   module _ (cs : List Call) (bytes : OfBytes cs) where
-    bytes-are : after call_answer fresh cs ≡ book_bytes (day_book setup cs)
-    bytes-are = after-carried books_in_bytes (opened setup) cs bytes (opened_valid setup h)
+    bytes_are : after call_answer fresh cs ≡ book_bytes (day_book setup cs)
+    bytes_are = after_carried books_in_bytes (opened setup) cs bytes (opened_valid setup h)
 
-    ledger-is : ledger_after call_answer setup fresh cs ≡ day_ledger setup cs
-    ledger-is = ap (fed_all (new_ledger setup)) (heard-carried books_in_bytes (opened setup) cs bytes (opened_valid setup h))
+    ledger_is : ledger_after call_answer setup fresh cs ≡ day_ledger setup cs
+    ledger_is = ap (fed_all (new_ledger setup)) (heard_carried books_in_bytes (opened setup) cs bytes (opened_valid setup h))
 
-    nets-are : net_of (day_book setup cs).part.rows ≡ ledger_net (day_ledger setup cs)
-    nets-are = fun_ext (λ a. fun_ext (λ k. net_is_the_ledgers (day_book setup cs) (day_ledger setup cs) (day_agrees setup cs) a k))
+    nets_are : net_of (day_book setup cs).part.rows ≡ ledger_net (day_ledger setup cs)
+    nets_are = fun_ext (λ a. fun_ext (λ k. net_is_the_ledgers (day_book setup cs) (day_ledger setup cs) (day_agrees setup cs) a k))
 
     -- in each hour net positions sum to zero
     nets_cancel : (k : ℕ) → sum_of (map (λ a. figure (ledger_net (day_ledger setup cs) a k)) (up_to (account_count (setup_of setup)))) ≡ pos 0
     nets_cancel k =
-        ap (λ (net : ℕ → ℕ → Net). sum_of (map (λ a. figure (net a k)) (up_to (account_count (setup_of setup))))) (sym nets-are)
+        ap (λ (net : ℕ → ℕ → Net). sum_of (map (λ a. figure (net a k)) (up_to (account_count (setup_of setup))))) (sym nets_are)
         ∙ ap (λ (u : Setup). sum_of (map (λ a. figure (net_of (day_book setup cs).part.rows a k)) (up_to (account_count u)))) (sym (reachable_setup setup h cs bytes))
         ∙ reachable_nets_cancel setup h cs bytes k
 
     -- an accepted settle on the bytes after the list
-    settle-total : (c : Call) → accepts_as call_answer (settle ∷ []) (after call_answer fresh cs) c ≡ true
+    settle_total : (c : Call) → accepts_as call_answer (settle ∷ []) (after call_answer fresh cs) c ≡ true
         → sum_of (figures_in (operator_count (setup_of setup)) (call_answer (after call_answer fresh cs) c).balances)
         ≡ registered_total (setup_of setup) (ledger_net (day_ledger setup cs)) (prices_in (setup_of setup) c.prices) (day_ledger setup cs).page.schedules
-    settle-total c e =
+    settle_total c e =
         let b = day_book setup cs in
         let v = reachable_valid setup h cs bytes in
-        let accepted : accepts_as step (settle ∷ []) b c ≡ true = sym (accepts_carried books_in_bytes (settle ∷ []) b c v) ∙ (rw bytes-are at e) in
-        let answer = ap (λ (s : List ℕ). call_answer s c) bytes-are ∙ call_on_image b v c in
+        let accepted : accepts_as step (settle ∷ []) b c ≡ true = sym (accepts_carried books_in_bytes (settle ∷ []) b c v) ∙ (rw bytes_are at e) in
+        let answer = ap (λ (s : List ℕ). call_answer s c) bytes_are ∙ call_on_image b v c in
         let count : operator_count (setup_of setup) ≡ operator_count b.setup = ap (λ (u : Setup). operator_count u) (sym (reachable_setup setup h cs bytes)) in
         let l = day_ledger setup cs in
         ap (λ (x : Answer (List ℕ)). sum_of (figures_in (operator_count (setup_of setup)) x.balances)) answer
         ∙ ap (λ (n : ℕ). sum_of (figures_in n (step b c).balances)) count
-        ∙ written-total b c accepted v
-        ∙ (day_settled setup cs owned c _ (settle-writes b c accepted).0).total
+        ∙ written_total b c accepted v
+        ∙ (day_settled setup cs owned c _ (settle_writes b c accepted).0).total
         ∙ ap (λ (u : Setup). registered_total u (ledger_net l) (prices_in u c.prices) l.page.schedules) (day_setup setup cs)
 
   -- an undone batch in the list, matched with an empty kept one
@@ -103,14 +103,14 @@ module _ (setup : List ℕ) (h : setup_refusal setup ≡ none) where
       let b : Book = day_book setup before in
       let parts = each_split before calls (each_split (before ++ calls) rest bytes).0 in
       let v = reachable_valid setup h before parts.0 in
-      let there = bytes-are before parts.0 in
+      let there = bytes_are before parts.0 in
       let opens = (each_split (opening ∷ between) (undoing ∷ []) parts.1).0 in
       let undone = undone_carried books_in_bytes b opening between undoing opens v (rw there at batch) in
       let kept = kept_carried books_in_bytes b other keeping (first_and_rest others).0 v (rw there at empty) in
       let same =
-      after-carried books_in_bytes b calls parts.1 v
+      after_carried books_in_bytes b calls parts.1 v
       ∙ ap (λ (x : Book). book_bytes x) (like_an_empty_batch b opening between undoing undone other keeping kept)
-      ∙ sym (after-carried books_in_bytes b instead others v) in
+      ∙ sym (after_carried books_in_bytes b instead others v) in
       matched call_answer fresh before calls instead rest
       (ap (λ (s : List ℕ). after call_answer s calls) there ∙ same ∙ sym (ap (λ (s : List ℕ). after call_answer s instead) there))
 
@@ -124,10 +124,10 @@ module _ (setup : List ℕ) (h : setup_refusal setup ≡ none) where
       let b : Book = day_book setup before in
       let parts = each_split before calls (each_split (before ++ calls) rest bytes).0 in
       let v = reachable_valid setup h before parts.0 in
-      let there = bytes-are before parts.0 in
+      let there = bytes_are before parts.0 in
       let many = first_and_rest (each_split (asking ∷ between) (committing ∷ []) parts.1).0 in
-      let plain = committed-carried books_in_bytes b asking between committing many.0 many.1 v (rw there at pair) in
-      rw there (as-asked-carried books_in_bytes b asking between committing many.0 many.1 v (commit_of_its_ask b asking between committing plain))
+      let plain = committed_carried books_in_bytes b asking between committing many.0 many.1 v (rw there at pair) in
+      rw there (as_asked_carried books_in_bytes b asking between committing many.0 many.1 v (commit_of_its_ask b asking between committing plain))
 
   fresh_promise : (cs : List Call) → OfBytes cs → Promise setup fresh cs
   fresh_promise cs bytes =
@@ -135,27 +135,27 @@ module _ (setup : List ℕ) (h : setup_refusal setup ≡ none) where
       let l = day_ledger setup cs in
       let g = day_agrees setup cs in
       let v = reachable_valid setup h cs bytes in
-      let at = bytes-are cs bytes in
-      let is = ledger-is cs bytes in
+      let at = bytes_are cs bytes in
+      let is = ledger_is cs bytes in
       let su = reachable_setup setup h cs bytes in
       record {
-        net-readings = λ a k. rw (at, is) (net-answer-agrees b l g v a k);
-        exposure-readings = λ o. rw (at, is) (exposure-answer-agrees b l g v o);
-        hourly-exposure-readings = λ o k. rw (at, is) (hourly-exposure-answer-agrees b l g v o k);
-        nets-sum-to-zero = λ k. rw is (nets_cancel cs bytes k);
-        nets-within-margins = λ a k al ah kl kh.
+        net_readings = λ a k. rw (at, is) (net_answer_agrees b l g v a k);
+        exposure_readings = λ o. rw (at, is) (exposure-answer_agrees b l g v o);
+        hourly-exposure_readings = λ o k. rw (at, is) (hourly-exposure-answer_agrees b l g v o k);
+        nets_sum_to_zero = λ k. rw is (nets_cancel cs bytes k);
+        nets_within_margins = λ a k al ah kl kh.
             rw (is, ← net_is_the_ledgers b l g a k, ← su) (reachable_nets_within_margins setup h cs bytes a k al (rw su ah) kl (rw su kh));
-        pending-within-margins = λ a k al ah kl kh.
+        pending-within_margins = λ a k al ah kl kh.
             rw (is, ← hour_is_the_ledgers b l g a k, ← su) (reachable_margins_kept setup h cs bytes a k al (rw su ah) kl (rw su kh));
-        exposures-covered = λ o low high.
+        exposures_covered = λ o low high.
             rw (is, ← exposure_is_the_ledgers b l g o, ← available_is_the_ledgers b l g o) (reachable_covered setup h cs bytes o low (rw su high));
-        undone-batches-matched = λ before opening between undoing rest e batch other keeping others empty.
+        undone_batches_matched = λ before opening between undoing rest e batch other keeping others empty.
             batch_matched before opening between undoing rest (rw e at bytes) batch other keeping others empty;
-        commits-as-asked = λ before asking between committing rest e pair.
+        commits_as_asked = λ before asking between committing rest e pair.
             ask_committed before asking between committing rest (rw e at bytes) pair;
-        balances-total = λ before c rest e accepted.
+        balances_total = λ before c rest e accepted.
             let some = (each_split before (c ∷ rest) (rw e at bytes)).0 in
-            rw (ledger-is before some) (settle-total before some c accepted);
+            rw (ledger_is before some) (settle_total before some c accepted);
       }
 
 -- ---- the theorem

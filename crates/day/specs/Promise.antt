@@ -29,29 +29,29 @@ module _ (setup start : List ℕ) where
   pub record Promise (cs : List Call) : Type 0 where
     -- after the list every reading of net equals the ledger's, in number, details and signed figure: the sum of the account's confirmed trades
     -- that no undo struck
-    pub net-readings : (a h : ℕ) → net_read_out (net_answer (book cs) a h) ≡ ledger_net_read_out (ledger cs) a h
+    pub net_readings : (a h : ℕ) → net_read_out (net_answer (book cs) a h) ≡ ledger_net_read_out (ledger cs) a h
     -- and every reading of exposure, in number, details and money
-    pub exposure-readings : (o : ℕ) → exposure_read_out (exposure_answer (book cs) o) ≡ ledger_exposure_read_out (ledger cs) o
+    pub exposure_readings : (o : ℕ) → exposure_read_out (exposure_answer (book cs) o) ≡ ledger_exposure_read_out (ledger cs) o
     -- and every reading of hourly exposure
-    pub hourly-exposure-readings : (o h : ℕ)
+    pub hourly-exposure_readings : (o h : ℕ)
         → exposure_read_out (hourly_exposure_answer (book cs) o h) ≡ ledger_hourly_exposure_read_out (ledger cs) o h
     -- in each hour net positions sum to zero
-    pub nets-sum-to-zero : (h : ℕ)
+    pub nets_sum_to_zero : (h : ℕ)
         → sum_of (map (λ a. figure (ledger_net (ledger cs) a h)) (up_to (account_count (setup_of setup)))) ≡ pos 0
     -- each net position is within its margins
-    pub nets-within-margins : (a h : ℕ) → 1 ≤ a → a ≤ account_count (setup_of setup) → 1 ≤ h → h ≤ periods (setup_of setup)
+    pub nets_within_margins : (a h : ℕ) → 1 ≤ a → a ≤ account_count (setup_of setup) → 1 ≤ h → h ≤ periods (setup_of setup)
         → (neg_ℤ (pos (lower_at (setup_of setup) a h).0) ≤ℤ figure (ledger_net (ledger cs) a h))
         × (figure (ledger_net (ledger cs) a h) ≤ℤ pos (upper_at (setup_of setup) a h).0)
     -- with the account's own pending rows too: minus lower margin ≤ low, high ≤ upper margin
-    pub pending-within-margins : (a h : ℕ) → 1 ≤ a → a ≤ account_count (setup_of setup) → 1 ≤ h → h ≤ periods (setup_of setup)
+    pub pending-within_margins : (a h : ℕ) → 1 ≤ a → a ≤ account_count (setup_of setup) → 1 ≤ h → h ≤ periods (setup_of setup)
         → (neg_ℤ (pos (lower_at (setup_of setup) a h).0) ≤ℤ low (ledger_hour (ledger cs) a h))
         × (high (ledger_hour (ledger cs) a h) ≤ℤ pos (upper_at (setup_of setup) a h).0)
     -- no exposure is above the available guarantee
-    pub exposures-covered : (o : ℕ) → 1 ≤ o → o ≤ operator_count (setup_of setup)
+    pub exposures_covered : (o : ℕ) → 1 ≤ o → o ≤ operator_count (setup_of setup)
         → ledger_exposure (ledger cs) o ≤ ledger_available (ledger cs) o
     -- an undone batch (an accepted open, the next accepted undo with no accepted keep between, and all between) matched with an empty kept
     -- batch in its place: every other call answers the same, and the last bytes are equal
-    pub undone-batches-matched : (before : List Call) (opening : Call) (between : List Call) (undoing : Call) (rest : List Call)
+    pub undone_batches_matched : (before : List Call) (opening : Call) (between : List Call) (undoing : Call) (rest : List Call)
         → cs ≡ before ++ (opening ∷ between ++ undoing ∷ []) ++ rest
         → UndoneBatch call_answer (book before) opening between undoing
         → (other keeping : Call) → Each (λ c. Bytes c.bytes) (other ∷ keeping ∷ [])
@@ -59,13 +59,13 @@ module _ (setup start : List ℕ) where
         → Matched call_answer start before (opening ∷ between ++ undoing ∷ []) (other ∷ keeping ∷ []) rest
     -- between an accepted ask and its accepted commit no accepted call but asks stands, and the commit is answered as its ask was, number
     -- and all; its ask is the last accepted one of its account before it
-    pub commits-as-asked : (before : List Call) (asking : Call) (between : List Call) (committing : Call) (rest : List Call)
+    pub commits_as_asked : (before : List Call) (asking : Call) (between : List Call) (committing : Call) (rest : List Call)
         → cs ≡ before ++ (asking ∷ between ++ committing ∷ []) ++ rest
         → AskCommitted call_answer (book before) asking between committing
         → CommittedAsAsked call_answer (book before) asking between committing
     -- the balances that an accepted settle wrote total the registered schedules at their prices, registered being what the rules give 0 on
     -- the ledger's schedules and net: injections and mixed withdrawals at zone price, other withdrawals at PUN, withdrawals negative
-    pub balances-total : (before : List Call) (c : Call) (rest : List Call)
+    pub balances_total : (before : List Call) (c : Call) (rest : List Call)
         → cs ≡ before ++ c ∷ rest
         → accepts_as call_answer (settle ∷ []) (book before) c ≡ true
         → sum_of (figures_in (operator_count (setup_of setup)) (call_answer (book before) c).balances)

@@ -11,7 +11,7 @@ use lib.Dec.{eqb}
 use borrow.Author.Tests.{eqb-true, eq-eqb, ne_eqb}
 use Rattle.wire.specs.Numbers.{number, number_at, le, Bytes}
 use Rattle.wire.specs.Parts.{Small, zeros, chunks, slots}
-use Rattle.wire.proofs.NumberLaws.{number-le, le-number_wide}
+use Rattle.wire.proofs.NumberLaws.{number-le, le_number_wide}
 use Rattle.wire.proofs.PartLaws.{cut-flat}
 use Rattle.wire.proofs.PackLaws.{number_in_pack, pack-numbers}
 use Rattle.wire.proofs.SlotLaws.{unslots}
@@ -65,7 +65,7 @@ pub guarantee_back : (g : Cents) → g.0 ≤ most_guarantee → cents (number (l
 guarantee_back g h = rw (number-le guarantee_width g.0 (omega arith))
 
 pub guarantee_again : (c : List ℕ) → Bytes c → length c ≡ guarantee_width → le guarantee_width (cents (number c)).0 ≡ c
-guarantee_again c b l = le-number_wide b guarantee_width l
+guarantee_again c b l = le_number_wide b guarantee_width l
 
 -- ---- a part
 

@@ -69,14 +69,14 @@ module _ (s : List ℕ) (k : ℕ) (h : unreadable s ≡ false) (e : k ≡ field_
     unfolding read_checks
     past_kind = rw (← e) (check_next (unreadable s ⇒ Unreadable) _ (rw h) ∙ check_next (not (is_single k) ⇒ UnknownKind) _ (rw n))
 
-    pub reads-other-map : {r : Refusal} → applies (map_check k s) ≡ some r → Unread r ≡ reading s
+    pub reads_other_map : {r : Refusal} → applies (map_check k s) ≡ some r → Unread r ≡ reading s
     unfolding reading
-    reads-other-map o = rw (past_kind, check_here (map_check k s) _ _ o)
+    reads_other_map o = rw (past_kind, check_here (map_check k s) _ _ o)
 
     module _ (m : applies (map_check k s) ≡ none) where
-      pub reads-other-length : (length s ≡ wanted_length k → ⊥) → Unread WrongLength ≡ reading s
+      pub reads_other_length : (length s ≡ wanted_length k → ⊥) → Unread WrongLength ≡ reading s
       unfolding reading first_to_apply
-      reads-other-length o = rw (past_kind, check_next (map_check k s) _ m, ne_eqb (length s) (wanted_length k) o)
+      reads_other_length o = rw (past_kind, check_next (map_check k s) _ m, ne_eqb (length s) (wanted_length k) o)
 
       -- nothing is left to refuse
       pub reads_on : length s ≡ wanted_length k → Readable s

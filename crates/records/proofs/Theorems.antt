@@ -30,13 +30,13 @@ room_again s buffer q b e h = omega (arith, length-write q (read_is_known s q e)
 
 -- "an accepted reading writes back as the same bytes": what was read is written into any buffer that has room for it, the same
 -- bytes first and the buffer's others unchanged,
-pub accepted-reading_writes_back : (s buffer : List ℕ) (q : Request) → Bytes s → reading s ≡ Read q → length s ≤ length buffer
+pub accepted_reading_writes_back : (s buffer : List ℕ) (q : Request) → Bytes s → reading s ≡ Read q → length s ≤ length buffer
     → written q buffer ≡ s ++ drop (length s) buffer
-accepted-reading_writes_back s buffer q b e h =
+accepted_reading_writes_back s buffer q b e h =
     sym (writes_front q buffer (read_is_known s q e) (room_again s buffer q b e h)).1
     ∙ ap (λ (front : List ℕ). filled front buffer) (read_writes_back s q b e)
 
 -- and the writer accepts it
-pub accepted-reading_is_written : (s buffer : List ℕ) (q : Request) → Bytes s → reading s ≡ Read q → length s ≤ length buffer
+pub accepted_reading_is_written : (s buffer : List ℕ) (q : Request) → Bytes s → reading s ≡ Read q → length s ≤ length buffer
     → write_outcome q buffer ≡ accepted 0
-accepted-reading_is_written s buffer q b e h = sym (writes_front q buffer (read_is_known s q e) (room_again s buffer q b e h)).0
+accepted_reading_is_written s buffer q b e h = sym (writes_front q buffer (read_is_known s q e) (room_again s buffer q b e h)).0

@@ -35,14 +35,14 @@ module _ (b : Book) (qs : List Request) where
 
     module _ (alone : any_passes (has_twin b.part.rows) qs ≡ false) where
       -- refusal 22: two of them are alike
-      pub twins-among : twins qs ≡ true → first_to_apply (state_checks b register qs) ≡ some StripTwins
+      pub twins_among : twins qs ≡ true → first_to_apply (state_checks b register qs) ≡ some StripTwins
       unfolding state_checks first_to_apply
-      twins-among e = rw (eq-eqb _ 1 first, alone, e)
+      twins_among e = rw (eq-eqb _ 1 first, alone, e)
 
       -- refusal 15: too few numbers are left
-      pub no-numbers-left : twins qs ≡ false → most_rows < length b.part.rows + length qs → first_to_apply (state_checks b register qs) ≡ some RowsFull
+      pub no_numbers_left : twins qs ≡ false → most_rows < length b.part.rows + length qs → first_to_apply (state_checks b register qs) ≡ some RowsFull
       unfolding state_checks first_to_apply
-      no-numbers-left apart h = rw (eq-eqb _ 1 first, alone, apart, lt-leb (length b.part.rows + length qs) most_rows h)
+      no_numbers_left apart h = rw (eq-eqb _ 1 first, alone, apart, lt-leb (length b.part.rows + length qs) most_rows h)
 
 module _ (b : Book) (qs : List Request) (p : Addable b qs) where
   room : leb (length b.part.rows + length qs) most_rows ≡ true
@@ -69,10 +69,10 @@ module _ (b : Book) (qs : List Request) (p : Addable b qs) where
         covered_at b (b.part.rows ++ map proposed qs) o _ (sym (exposure_added b.setup b.part.rows (map proposed qs) o)) ∙ sym test
 
     -- refusal 19: the exposure is not covered
-    pub rows-uncovered : t ≡ false → first_to_apply (state_checks b register qs) ≡ some Uncovered
+    pub rows_uncovered : t ≡ false → first_to_apply (state_checks b register qs) ≡ some Uncovered
     unfolding state_checks first_to_apply
-    rows-uncovered f = rw (eq-eqb _ 1 p.in_registration, p.none_standing, p.none_alike, room, broken_next ∙ kept, covered_next ∙ f)
+    rows_uncovered f = rw (eq-eqb _ 1 p.in_registration, p.none_standing, p.none_alike, room, broken_next ∙ kept, covered_next ∙ f)
 
-    pub rows-covered : t ≡ true → first_to_apply (state_checks b register qs) ≡ none
+    pub rows_covered : t ≡ true → first_to_apply (state_checks b register qs) ≡ none
     unfolding state_checks first_to_apply
-    rows-covered f = rw (eq-eqb _ 1 p.in_registration, p.none_standing, p.none_alike, room, broken_next ∙ kept, covered_next ∙ f)
+    rows_covered f = rw (eq-eqb _ 1 p.in_registration, p.none_standing, p.none_alike, room, broken_next ∙ kept, covered_next ∙ f)

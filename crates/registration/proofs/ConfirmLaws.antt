@@ -34,12 +34,12 @@ use Rattle.registration.specs.Margins.{AccountTrade, broken}
 use Rattle.registration.specs.Cover.{exposure_with_trade, covered_with_trade}
 use Rattle.registration.specs.Positions.{nets_moved, marked_confirmed}
 use Rattle.registration.specs.declared.margins.Broken.TheVariants.{Hour, Nowhere}
-use Rattle.registration.proofs.Decisions.{no-row-to-confirm, terms-differ, confirm-breaks, confirm-uncovered, confirm-passes}
+use Rattle.registration.proofs.Decisions.{no_row_to_confirm, terms_differ, confirm_breaks, confirm_uncovered, confirm_passes}
 use Rattle.registration.proofs.Acceptances.{confirmed_answered}
 use Rattle.registration.proofs.SearchLaws.{find_cong}
 use Rattle.registration.proofs.PendingLaws.{number_high}
 use Rattle.registration.proofs.MarginLaws.{found_hour, found_nowhere}
-use Rattle.registration.proofs.CoverLaws.{covered_at, still_covered, ended-row_in_range}
+use Rattle.registration.proofs.CoverLaws.{covered_at, still_covered, ended_row_in_range}
 
 -- ---- the row that is named
 
@@ -61,7 +61,7 @@ index_named (some i) l = (i, refl)
 module _ (b : Book) (q : Request) (number : ℕ) (first : b.phase ≡ 1) (same : number ≡ confirmed_number b q) where
   -- refusal 16: it names no row
   pub names_no_row : number ≡ 0 → decided confirm b q ≡ some NoSuchRow
-  names_no_row e = no-row-to-confirm b q first (go (confirms b.part.rows q) (sym same ∙ e))
+  names_no_row e = no_row_to_confirm b q first (go (confirms b.part.rows q) (sym same ∙ e))
     where
       go : (o : Option ℕ) → number_from o ≡ 0 → o ≡ none
       go none z = refl
@@ -69,13 +69,13 @@ module _ (b : Book) (q : Request) (number : ℕ) (first : b.phase ≡ 1) (same :
 
   module _ (r : Row) (some-row : number ≡ 0 → ⊥) (row : r ≡ nth b.part.rows number no_row) where
     -- refusal 17: the terms are others
-    pub names-other-terms : mirrors q r ≡ false → decided confirm b q ≡ some NotMirrored
-    names-other-terms w =
+    pub names_other_terms : mirrors q r ≡ false → decided confirm b q ≡ some NotMirrored
+    names_other_terms w =
         let (i, named) = index_named (confirms b.part.rows q) (omega (arith, same)) in
-        terms-differ b q first i named (rw (← same, ← row) w)
+        terms_differ b q first i named (rw (← same, ← row) w)
 
-    pub names-its-terms : mirrors q r ≡ true → Confirming b q r
-    names-its-terms w =
+    pub names_its_terms : mirrors q r ≡ true → Confirming b q r
+    names_its_terms w =
         record { in_registration = first; named = omega (arith, same); row = row ∙ ap (λ (n : ℕ). nth b.part.rows n no_row) same; terms = w }
 
 -- the number that is found is that of the row which confirm names
@@ -118,8 +118,8 @@ module _ (s : List ℕ) (r : Row) (h : is_sound s ≡ true) (w : WaitsIn (book_i
           last_high = sound.last_high;
         })
 
-    pub trade-in-range : TradeInRange (book_in s).setup trade
-    trade-in-range = ended-row_in_range (book_in s).setup trade (rw e waiting_sound.quantity_high) (rw e)
+    pub trade-in_range : TradeInRange (book_in s).setup trade
+    trade-in_range = ended_row_in_range (book_in s).setup trade (rw e waiting_sound.quantity_high) (rw e)
 
   -- once the row is confirmed the exposure is that of the rows where it is marked so
   exposure_with_trade_lem : (o : ℕ) → exposure_with_trade (book_in s) r o ≡ exposure (book_in s).setup (mark w.number 2 (book_in s).part.rows) o
@@ -148,12 +148,12 @@ module _ (s : List ℕ) (q : Request) (r : Row) (h : is_sound s ≡ true) (w : C
       let f = index_first (alike q.other q.account q.code) no_row (book_in s).part.rows i e in
       rw (w.row, e) (alike_true _ _ _ _ f.passes)
 
-  abbrev pub named-waits : WaitsIn (book_in s) r
-  named-waits = record { number = confirmed_number (book_in s) q; row = w.row; is_pending = named_alike.is_pending }
+  abbrev pub named_waits : WaitsIn (book_in s) r
+  named_waits = record { number = confirmed_number (book_in s) q; row = w.row; is_pending = named_alike.is_pending }
 
   -- it is a row of the book
   named_sound : SoundRow (book_in s).setup r
-  named_sound = waiting_sound s r h named-waits
+  named_sound = waiting_sound s r h named_waits
 
   -- the calling account is one of the book's, and not the proposer
   pub caller_in_book : IsAccount (book_in s) q.account
@@ -178,11 +178,11 @@ module _ (s : List ℕ) (q : Request) (r : Row) (h : is_sound s ≡ true) (w : C
     -- ---- what the state decides
 
     -- refusal 18: the trade breaks a margin
-    pub trade-breaks : (k : ℕ) → Hour k ≡ broken (broken_by (book_in s).setup (book_in s).part.rows (trade ∷ []) q.account)
+    pub trade_breaks : (k : ℕ) → Hour k ≡ broken (broken_by (book_in s).setup (book_in s).part.rows (trade ∷ []) q.account)
         → decided confirm (book_in s) q ≡ some (MarginBroken k)
-    trade-breaks k f =
+    trade_breaks k f =
         let (i, named) = index_named (confirms (book_in s).part.rows q) w.named in
-        confirm-breaks (book_in s) q w.in_registration i named same_terms_lem k (broken_next ∙ found_hour _ _ _ _ _ k e f)
+        confirm_breaks (book_in s) q w.in_registration i named same_terms_lem k (broken_next ∙ found_hour _ _ _ _ _ k e f)
 
     module _ (kept : Nowhere ≡ broken (broken_by (book_in s).setup (book_in s).part.rows (trade ∷ []) q.account)) (t : Bool)
         (test : t ≡ covered_with_trade (book_in s) r (operator_of (book_in s).setup q.account)) where
@@ -190,18 +190,18 @@ module _ (s : List ℕ) (q : Request) (r : Row) (h : is_sound s ≡ true) (w : C
       unfolding apply
       covered_next =
           let o : ℕ = operator_of (book_in s).setup q.account in
-          covered_at (book_in s) (mark (confirmed_number (book_in s) q) 2 (book_in s).part.rows) o _ (exposure_with_trade_lem s r h named-waits o) ∙ sym test
+          covered_at (book_in s) (mark (confirmed_number (book_in s) q) 2 (book_in s).part.rows) o _ (exposure_with_trade_lem s r h named_waits o) ∙ sym test
 
       -- refusal 19: the exposure is not covered
-      pub trade-uncovered : t ≡ false → decided confirm (book_in s) q ≡ some Uncovered
-      trade-uncovered f =
+      pub trade_uncovered : t ≡ false → decided confirm (book_in s) q ≡ some Uncovered
+      trade_uncovered f =
           let (i, named) = index_named (confirms (book_in s).part.rows q) w.named in
-          confirm-uncovered (book_in s) q w.in_registration i named same_terms_lem (broken_next ∙ found_nowhere _ _ _ _ _ e kept) (covered_next ∙ f)
+          confirm_uncovered (book_in s) q w.in_registration i named same_terms_lem (broken_next ∙ found_nowhere _ _ _ _ _ e kept) (covered_next ∙ f)
 
-      pub covered-with-trade : t ≡ true → decided confirm (book_in s) q ≡ none
-      covered-with-trade f =
+      pub covered_with_trade_lem : t ≡ true → decided confirm (book_in s) q ≡ none
+      covered_with_trade_lem f =
           let (i, named) = index_named (confirms (book_in s).part.rows q) w.named in
-          confirm-passes (book_in s) q w.in_registration i named same_terms_lem (broken_next ∙ found_nowhere _ _ _ _ _ e kept) (covered_next ∙ f)
+          confirm_passes (book_in s) q w.in_registration i named same_terms_lem (broken_next ∙ found_nowhere _ _ _ _ _ e kept) (covered_next ∙ f)
 
 -- ---- what an accepted one writes
 
@@ -216,14 +216,14 @@ module _ (s : List ℕ) (q : Request) (number : ℕ) (h : is_sound s ≡ true) (
     accepted_sound : SoundRow (book_in s).setup r
     accepted_sound = row_sound s h number r accepted_number row
 
-    pub accepted-tabled : Tabled most_hours r
-    accepted-tabled = sound_tabled (book_in s).setup (book_is_sound s h).setup_sound r accepted_sound
+    pub accepted_tabled : Tabled most_hours r
+    accepted_tabled = sound_tabled (book_in s).setup (book_is_sound s h).setup_sound r accepted_sound
 
-    pub accepted-energy : 1 ≤ r.quantity.0
-    accepted-energy = accepted_sound.quantity_low
+    pub accepted_energy : 1 ≤ r.quantity.0
+    accepted_energy = accepted_sound.quantity_low
 
-    pub trade-answered : (t : List ℕ) → t ≡ nets_moved (marked_confirmed s number) r → Answered confirm s q (accepted number) t
-    trade-answered t e =
+    pub trade_answered : (t : List ℕ) → t ≡ nets_moved (marked_confirmed s number) r → Answered confirm s q (accepted number) t
+    trade_answered t e =
         let (i, named) = passed_16_confirm (book_in s) (q ∷ []) (decided_clear confirm (book_in s) q free) in
         let next_one : number ≡ suc i = same ∙ ap number_from named in
         let here : r ≡ get_or (book_in s).part.rows i no_row = row ∙ ap (λ (n : ℕ). nth (book_in s).part.rows n no_row) next_one in

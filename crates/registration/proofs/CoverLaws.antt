@@ -108,16 +108,16 @@ still_covered s a owed h own no_more =
     let fits = exposure-available s (operator_of (book_in s).setup a) h (caller_operator s a h own) in sym (le-leb owed _ (omega arith))
 
 -- a row that is not pending can be added
-pub ended-row_in_range : (u : Setup) (r : Row) → r.quantity.0 ≤ most_energy → pending r ≡ false → TradeInRange u r
-ended-row_in_range u r l f =
+pub ended_row_in_range : (u : Setup) (r : Row) → r.quantity.0 ≤ most_energy → pending r ≡ false → TradeInRange u r
+ended_row_in_range u r l f =
     record {
       quantity_high = l;
-      proposer_known = λ e. absurd (not-both e f);
-      hours_known = λ e. absurd (not-both e f);
+      proposer_known = λ e. absurd (not_both e f);
+      hours_known = λ e. absurd (not_both e f);
     }
   where
-    not-both : {t : Bool} → t ≡ true → t ≡ false → ⊥
-    not-both e f = let z : true ≡ false = sym e ∙ f in let y : ◌≡◌ {A = ℕ} 0 1 = cc in omega arith
+    not_both : {t : Bool} → t ≡ true → t ≡ false → ⊥
+    not_both e f = let z : true ≡ false = sym e ∙ f in let y : ◌≡◌ {A = ℕ} 0 1 = cc in omega arith
 
 -- ---- pending rows more
 

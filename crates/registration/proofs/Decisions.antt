@@ -14,37 +14,37 @@ use Rattle.book.specs.Kinds.{decided}
 module _ (b : Book) (q : Request) where
   module _ (first : b.phase ≡ 1) where
     -- refusal 16 of withdraw
-    pub no-row-to-withdraw : withdraws b.part.rows q ≡ false → decided withdraw b q ≡ some NoSuchRow
+    pub no_row_to_withdraw : withdraws b.part.rows q ≡ false → decided withdraw b q ≡ some NoSuchRow
     unfolding decided state_checks first_to_apply
-    no-row-to-withdraw w = rw (eq-eqb _ 1 first, w)
+    no_row_to_withdraw w = rw (eq-eqb _ 1 first, w)
 
-    pub row-to-withdraw : withdraws b.part.rows q ≡ true → decided withdraw b q ≡ none
+    pub row_to_withdraw : withdraws b.part.rows q ≡ true → decided withdraw b q ≡ none
     unfolding decided state_checks first_to_apply
-    row-to-withdraw w = rw (eq-eqb _ 1 first, w)
+    row_to_withdraw w = rw (eq-eqb _ 1 first, w)
 
     -- refusals 16 to 19 of confirm
-    pub no-row-to-confirm : confirms b.part.rows q ≡ none → decided confirm b q ≡ some NoSuchRow
+    pub no_row_to_confirm : confirms b.part.rows q ≡ none → decided confirm b q ≡ some NoSuchRow
     unfolding decided state_checks first_to_apply
-    no-row-to-confirm w = rw (eq-eqb _ 1 first, w)
+    no_row_to_confirm w = rw (eq-eqb _ 1 first, w)
 
     module _ (i : ℕ) (named : confirms b.part.rows q ≡ some i) where
-      pub terms-differ : mirrors q (nth b.part.rows (confirmed_number b q) no_row) ≡ false → decided confirm b q ≡ some NotMirrored
+      pub terms_differ : mirrors q (nth b.part.rows (confirmed_number b q) no_row) ≡ false → decided confirm b q ≡ some NotMirrored
       unfolding decided state_checks first_to_apply
-      terms-differ w = rw (eq-eqb _ 1 first, w, named)
+      terms_differ w = rw (eq-eqb _ 1 first, w, named)
 
       module _ (alike-terms : mirrors q (nth b.part.rows (confirmed_number b q) no_row) ≡ true) where
-        pub confirm-breaks : (h : ℕ) → broken_hour b.setup (changed confirm b (q ∷ [])).part.rows q.account ≡ some h
+        pub confirm_breaks : (h : ℕ) → broken_hour b.setup (changed confirm b (q ∷ [])).part.rows q.account ≡ some h
             → decided confirm b q ≡ some (MarginBroken h)
         unfolding decided state_checks first_to_apply
-        confirm-breaks h w = rw (eq-eqb _ 1 first, alike-terms, w, named)
+        confirm_breaks h w = rw (eq-eqb _ 1 first, alike-terms, w, named)
 
         module _ (whole : broken_hour b.setup (changed confirm b (q ∷ [])).part.rows q.account ≡ none) where
-          pub confirm-uncovered : covered b.setup (changed confirm b (q ∷ [])).part (operator_of b.setup q.account) ≡ false
+          pub confirm_uncovered : covered b.setup (changed confirm b (q ∷ [])).part (operator_of b.setup q.account) ≡ false
               → decided confirm b q ≡ some Uncovered
           unfolding decided state_checks first_to_apply
-          confirm-uncovered w = rw (eq-eqb _ 1 first, alike-terms, whole, w, named)
+          confirm_uncovered w = rw (eq-eqb _ 1 first, alike-terms, whole, w, named)
 
-          pub confirm-passes : covered b.setup (changed confirm b (q ∷ [])).part (operator_of b.setup q.account) ≡ true
+          pub confirm_passes : covered b.setup (changed confirm b (q ∷ [])).part (operator_of b.setup q.account) ≡ true
               → decided confirm b q ≡ none
           unfolding decided state_checks first_to_apply
-          confirm-passes w = rw (eq-eqb _ 1 first, alike-terms, whole, w, named)
+          confirm_passes w = rw (eq-eqb _ 1 first, alike-terms, whole, w, named)

@@ -20,7 +20,7 @@ use Rattle.book.specs.Members.{IsAccount, IsHour}
 use Rattle.book.specs.Netted.{netted}
 use Rattle.book.specs.Waits.{wait_cell, Waits, WaitsOf, tabled_hour, netted_hour}
 use Rattle.book.proofs.StateLaws.{book_is_sound, row_count_high}
-use Rattle.book.proofs.ReadingLaws.{net-near}
+use Rattle.book.proofs.ReadingLaws.{net_near}
 use Rattle.book.proofs.NettedLaws.{netted_difference}
 use Rattle.book.proofs.WaitLaws.{side_hour}
 use Rattle.registration.specs.Margins.{AccountTrade, broken}
@@ -36,7 +36,7 @@ module _ (s : List ℕ) (h : is_sound s ≡ true) where
       → (x.net.bought.0 + q < 2 ^ 32) × (x.net.sold.0 + q < 2 ^ 32) × (x.sales.0 + q < 2 ^ 32) × (x.purchases.0 + q < 2 ^ 32)
   unfolding netted
   hour_room waits q a k x i j w l e =
-      let near = net-near s h a k i j in
+      let near = net_near s h a k i j in
       let few = row_count_high s h in
       let sales = w.waits_at 1 k (side_hour s h 1 k (omega arith) (omega arith) j) in
       let purchases = w.waits_at 2 k (side_hour s h 2 k (omega arith) (omega arith) j) in

@@ -60,15 +60,15 @@ module _ (p : Row → Bool) where
 
   module _ (s : List ℕ) (at n number passed : ℕ) (left : number ≡ numbered passed (index_of p (rows_from s at n))) where
     -- no row is left
-    pub number-none : n ≤ 0 → 0 ≡ number
+    pub number_none : n ≤ 0 → 0 ≡ number
     unfolding index_of numbered
-    number-none h = sym (left ∙ rw (rows_done s at n h))
+    number_none h = sym (left ∙ rw (rows_done s at n h))
 
     module _ (m : ℕ) (more : n ≡ m + 1) where
       -- the next row is it
-      pub number-here : p (row_in (take row_width (drop at s))) ≡ true → passed + 1 ≡ number
+      pub number_here : p (row_in (take row_width (drop at s))) ≡ true → passed + 1 ≡ number
       unfolding numbered
-      number-here e = sym (left ∙ rw (rows_step s at n m more, index_here (row_in (take row_width (drop at s))) (rows_from s (at + row_width) m) e) (omega arith))
+      number_here e = sym (left ∙ rw (rows_step s at n m more, index_here (row_in (take row_width (drop at s))) (rows_from s (at + row_width) m) e) (omega arith))
 
       -- the next row is passed
       pub number-next : p (row_in (take row_width (drop at s))) ≡ false → number ≡ numbered (passed + 1) (index_of p (rows_from s (at + row_width) m))

@@ -72,7 +72,7 @@ module _ (b : Book) (q : Request) (first : b.phase ≡ 1) where
   pub no_number_left : any_passes (alike q.account q.other q.code) b.part.rows ≡ false → most_rows ≤ length b.part.rows
       → decided register b q ≡ some RowsFull
   unfolding decided
-  no_number_left alone h = Adding.no-numbers-left b (q ∷ []) first (one_standing b.part.rows q false alone) (one_alone q) (omega arith)
+  no_number_left alone h = Adding.no_numbers_left b (q ∷ []) first (one_standing b.part.rows q false alone) (one_alone q) (omega arith)
 
 module _ (b : Book) (q : Request) (p : Proposing b q) where
   -- refusal 18: the row breaks a margin
@@ -83,13 +83,13 @@ module _ (b : Book) (q : Request) (p : Proposing b q) where
   module _ (kept : broken_by b.setup b.part.rows (proposed q ∷ []) q.account ≡ none) (t : Bool)
       (test : t ≡ covered_with_row b (proposed q) (operator_of b.setup q.account)) where
     -- refusal 19: the exposure is not covered
-    pub row-uncovered : t ≡ false → decided register b q ≡ some Uncovered
+    pub row_uncovered : t ≡ false → decided register b q ≡ some Uncovered
     unfolding decided
-    row-uncovered f = Adding.rows-uncovered b (q ∷ []) (proposing b q p) kept t test f
+    row_uncovered f = Adding.rows_uncovered b (q ∷ []) (proposing b q p) kept t test f
 
-    pub covered-with-row : t ≡ true → decided register b q ≡ none
+    pub covered_with_row_lem : t ≡ true → decided register b q ≡ none
     unfolding decided
-    covered-with-row f = Adding.rows-covered b (q ∷ []) (proposing b q p) kept t test f
+    covered_with_row_lem f = Adding.rows_covered b (q ∷ []) (proposing b q p) kept t test f
 
 -- an accepted row has a number
 pub few_rows : (b : Book) (q : Request) → decided register b q ≡ none → length b.part.rows < most_rows

@@ -31,7 +31,7 @@ use Rattle.items.proofs.StreamLaws.{record_bytes, record_within}
 use Rattle.items.proofs.WrittenLaws.{written_then}
 use Rattle.items.proofs.SettledLaws.{SmallBalances, settled_text_lem, settled_small}
 use Rattle.image.specs.Valid.{valid}
-use Rattle.day.proofs.SettleLaws.{worked, balances_many, settle-writes, balances-small}
+use Rattle.day.proofs.SettleLaws.{worked, balances_many, settle_writes, balances_small}
 use Rattle.replaying.specs.Lent.{answer_text}
 
 -- ---- which items settle
@@ -100,17 +100,17 @@ module _ (b : Book) (c : Call) where
 
   module _ (v : valid b ≡ true) (h : accepts_as step (settle ∷ []) b c ≡ true) where
     small : SmallBalances (worked b c).balances
-    small = each_map (λ z m. omega arith) (balances-small b c h v)
+    small = each_map (λ z m. omega arith) (balances_small b c h v)
 
     -- the figures in the buffer of an accepted settle are small
-    figures-small : Each SmallFigure (figures_in (operator_count b.setup) (step b c).balances)
-    figures-small = rw (← balances_many b c, (settle-writes b c h).1) (settled_small (worked b c) c.balances small)
+    figures_small : Each SmallFigure (figures_in (operator_count b.setup) (step b c).balances)
+    figures_small = rw (← balances_many b c, (settle_writes b c h).1) (settled_small (worked b c) c.balances small)
 
     -- and the two buffers print its lines
-    settled-prints : settled_text (length b.schedules) (step b c).results (operator_count b.setup) (step b c).balances
+    settled_prints : settled_text (length b.schedules) (step b c).results (operator_count b.setup) (step b c).balances
         ≡ text (settled_lines (settlement b c))
-    settled-prints =
-        rw (← balances_many b c, ← results_many, results_by, (settle-writes b c h).0, (settle-writes b c h).1) (settled_text_lem (worked b c) c.results c.balances small)
+    settled_prints =
+        rw (← balances_many b c, ← results_many, results_by, (settle_writes b c h).0, (settle_writes b c h).1) (settled_text_lem (worked b c) c.results c.balances small)
 
 -- ---- the text of an answer, piece by piece
 
@@ -133,7 +133,7 @@ module _ (b : Book) (v : valid b ≡ true) (item : List ℕ) where
       → answer_text number (step b (call_of item)).outcome t (length b.schedules) (step b (call_of item)).results (operator_count b.setup) (step b (call_of item)).balances
       ≡ text (answer_lines number b (call_of item))
   unfolding answer_text answer_lines text
-  prints_go number true e = rw (settled-prints b (call_of item) v e)
+  prints_go number true e = rw (settled_prints b (call_of item) v e)
   prints_go number false e = rw (unsettled b (call_of item) e) (sym (append-nil _))
 
   module _ {o : Outcome} {t : Bool} (outcome : o ≡ (step b (call_of item)).outcome) (flag : t ≡ (is_acceptance o.verdict && eqb (get_or item 2 0) 10)) where
@@ -142,12 +142,12 @@ module _ (b : Book) (v : valid b ≡ true) (item : List ℕ) where
     flagged = settles_by_third b item ∙ sym (flag ∙ rw outcome)
 
     -- what the code prints is the answer's lines
-    pub answer-prints : (number n m : ℕ) {rs bs : List ℕ} → n ≡ length b.schedules → m ≡ operator_count b.setup
+    pub answer_prints : (number n m : ℕ) {rs bs : List ℕ} → n ≡ length b.schedules → m ≡ operator_count b.setup
         → rs ≡ (step b (call_of item)).results → bs ≡ (step b (call_of item)).balances
         → answer_text number o t n rs m bs ≡ text (answer_lines number b (call_of item))
-    answer-prints number n m en em er eb = rw (en, em, er, eb, outcome) (prints_go number t flagged)
+    answer_prints number n m en em er eb = rw (en, em, er, eb, outcome) (prints_go number t flagged)
 
     -- where it settles the figures are small, as the code asks
-    pub answer-small : (m : ℕ) {bs : List ℕ} → m ≡ operator_count b.setup → bs ≡ (step b (call_of item)).balances → t ≡ true
+    pub answer_small : (m : ℕ) {bs : List ℕ} → m ≡ operator_count b.setup → bs ≡ (step b (call_of item)).balances → t ≡ true
         → Each SmallFigure (figures_in m bs)
-    answer-small m em eb e = rw (em, eb) (figures-small b (call_of item) v (flagged ∙ e))
+    answer_small m em eb e = rw (em, eb) (figures_small b (call_of item) v (flagged ∙ e))

@@ -96,21 +96,21 @@ module _ (s : List ℕ) where
   begin_long h = rw (lt-ltb longest_stream (length s) h)
 
   module _ (short : length s ≤ longest_stream) where
-    begin-first : beginning s ≡ first_step s (found_at s 0)
+    begin_first : beginning s ≡ first_step s (found_at s 0)
     unfolding beginning
-    begin-first = rw (le-ltb longest_stream (length s) short)
+    begin_first = rw (le-ltb longest_stream (length s) short)
 
-    pub begin-whole : (from end : ℕ) → found_at s 0 ≡ Whole from end → beginning s ≡ open_step (item_in s from end) end (setup_refusal (item_in s from end))
+    pub begin_whole : (from end : ℕ) → found_at s 0 ≡ Whole from end → beginning s ≡ open_step (item_in s from end) end (setup_refusal (item_in s from end))
     unfolding first_step
-    begin-whole from end f = begin-first ∙ rw f
+    begin_whole from end f = begin_first ∙ rw f
 
-    pub begin-cut : found_at s 0 ≡ Cut → beginning s ≡ ends_after (cut 0 ∷ [])
+    pub begin_cut : found_at s 0 ≡ Cut → beginning s ≡ ends_after (cut 0 ∷ [])
     unfolding first_step
-    begin-cut f = begin-first ∙ rw f
+    begin_cut f = begin_first ∙ rw f
 
-    pub begin-end : found_at s 0 ≡ End → beginning s ≡ ends_after []
+    pub begin_end : found_at s 0 ≡ End → beginning s ≡ ends_after []
     unfolding first_step
-    begin-end f = begin-first ∙ rw f
+    begin_end f = begin_first ∙ rw f
 
 -- ---- the set-up
 
@@ -143,20 +143,20 @@ module _ (setup book : List ℕ) (size : length book ≡ book_size) (next : ℕ)
   module _ (v : Numbers) (told : v ≡ numbers o) {out out₁ : List ℕ} {past : ℕ} (put : Written out 0 (line_text (answered 0 v)) out₁ past)
       (room : past ≤ step_room) where
     -- an accepted set-up: its line, the fresh book, and the replay goes on
-    pub does-open : {n : ℕ} → o.verdict ≡ Accepted n
+    pub does_open : {n : ℕ} → o.verdict ≡ Accepted n
         → Does (open_step setup next (setup_refusal setup)) (record { goes_on = true; next = next; end = past }) book book₁ out out₁ (◌≡◌ {A = Bool} true true → is_book book₁ ≡ true)
     unfolding open_step
-    does-open {n} h =
+    does_open {n} h =
         let e = accepted_go n h (setup_refusal setup) refl in
         let d = decided none e in
         let line = one_line (answered 0 (numbers (accepted 0))) (rw (told, d.0) at put) in
         rw e (does_go_on _ line room book (opened setup) next d.1 (λ t. rw d.1 (opened_is_book setup e most_hours book_size (omega arith))))
 
     -- a refused one: its line, the bytes as they were, and the replay ends
-    pub does-refuse : {r : Refusal} {w : Stepped} → o.verdict ≡ Refused r → w ≡ record { goes_on = false; next = 0; end = past }
+    pub does_refuse : {r : Refusal} {w : Stepped} → o.verdict ≡ Refused r → w ≡ record { goes_on = false; next = 0; end = past }
         → Does (open_step setup next (setup_refusal setup)) w book book₁ out out₁ (w.goes_on ≡ true → is_book book₁ ≡ true)
     unfolding open_step
-    does-refuse {r} h ended =
+    does_refuse {r} h ended =
         let e = refused_go r h (setup_refusal setup) refl in
         let d = decided (some r) e in
         let line = one_line (answered 0 (numbers (refused r))) (rw (told, d.0) at put) in

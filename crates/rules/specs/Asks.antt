@@ -67,6 +67,6 @@ module _ {B : Type 0} (answer : B → Call → Answer B) where
 
   -- every accepted call between them is an ask, and the commit is answered as its ask was
   pub record CommittedAsAsked (b : B) (asking : Call) (between : List Call) (committing : Call) : Type 0 where
-    pub only-asks : only_asks (after answer b (asking ∷ [])) between ≡ true
+    pub only_asks : only_asks (after answer b (asking ∷ [])) between ≡ true
     pub same_answer : (answer (after answer b (asking ∷ between)) committing).outcome ≡ (answer b asking).outcome
     pub same_row : proposed (request_of committing.bytes) ≡ proposed (request_of asking.bytes)

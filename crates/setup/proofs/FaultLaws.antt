@@ -73,21 +73,21 @@ module _ {A : Type 0} {w : ℕ} {read : List ℕ → A} {say : ℕ → A → Lis
     none_left h = rw (values_done w read say at n (drop at s) h) at left.come_to
 
     -- the first that is left lies inside the bytes
-    pub first-inside : (m : ℕ) → n ≡ m + 1 → at + w ≤ length s
-    first-inside m e = omega (arith, left.inside, one_more w n m e)
+    pub first_inside : (m : ℕ) → n ≡ m + 1 → at + w ≤ length s
+    first_inside m e = omega (arith, left.inside, one_more w n m e)
 
     module _ (m : ℕ) {x : A} {f : Checked} (e : n ≡ m + 1) (found : x ≡ read (take w (drop at s))) (judgement : f ≡ first_fault (say at x)) where
       -- it has no fault, and the others are left
-      pub first-clear : f ≡ Clear → EntriesLeft w read say s all (at + w) m
-      first-clear c =
+      pub first_clear : f ≡ Clear → EntriesLeft w read say s all (at + w) m
+      first_clear c =
           record {
             inside = omega (arith, left.inside, one_more w n m e);
             come_to = rw (values_step w read say at n m s e, judged_append_from, ← found, ← judgement, c) at left.come_to;
           }
 
       -- it has a fault, and that decides
-      pub first-fails : {r : Refusal} → f ≡ Fails r → Fails r ≡ all
-      first-fails {r} c =
+      pub first_fails : {r : Refusal} → f ≡ Fails r → Fails r ≡ all
+      first_fails {r} c =
           sym (judged_fails r _) ∙ (rw (values_step w read say at n m s e, judged_append_from, ← found, ← judgement, c) at left.come_to)
 
 -- what begins where the counts say, begins where equal counts say

@@ -24,12 +24,12 @@ module _ (f : List ℕ → Check) (s : List ℕ) (at n : ℕ) where
 
   module _ (m : ℕ) (more : n ≡ m + 1) {row : List ℕ} (there : row ≡ take row_length (drop at s)) where
     -- the next row is it
-    pub pass-here : (r : Refusal) → applies (f row) ≡ some r → first_to_apply (map f (rows_from s at n)) ≡ some r
-    pass-here r e = rw (rows_step s at n m more, ← there) (check_here (f row) (map f (rows_from s (at + row_length) m)) r e)
+    pub pass_here : (r : Refusal) → applies (f row) ≡ some r → first_to_apply (map f (rows_from s at n)) ≡ some r
+    pass_here r e = rw (rows_step s at n m more, ← there) (check_here (f row) (map f (rows_from s (at + row_length) m)) r e)
 
     -- the next row is passed
-    pub pass-next : applies (f row) ≡ none → first_to_apply (map f (rows_from s at n)) ≡ first_to_apply (map f (rows_from s (at + row_length) m))
-    pass-next e = rw (rows_step s at n m more, ← there) (check_next (f row) (map f (rows_from s (at + row_length) m)) e)
+    pub pass_next : applies (f row) ≡ none → first_to_apply (map f (rows_from s at n)) ≡ first_to_apply (map f (rows_from s (at + row_length) m))
+    pass_next e = rw (rows_step s at n m more, ← there) (check_next (f row) (map f (rows_from s (at + row_length) m)) e)
 
 -- ---- 2, 3 and 4 of the rows, one pass after the other
 
@@ -40,13 +40,13 @@ module _ (rows : List (List ℕ)) where
 
   module _ (e : first_to_apply (map (row_check Readable) rows) ≡ none) where
     -- their maps are readable
-    pub rows-readable : Each (PassWants Mapped) rows
-    rows-readable = each_map (λ s h. spared _ _ h) (clear_each (row_check Readable) rows (clear _ e))
+    pub rows_readable : Each (PassWants Mapped) rows
+    rows_readable = each_map (λ s h. spared _ _ h) (clear_each (row_check Readable) rows (clear _ e))
 
-    pub found-3 : (r : Refusal) → first_to_apply (map (row_check OfKind) rows) ≡ some r → first_to_apply (row_checks rows) ≡ some r
+    pub found_3 : (r : Refusal) → first_to_apply (map (row_check OfKind) rows) ≡ some r → first_to_apply (row_checks rows) ≡ some r
     unfolding row_checks
-    found-3 r f = applies_first _ _ r (applies_later _ _ e ∙ f)
+    found_3 r f = applies_first _ _ r (applies_later _ _ e ∙ f)
 
-    pub found-4 : first_to_apply (map (row_check OfKind) rows) ≡ none → first_to_apply (row_checks rows) ≡ first_to_apply (map (row_check Mapped) rows)
+    pub found_4 : first_to_apply (map (row_check OfKind) rows) ≡ none → first_to_apply (row_checks rows) ≡ first_to_apply (map (row_check Mapped) rows)
     unfolding row_checks
-    found-4 f = applies_later _ _ (applies_later _ _ e ∙ f)
+    found_4 f = applies_later _ _ (applies_later _ _ e ∙ f)

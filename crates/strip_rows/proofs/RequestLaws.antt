@@ -55,13 +55,13 @@ module _ (n : Counts) {proposer : ℕ} (qs : List Request) (same : proposer ≡ 
 
   module _ {a : Checked} (known : a ≡ checked (first_to_apply (map (request_check n proposer InRange) qs))) where
     -- 6 applies
-    pub range-refused : {r : Refusal} → a ≡ Fails r → Fails r ≡ checked (first_to_apply (requests_checks n qs))
-    range-refused e = ap checked (sym (ap first_to_apply both_passes ∙ applies_first _ _ _ (checked-same _ (some _) (sym known ∙ e))))
+    pub range_refused : {r : Refusal} → a ≡ Fails r → Fails r ≡ checked (first_to_apply (requests_checks n qs))
+    range_refused e = ap checked (sym (ap first_to_apply both_passes ∙ applies_first _ _ _ (checked-same _ (some _) (sym known ∙ e))))
 
     -- it does not, and 7 decides
-    pub accounts-decide : {b : Checked} → a ≡ Clear → b ≡ checked (first_to_apply (map (request_check n proposer TwoAccounts) qs))
+    pub accounts_decide : {b : Checked} → a ≡ Clear → b ≡ checked (first_to_apply (map (request_check n proposer TwoAccounts) qs))
         → b ≡ checked (first_to_apply (requests_checks n qs))
-    accounts-decide e d = d ∙ ap checked (sym (ap first_to_apply both_passes ∙ applies_later _ _ (checked-same _ none (sym known ∙ e))))
+    accounts_decide e d = d ∙ ap checked (sym (ap first_to_apply both_passes ∙ applies_later _ _ (checked-same _ none (sym known ∙ e))))
 
 -- ---- the tests for codes
 

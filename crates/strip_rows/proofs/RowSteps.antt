@@ -25,12 +25,12 @@ requests_done s at n h = rw (rows_done s at n h)
 module _ (s : List ℕ) (at n m : ℕ) (e : n ≡ m + 1) where
   module _ (h : RegisterRows s at n) where
     -- the first row is a register's
-    pub first-register : (length (row_at s at) ≡ row_length) × IsRegister (row_at s at)
-    first-register = rw (part_row s at) (row_length_lem s at (omega (arith, h.inside)), (rows_split s at n m e h.registers).0)
+    pub first_register : (length (row_at s at) ≡ row_length) × IsRegister (row_at s at)
+    first_register = rw (part_row s at) (row_length_lem s at (omega (arith, h.inside)), (rows_split s at n m e h.registers).0)
 
     -- and so are the others
-    pub other-registers : RegisterRows s (at + row_length) m
-    other-registers = record { inside = omega (arith, h.inside); registers = (rows_split s at n m e h.registers).1 }
+    pub other_registers : RegisterRows s (at + row_length) m
+    other_registers = record { inside = omega (arith, h.inside); registers = (rows_split s at n m e h.registers).1 }
 
   -- the request that the first row says, and those of the others
   pub requests_step : {q : Request} → q ≡ request_of (row_at s at) → requests_from s at n ≡ q ∷ requests_from s (at + row_length) m
@@ -43,7 +43,7 @@ module _ (s : List ℕ) (at n m : ℕ) (e : n ≡ m + 1) where
 -- each row of registers is a register's
 pub any_register : (s : List ℕ) (at n i : ℕ) → i + 1 ≤ n → RegisterRows s at n
     → (length (row_at s (at + row_length * i)) ≡ row_length) × IsRegister (row_at s (at + row_length * i))
-any_register s at n zero low h = let e : at + row_length * 0 ≡ at = omega arith in rw e (first-register s at n (n - 1) (omega arith) h)
+any_register s at n zero low h = let e : at + row_length * 0 ≡ at = omega arith in rw e (first_register s at n (n - 1) (omega arith) h)
 any_register s at n (suc i) low h =
     let e : at + row_length * suc i ≡ at + row_length + row_length * i = omega arith in
-    rw e (any_register s (at + row_length) (n - 1) i (omega arith) (other-registers s at n (n - 1) (omega arith) h))
+    rw e (any_register s (at + row_length) (n - 1) i (omega arith) (other_registers s at n (n - 1) (omega arith) h))

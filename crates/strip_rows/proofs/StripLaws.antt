@@ -42,30 +42,30 @@ module _ (s : List ℕ) where
   fails_2 h = check_here (unreadable s ⇒ Unreadable) _ Unreadable (rw h)
 
   module _ (h : unreadable s ≡ false) where
-    pub fails-4 : (r : Refusal) → applies (map_check (kind_number strip) s) ≡ some r → first_to_apply (strip_checks s) ≡ some r
+    pub fails_4 : (r : Refusal) → applies (map_check (kind_number strip) s) ≡ some r → first_to_apply (strip_checks s) ≡ some r
     unfolding strip_checks
-    fails-4 r e = check_next (unreadable s ⇒ Unreadable) _ (rw h) ∙ check_here (map_check (kind_number strip) s) _ r e
+    fails_4 r e = check_next (unreadable s ⇒ Unreadable) _ (rw h) ∙ check_here (map_check (kind_number strip) s) _ r e
 
     module _ (m : applies (map_check (kind_number strip) s) ≡ none) where
-      past-4 : first_to_apply (strip_checks s)
+      past_4 : first_to_apply (strip_checks s)
           ≡ first_to_apply ((not (eqb (length s) (head_length + row_length * strip_count s)) ⇒ WrongLength)
           ∷ (not (within 1 (strip_count s) most_strip) ⇒ StripCount) ∷ row_checks (strip_rows s))
       unfolding strip_checks
-      past-4 = check_next (unreadable s ⇒ Unreadable) _ (rw h) ∙ check_next (map_check (kind_number strip) s) _ m
+      past_4 = check_next (unreadable s ⇒ Unreadable) _ (rw h) ∙ check_next (map_check (kind_number strip) s) _ m
 
-      pub fails-5 : (length s ≡ head_length + row_length * strip_count s → ⊥) → first_to_apply (strip_checks s) ≡ some WrongLength
-      fails-5 o = past-4 ∙ check_here _ _ WrongLength (rw (ne_eqb (length s) (head_length + row_length * strip_count s) o))
+      pub fails_5 : (length s ≡ head_length + row_length * strip_count s → ⊥) → first_to_apply (strip_checks s) ≡ some WrongLength
+      fails_5 o = past_4 ∙ check_here _ _ WrongLength (rw (ne_eqb (length s) (head_length + row_length * strip_count s) o))
 
       module _ (l : length s ≡ head_length + row_length * strip_count s) where
-        past-5 : first_to_apply (strip_checks s)
+        past_5 : first_to_apply (strip_checks s)
             ≡ first_to_apply ((not (within 1 (strip_count s) most_strip) ⇒ StripCount) ∷ row_checks (strip_rows s))
-        past-5 = past-4 ∙ check_next _ _ (rw (eq-eqb (length s) (head_length + row_length * strip_count s) l))
+        past_5 = past_4 ∙ check_next _ _ (rw (eq-eqb (length s) (head_length + row_length * strip_count s) l))
 
-        pub fails-21 : within 1 (strip_count s) most_strip ≡ false → first_to_apply (strip_checks s) ≡ some StripCount
-        fails-21 e = past-5 ∙ check_here (not (within 1 (strip_count s) most_strip) ⇒ StripCount) _ StripCount (rw e)
+        pub fails_21 : within 1 (strip_count s) most_strip ≡ false → first_to_apply (strip_checks s) ≡ some StripCount
+        fails_21 e = past_5 ∙ check_here (not (within 1 (strip_count s) most_strip) ⇒ StripCount) _ StripCount (rw e)
 
         -- only its rows are left
-        pub rows-decide : within 1 (strip_count s) most_strip ≡ true
+        pub rows_decide : within 1 (strip_count s) most_strip ≡ true
             → first_to_apply (strip_checks s) ≡ first_to_apply (row_checks (rows_from s head_length (strip_count s)))
         unfolding strip_rows rows_from
-        rows-decide e = past-5 ∙ check_next (not (within 1 (strip_count s) most_strip) ⇒ StripCount) _ (rw e)
+        rows_decide e = past_5 ∙ check_next (not (within 1 (strip_count s) most_strip) ⇒ StripCount) _ (rw e)

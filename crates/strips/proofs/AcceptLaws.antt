@@ -42,9 +42,9 @@ module _ (s bytes : List ℕ) (n : ℕ) (free : first_to_apply (state_checks (bo
   room_for_all = omega (arith, passed_15 (book_in s) (strip_requests bytes n) strip refl state, requests_length bytes head_length n)
 
   module _ (h : is_sound s ≡ true) (known : Bytes bytes) (r : ReadyStrip (book_in s) bytes n) where
-    next-sound : SoundBook (changed strip (book_in s) (strip_requests bytes n))
+    next_sound : SoundBook (changed strip (book_in s) (strip_requests bytes n))
     unfolding apply
-    next-sound =
+    next_sound =
         let b : Book = book_in s in
         let qs = strip_requests bytes n in
         apply_keeps (change strip b qs) b (book_is_sound s h) (
@@ -64,4 +64,4 @@ module _ (s bytes : List ℕ) (n : ℕ) (free : first_to_apply (state_checks (bo
         w
         ∙ ap (λ (x : List ℕ). rows_appended x count (proposed_rows bytes n)) (book_image s h)
         ∙ rows_appended_lem b count (book_fits s h) (proposed-pending (strip_requests bytes n)) e (omega (arith, lengths, room_for_all, requests_length bytes head_length n)) in
-        (ap accepted (omega (arith, e)), (written, rw written (image-is_sound most_hours book_size _ (omega arith) (book_sound _ next-sound))))
+        (ap accepted (omega (arith, e)), (written, rw written (image-is_sound most_hours book_size _ (omega arith) (book_sound _ next_sound))))

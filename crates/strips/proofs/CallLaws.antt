@@ -17,7 +17,7 @@ use Rattle.rules.specs.Calls.{Call, call_kind, call_requests, bytes_checks, inpu
 use Rattle.rules.proofs.Basics.Searches.{each_map}
 use Rattle.rules.proofs.Checks.Clearing.{clear, clear_split, clear_each, spared, spared↑, applies_first, applies_later}
 use Rattle.rules.proofs.Checks.Passed.{among_in_range, strip_requests_lem, strip_sized, passed_21, strip_rows_read}
-use Rattle.rules.proofs.Checks.Stages.{bytes_refused, input-refused, state-decides, step_decided, change_decided}
+use Rattle.rules.proofs.Checks.Stages.{bytes_refused, input_refused, state_decides, step_decided, change_decided}
 use Rattle.image.specs.Valid.{is_sound, book_in, book_bytes}
 use Rattle.strip_rows.specs.Rows.{rows_from, StripOf}
 use Rattle.strip_rows.specs.Passes.{request_check, requests_checks}
@@ -46,20 +46,20 @@ read_strip s n e h =
 
 -- of a list of checks, those that no strip has do not apply
 module _ (cs ds : List Check) (a p z : Refusal) where
-  abbrev first-checks : List Check
-  first-checks = cs ++ (false ⇒ p) ∷ ds
+  abbrev first_checks : List Check
+  first_checks = cs ++ (false ⇒ p) ∷ ds
 
-  sift_late : first_to_apply cs ≡ none → (o : Option Refusal) → first_to_apply ds ≡ o → first_to_apply (first-checks ++ (false ⇒ z) ∷ []) ≡ o
+  sift_late : first_to_apply cs ≡ none → (o : Option Refusal) → first_to_apply ds ≡ o → first_to_apply (first_checks ++ (false ⇒ z) ∷ []) ≡ o
   unfolding first_to_apply
-  sift_late e (some r) f = applies_first first-checks ((false ⇒ z) ∷ []) r (applies_later cs ((false ⇒ p) ∷ ds) e ∙ f)
-  sift_late e none f = applies_later first-checks ((false ⇒ z) ∷ []) (applies_later cs ((false ⇒ p) ∷ ds) e ∙ f)
+  sift_late e (some r) f = applies_first first_checks ((false ⇒ z) ∷ []) r (applies_later cs ((false ⇒ p) ∷ ds) e ∙ f)
+  sift_late e none f = applies_later first_checks ((false ⇒ z) ∷ []) (applies_later cs ((false ⇒ p) ∷ ds) e ∙ f)
 
-  sift_go : (o : Option Refusal) → first_to_apply cs ≡ o → first_to_apply (first-checks ++ (false ⇒ z) ∷ []) ≡ first_to_apply (cs ++ ds)
+  sift_go : (o : Option Refusal) → first_to_apply cs ≡ o → first_to_apply (first_checks ++ (false ⇒ z) ∷ []) ≡ first_to_apply (cs ++ ds)
   sift_go (some r) e =
-      applies_first first-checks ((false ⇒ z) ∷ []) r (applies_first cs ((false ⇒ p) ∷ ds) r e) ∙ sym (applies_first cs ds r e)
+      applies_first first_checks ((false ⇒ z) ∷ []) r (applies_first cs ((false ⇒ p) ∷ ds) r e) ∙ sym (applies_first cs ds r e)
   sift_go none e = sift_late e (first_to_apply ds) refl ∙ sym (applies_later cs ds e)
 
-  sift : first_to_apply ((false ⇒ a) ∷ (first-checks ++ (false ⇒ z) ∷ [])) ≡ first_to_apply (cs ++ ds)
+  sift : first_to_apply ((false ⇒ a) ∷ (first_checks ++ (false ⇒ z) ∷ [])) ≡ first_to_apply (cs ++ ds)
   unfolding first_to_apply
   sift = sift_go (first_to_apply cs) refl
 
@@ -111,18 +111,18 @@ module _ (b : Book) (c : Call) (s : List ℕ) (n : ℕ) (e : c.bytes ≡ s) (is 
         → first_to_apply (input_checks b c (checked_as (call_kind c)) (call_requests c)) ≡ o
     input o f = rw (kind, requests) (input_is_requests b c (strip_requests s n) ∙ f)
 
-    pub strip-input-refused : (r : Refusal) → first_to_apply (requests_checks (counts_of b.setup) (strip_requests s n)) ≡ some r
+    pub strip_input_refused : (r : Refusal) → first_to_apply (requests_checks (counts_of b.setup) (strip_requests s n)) ≡ some r
         → (refused r ≡ (step b c).outcome) × ((uncleared b c).book ≡ b)
-    strip-input-refused r f =
-        refused_step r (input-refused b c (own_bytes none h) r (input (some r) f))
+    strip_input_refused r f =
+        refused_step r (input_refused b c (own_bytes none h) r (input (some r) f))
 
     module _ (f : first_to_apply (requests_checks (counts_of b.setup) (strip_requests s n)) ≡ none) where
       decided : (o : Option Refusal) → first_to_apply (state_checks b strip (strip_requests s n)) ≡ o → refusal b c ≡ o
-      decided o g = state-decides b c (own_bytes none h) (input none f) ∙ rw (kind, requests) g
+      decided o g = state_decides b c (own_bytes none h) (input none f) ∙ rw (kind, requests) g
 
-      pub strip-state-refused : (r : Refusal) → first_to_apply (state_checks b strip (strip_requests s n)) ≡ some r
+      pub strip_state_refused : (r : Refusal) → first_to_apply (state_checks b strip (strip_requests s n)) ≡ some r
           → (refused r ≡ (step b c).outcome) × ((uncleared b c).book ≡ b)
-      strip-state-refused r g = refused_step r (decided (some r) g)
+      strip_state_refused r g = refused_step r (decided (some r) g)
 
       pub strip-step : first_to_apply (state_checks b strip (strip_requests s n)) ≡ none
           → ((step b c).outcome ≡ accepted (given strip b (strip_requests s n))) × ((uncleared b c).book ≡ changed strip b (strip_requests s n))

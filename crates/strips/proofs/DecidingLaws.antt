@@ -33,29 +33,29 @@ module _ (b : Book) (qs : List Request) where
 
   module _ (first : b.phase ≡ 1) where
     -- 14
-    pub standing-decides : any_passes (has_twin b.part.rows) qs ≡ true → Fails AlreadyPending ≡ checked (first_to_apply (state_checks b strip qs))
-    standing-decides e = decides (some AlreadyPending) (Adding.twin_pending b qs first e)
+    pub standing_decides : any_passes (has_twin b.part.rows) qs ≡ true → Fails AlreadyPending ≡ checked (first_to_apply (state_checks b strip qs))
+    standing_decides e = decides (some AlreadyPending) (Adding.twin_pending b qs first e)
 
     module _ (alone : any_passes (has_twin b.part.rows) qs ≡ false) where
       -- 22
-      pub twins-decide : twins qs ≡ true → Fails StripTwins ≡ checked (first_to_apply (state_checks b strip qs))
-      twins-decide e = decides (some StripTwins) (Adding.twins-among b qs first alone e)
+      pub twins_decide : twins qs ≡ true → Fails StripTwins ≡ checked (first_to_apply (state_checks b strip qs))
+      twins_decide e = decides (some StripTwins) (Adding.twins_among b qs first alone e)
 
       -- 15
-      pub no-room-decides : twins qs ≡ false → most_rows < length b.part.rows + length qs → Fails RowsFull ≡ checked (first_to_apply (state_checks b strip qs))
-      no-room-decides apart h = decides (some RowsFull) (Adding.no-numbers-left b qs first alone apart h)
+      pub no_room_decides : twins qs ≡ false → most_rows < length b.part.rows + length qs → Fails RowsFull ≡ checked (first_to_apply (state_checks b strip qs))
+      no_room_decides apart h = decides (some RowsFull) (Adding.no_numbers_left b qs first alone apart h)
 
   module _ (p : Addable b qs) where
     -- 18
-    pub margin-decides : (h : ℕ) → Hour h ≡ broken (broken_by b.setup b.part.rows (map proposed qs) (first_of qs).account)
+    pub margin_decides : (h : ℕ) → Hour h ≡ broken (broken_by b.setup b.part.rows (map proposed qs) (first_of qs).account)
         → Fails (MarginBroken h) ≡ checked (first_to_apply (state_checks b strip qs))
-    margin-decides h e = decides (some (MarginBroken h)) (Adding.margin_breaks b qs p h (tells_hour _ h e))
+    margin_decides h e = decides (some (MarginBroken h)) (Adding.margin_breaks b qs p h (tells_hour _ h e))
 
     module _ (kept : Nowhere ≡ broken (broken_by b.setup b.part.rows (map proposed qs) (first_of qs).account)) (t : Bool)
         (test : t ≡ covered_with_rows b (map proposed qs) (operator_of b.setup (first_of qs).account)) where
       -- 19
-      pub uncovered-decides : t ≡ false → Fails Uncovered ≡ checked (first_to_apply (state_checks b strip qs))
-      uncovered-decides f = decides (some Uncovered) (Adding.rows-uncovered b qs p (tells_nowhere _ kept) t test f)
+      pub uncovered_decides : t ≡ false → Fails Uncovered ≡ checked (first_to_apply (state_checks b strip qs))
+      uncovered_decides f = decides (some Uncovered) (Adding.rows_uncovered b qs p (tells_nowhere _ kept) t test f)
 
-      pub covered-decides : t ≡ true → Clear ≡ checked (first_to_apply (state_checks b strip qs))
-      covered-decides f = decides none (Adding.rows-covered b qs p (tells_nowhere _ kept) t test f)
+      pub covered_decides : t ≡ true → Clear ≡ checked (first_to_apply (state_checks b strip qs))
+      covered_decides f = decides none (Adding.rows_covered b qs p (tells_nowhere _ kept) t test f)

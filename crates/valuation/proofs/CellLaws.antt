@@ -18,7 +18,7 @@ use Rattle.rules.specs.Limits.{most_energy, most_schedules, most_points, most_ac
 use Rattle.rules.specs.Books.{Setup}
 use Rattle.rules.specs.Settlement.{Judged, congruous, used, account_of}
 use Rattle.rules.proofs.Basics.Tests.{test_same, and_both}
-use Rattle.rules.proofs.Basics.Totals.{total-same}
+use Rattle.rules.proofs.Basics.Totals.{total_same}
 use Rattle.rules.proofs.Basics.Searches.{each_map}
 use Rattle.rules.proofs.Basics.Differences.{lt_or_ge}
 use Rattle.image.specs.Valid.{schedule_ok}
@@ -65,7 +65,7 @@ pub used_in_cell : (most : ℕ) (holder : Schedule → ℕ) (x : Schedule) {befo
     ≡ falls_to (λ j. cell_for (holder j.schedule) j.schedule) used_up before (cell_for (holder x) x)
 unfolding used falls_to
 used_in_cell most holder x i e =
-    total-same _ _
+    total_same _ _
     (λ j k. rw (same_cell most (holder x) (holder j.schedule) x j.schedule i k) (test_within (congruous j) _ j.schedule.quantity.0))
     e
 
@@ -77,7 +77,7 @@ unfolding nothing_used falls_to total
 nothing_used_lem u net t table e =
     rw e (record {
       whole = length-replicate {A = ℕ} used_cells 0;
-      by-point = λ k l. get_or-replicate used_cells k 0 0 (omega arith);
+      by_point = λ k l. get_or-replicate used_cells k 0 0 (omega arith);
       by_account = λ k l. get_or-replicate used_cells (point_cells + k) 0 0 (omega arith);
     })
 
@@ -114,12 +114,12 @@ pub used-next : (u : Setup) (net : ℕ → ℕ → Net) (t : List CentsPerMwh) {
 used-next u net t {before} table middle after j q p a ip ia eq ep ea em ef by =
     record {
       whole = whole;
-      by-point = λ k l.
+      by_point = λ k l.
           ap (λ (s : List ℕ). get_or s k 0) ef
           ∙ get_or-set_other middle (point_cells + a) k _ 0 (λ z. omega arith)
           ∙ ap (λ (s : List ℕ). get_or s k 0) em
           ∙ raised_cell table p q k (omega (arith, by.whole))
-          ∙ rw (by.by-point k l, eq, ep) (sym (falls_next _ used_up j before k));
+          ∙ rw (by.by_point k l, eq, ep) (sym (falls_next _ used_up j before k));
       by_account = λ k l.
           ap (λ (s : List ℕ). get_or s (point_cells + k) 0) ef
           ∙ raised_cell middle (point_cells + a) q (point_cells + k) (omega (arith, halfway))
@@ -172,7 +172,7 @@ used_room u net t {js} table q by each few l k low =
     let small = each_map (λ j o. (sound_schedule u j.schedule o).quantity_high) each in
     let bound : get_or table k 0 ≤ most_energy * length js =
     ⊎_elim
-    (λ (w : k < point_cells). omega (arith, by.by-point k w, falls_low (λ j. cell_for j.schedule.point j.schedule) k small))
+    (λ (w : k < point_cells). omega (arith, by.by_point k w, falls_low (λ j. cell_for j.schedule.point j.schedule) k small))
     (λ (w : point_cells ≤ k).
     ⊎_elim
     (λ (v : k < point_cells + account_cells).

@@ -112,18 +112,18 @@ taken_at_lem b price m n e = rw e
 module _ (u : Setup) (net : ℕ → ℕ → Net) (t : List CentsPerMwh) (x : Schedule) (before : List Judged) (table : List ℕ) (by : UsedBy u net t before table)
   where
     -- what is used up of its point and of its account stands in their cells
-    used-of-point : InCells most_points x.point x → Each (λ j. InCells most_points j.schedule.point j.schedule) before
+    used_of_point : InCells most_points x.point x → Each (λ j. InCells most_points j.schedule.point j.schedule) before
         → used (λ y. same_hour_side u net t x y && eqb x.point y.point) before ≡ get_or table (cell_for x.point x) 0
-    used-of-point i e = used_in_cell most_points (λ y. y.point) x i e ∙ sym (by.by-point (cell_for x.point x) (omega arith))
+    used_of_point i e = used_in_cell most_points (λ y. y.point) x i e ∙ sym (by.by_point (cell_for x.point x) (omega arith))
 
-    used-of-account : InCells most_accounts (account_of u net t x) x → Each (λ j. InCells most_accounts (account_of u net t j.schedule) j.schedule) before
+    used_of_account : InCells most_accounts (account_of u net t x) x → Each (λ j. InCells most_accounts (account_of u net t j.schedule) j.schedule) before
         → used (λ y. same_hour_side u net t x y && eqb (account_of u net t x) (account_of u net t y)) before
         ≡ get_or table (point_cells + cell_for (account_of u net t x) x) 0
-    used-of-account i e =
+    used_of_account i e =
         used_in_cell most_accounts (account_of u net t) x i e ∙ sym (by.by_account (cell_for (account_of u net t x) x) (omega arith))
 
     -- a result by the three tests is the schedule's
-    judged-by-tests : {a b c : Bool} (p : Point) → p ≡ point_at u x.point
+    judged_by_tests : {a b c : Bool} (p : Point) → p ≡ point_at u x.point
         → used (λ y. same_hour_side u net t x y && eqb x.point y.point) before ≡ get_or table (cell_for x.point x) 0
         → used (λ y. same_hour_side u net t x y && eqb (account_of u net t x) (account_of u net t y)) before
         ≡ get_or table (point_cells + cell_for (account_of u net t x) x) 0
@@ -132,7 +132,7 @@ module _ (u : Setup) (net : ℕ → ℕ → Net) (t : List CentsPerMwh) (x : Sch
         → c ≡ taken_at x (nth t (price_number (periods u) p x) (cents_per_mwh 0))
         → result_by a b c ≡ judge u net t before x
     unfolding judge
-    judged-by-tests {a} {b} {c} p e up ua ta tb tc =
+    judged_by_tests {a} {b} {c} p e up ua ta tb tc =
         let pa : a ≡ ltb (point_limit u net t x) (used (λ y. same_hour_side u net t x y && eqb x.point y.point) before + x.quantity.0) =
         ta ∙ rw (e, up) in
         let pb : b
@@ -155,9 +155,9 @@ result_judged s prices table x given ok n p {c = c} en ep ta tb tc before by eac
     let taken : c ≡ taken_at x (nth (prices_of s prices) (price_number (periods (setup_in s)) p x) (cents_per_mwh 0)) = rw hours at (tc ∙ ap (taken_at x) met) in
     let points = each_map (λ j o. point_in_cells s h j.schedule o) each in
     let accounts = each_map (λ j o. account_in_cells s h j.schedule o) each in
-    judged-by-tests (setup_in s) (nets_in s) (prices_of s prices) x before table by p ep
-    (used-of-point (setup_in s) (nets_in s) (prices_of s prices) x before table by (point_in_cells s h x ok) points)
-    (used-of-account (setup_in s) (nets_in s) (prices_of s prices) x before table by (account_in_cells s h x ok) accounts)
+    judged_by_tests (setup_in s) (nets_in s) (prices_of s prices) x before table by p ep
+    (used_of_point (setup_in s) (nets_in s) (prices_of s prices) x before table by (point_in_cells s h x ok) points)
+    (used_of_account (setup_in s) (nets_in s) (prices_of s prices) x before table by (account_in_cells s h x ok) accounts)
     ta
     tb
     taken

@@ -67,18 +67,18 @@ le-number (more {b} {bs} l h) =
     let d : (b + 256 * number bs) / 256 ≡ number bs = omega arith in
     rw (a, d, le-number h)
 
-pub le-number_wide : {s : List ℕ} → Bytes s → (w : ℕ) → length s ≡ w → le w (number s) ≡ s
-le-number_wide {s} h w e = ap (λ (n : ℕ). le n (number s)) (sym e) ∙ le-number h
+pub le_number_wide : {s : List ℕ} → Bytes s → (w : ℕ) → length s ≡ w → le w (number s) ≡ s
+le_number_wide {s} h w e = ap (λ (n : ℕ). le n (number s)) (sym e) ∙ le-number h
 
 -- what is more than fits goes round
-pub number-le_rest : (w v : ℕ) → number (le w v) ≡ v % 256 ^ w
+pub number_le_rest : (w v : ℕ) → number (le w v) ≡ v % 256 ^ w
 unfolding number le
-number-le_rest zero v = sym (mod-one v)
-number-le_rest (suc w) v =
+number_le_rest zero v = sym (mod-one v)
+number_le_rest (suc w) v =
     let m : ℕ = 256 ^ w in
     let r : ℕ = v / 256 % m in
     let q : ℕ = v / 256 / m in
-    let e : number (le w (v / 256)) ≡ r = number-le_rest w (v / 256) in
+    let e : number (le w (v / 256)) ≡ r = number_le_rest w (v / 256) in
     let l : r < m = mod-lt (v / 256) (one-le-pow w 256 (omega arith)) in
     let split : r + m * q ≡ v / 256 = mod-add-div (v / 256) m in
     let whole : v ≡ v % 256 + 256 * r + 256 * m * q = omega (arith, mul_assoc 256 m q) in
@@ -87,14 +87,14 @@ number-le_rest (suc w) v =
     ∙ mod-eq_of_lt (omega arith)) ∙ ap (λ (x : ℕ). v % x) (sym (pow-succ' 256 w)))
 
 pub number-le : (w v : ℕ) → v < 256 ^ w → number (le w v) ≡ v
-number-le w v h = number-le_rest w v ∙ mod-eq_of_lt h
+number-le w v h = number_le_rest w v ∙ mod-eq_of_lt h
 
 -- what has the same remainder has the same bytes
 pub le_same : (w x y : ℕ) → x % 256 ^ w ≡ y % 256 ^ w → le w x ≡ le w y
-le_same w x y e = sym (back x) ∙ ap (le w) (number-le_rest w x ∙ e ∙ sym (number-le_rest w y)) ∙ back y
+le_same w x y e = sym (back x) ∙ ap (le w) (number_le_rest w x ∙ e ∙ sym (number_le_rest w y)) ∙ back y
   where
     back : (v : ℕ) → le w (number (le w v)) ≡ le w v
-    back v = le-number_wide (bytes_le w v) w (length-le w v)
+    back v = le_number_wide (bytes_le w v) w (length-le w v)
 
 -- ---- numbers at a place
 
@@ -140,7 +140,7 @@ number_at_small h at w = number_at_below h at w w (omega arith)
 pub le-number_at : {s : List ℕ} → Bytes s → (at w : ℕ) → at + w ≤ length s → le w (number_at s at w) ≡ take w (drop at s)
 unfolding number_at
 le-number_at {s} h at w f =
-    le-number_wide (bytes_take w (bytes_drop at h)) w (length-take-le w (drop at s) (omega (arith, length-drop at s)))
+    le_number_wide (bytes_take w (bytes_drop at h)) w (length-take-le w (drop at s) (omega (arith, length-drop at s)))
 
 -- ---- signed numbers
 

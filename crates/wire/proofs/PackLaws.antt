@@ -4,7 +4,7 @@ use lib.ListN.{length-map, get_or-map}
 use Rattle.wire.specs.Numbers.{number, number_at, le, Bytes, none}
 use Rattle.wire.specs.Regions.{splice}
 use Rattle.wire.specs.Parts.{flat, cut, start_of, Wide, pieces, pack, unpack, Small}
-use Rattle.wire.proofs.NumberLaws.{length-le, number-le, le-number_wide, bytes_le, bytes_take, bytes_drop, bytes_append, number_at_small}
+use Rattle.wire.proofs.NumberLaws.{length-le, number-le, le_number_wide, bytes_le, bytes_take, bytes_drop, bytes_append, number_at_small}
 use Rattle.wire.proofs.RegionLaws.{splice_none, splice-append, splice_all, length_splice}
 use Rattle.wire.proofs.PartLaws.{write_whole, length-flat, cut-flat, flat-cut, length_cut, cut_at, number_inner}
 
@@ -58,7 +58,7 @@ pack-unpack ws {s} h l = rw (pieces-cut ws s h (omega arith)) (flat-cut ws s l)
     pieces-cut : (ws s : List ℕ) → Bytes s → start_of ws (length ws) ≤ length s → pieces ws (map number (cut ws s)) ≡ cut ws s
     pieces-cut [] s h l = refl
     pieces-cut (w ∷ ws) s h l =
-        rw (le-number_wide (bytes_take w h) w (length-take-le w s (omega arith)), pieces-cut ws (drop w s) (bytes_drop w h) (omega (arith, length-drop w s)))
+        rw (le_number_wide (bytes_take w h) w (length-take-le w s (omega arith)), pieces-cut ws (drop w s) (bytes_drop w h) (omega (arith, length-drop w s)))
 
 pub length-unpack : (ws s : List ℕ) → length (unpack ws s) ≡ length ws
 unfolding unpack

@@ -37,18 +37,18 @@ unfolding pasted
 length-pasted d at s n hd hs = length-paste d at s n hd hs
 
 -- what stands before the region and after it
-pub get-pasted_before : (d : List ℕ) (at : ℕ) (s : List ℕ) (n k : ℕ) → at ≤ length d → k < at → get_or (pasted d at s n) k 0 ≡ get_or d k 0
+pub get_pasted_before : (d : List ℕ) (at : ℕ) (s : List ℕ) (n k : ℕ) → at ≤ length d → k < at → get_or (pasted d at s n) k 0 ≡ get_or d k 0
 unfolding pasted
-get-pasted_before d at s n k hd h =
+get_pasted_before d at s n k hd h =
     let l : length (take at d) ≡ at = length-take-le at d hd in
     get_or-append (take at d ++ take n s) (drop (at + n) d) 0 k (omega (arith, length-append (take at d) (take n s)))
     ∙ get_or-append (take at d) (take n s) 0 k (omega arith)
     ∙ get_or-take at d k 0 h
 
-pub get-pasted_after : (d : List ℕ) (at : ℕ) (s : List ℕ) (n k : ℕ) → at ≤ length d → n ≤ length s → at + n ≤ k
+pub get_pasted_after : (d : List ℕ) (at : ℕ) (s : List ℕ) (n k : ℕ) → at ≤ length d → n ≤ length s → at + n ≤ k
     → get_or (pasted d at s n) k 0 ≡ get_or d k 0
 unfolding pasted
-get-pasted_after d at s n k hd hs h =
+get_pasted_after d at s n k hd hs h =
     let p : List ℕ = take at d ++ take n s in
     let l : length p ≡ at + n = length_paste_head d at s n hd hs in
     let e : k ≡ length p + (k - (at + n)) = omega arith in
@@ -64,8 +64,8 @@ within_more l from to n x i a hf ht hi e =
     let m : length (drop from l) ≡ length l - from = length-drop from l in
     let read : get_or x (from + i) 0 ≡ get_or (drop from l) i 0 =
     ap (λ (y : List ℕ). get_or y (from + i) 0) e
-    ∙ ⊎_elim (λ w. get-pasted_before l to (drop from l) i (from + i) (omega arith) (omega arith))
-    (λ w. get-pasted_after l to (drop from l) i (from + i) (omega arith) (omega arith) (omega arith)) a
+    ∙ ⊎_elim (λ w. get_pasted_before l to (drop from l) i (from + i) (omega arith) (omega arith))
+    (λ w. get_pasted_after l to (drop from l) i (from + i) (omega arith) (omega arith) (omega arith)) a
     ∙ sym (get_or-drop from l i 0) in
     ap (set x (to + i)) read ∙ pasted-more l to (drop from l) x i (omega arith) (omega arith) e
 
@@ -93,8 +93,8 @@ module _ (s : List ℕ) (at : ℕ) (x : List ℕ) where
   pub get_splice_other : (k : ℕ) → at + length x ≤ length s → (k < at) ⊎ (at + length x ≤ k) → get_or (splice s at x) k 0 ≡ get_or s k 0
   unfolding splice
   get_splice_other k h o =
-      ⊎_elim (λ w. get-pasted_before s at x (length x) k (omega arith) w)
-      (λ w. get-pasted_after s at x (length x) k (omega arith) (omega arith) w) o
+      ⊎_elim (λ w. get_pasted_before s at x (length x) k (omega arith) w)
+      (λ w. get_pasted_after s at x (length x) k (omega arith) (omega arith) w) o
 
 -- a region of one
 pub splice_one : (s : List ℕ) (at x : ℕ) → at < length s → splice s at (x ∷ []) ≡ set s at x

@@ -156,8 +156,8 @@ batch_calls_alone_change_saved b c e = saved_go b c e (step_cases b c)
 
 -- while a batch is open the saved rows are the first of the present ones but for their status
 pub batch_follows : (b : Book) (p : Part) → SoundBook b → b.saved ≡ some p → follows p.rows b.part.rows ≡ true
-batch_follows b p s e = follows-go b.saved e s.saved_sound
+batch_follows b p s e = follows_go b.saved e s.saved_sound
   where
-    follows-go : (saved : Option Part) → saved ≡ some p → SavedSound b.setup b.part.rows saved → follows p.rows b.part.rows ≡ true
-    follows-go none e h = let z : ◌≡◌ {A = ℕ} 0 1 = cc in absurd (omega arith)
-    follows-go (some old) e h = let same : old ≡ p = cc in rw (← same) h.1
+    follows_go : (saved : Option Part) → saved ≡ some p → SavedSound b.setup b.part.rows saved → follows p.rows b.part.rows ≡ true
+    follows_go none e h = let z : ◌≡◌ {A = ℕ} 0 1 = cc in absurd (omega arith)
+    follows_go (some old) e h = let same : old ≡ p = cc in rw (← same) h.1

@@ -8,7 +8,7 @@ use lib.ListN.{length, get_or, take, drop, length-map}
 use lib.Seq.{take_all}
 use Rattle.wire.specs.Numbers.{number, number_at, le, signed}
 use Rattle.wire.specs.Parts.{start_of, Small, padded}
-use Rattle.wire.proofs.NumberLaws.{length-le, length-signed, number-le, number-le_rest, signed_sub}
+use Rattle.wire.proofs.NumberLaws.{length-le, length-signed, number-le, number_le_rest, signed_sub}
 use Rattle.wire.proofs.PartLaws.{read_part, read_whole, number_part}
 use Rattle.wire.proofs.PackLaws.{number_in_pack}
 use Rattle.wire.proofs.SlotLaws.{uniform_map, read_cell, slots_get}
@@ -232,4 +232,4 @@ module _ (top size : ℕ) (b : Book) (f : Fits b) where
       → number_at (image top size b) at net_width ≡ (bought b.part.rows a h + (256 ^ net_width - 1) * sold b.part.rows a h) % 256 ^ net_width
   unfolding number_at
   net_read a h at a1 a2 h1 h2 e =
-      ap number (net_bytes_read a h at a1 a2 h1 h2 e ∙ signed_sub net_width (bought b.part.rows a h) (sold b.part.rows a h)) ∙ number-le_rest 4 _
+      ap number (net_bytes_read a h at a1 a2 h1 h2 e ∙ signed_sub net_width (bought b.part.rows a h) (sold b.part.rows a h)) ∙ number_le_rest 4 _

@@ -9,7 +9,7 @@ use lib.Seq.{take_all, take-add, length-take-le, drop-append-add}
 use lib.Dec.{eqb}
 use Rattle.wire.specs.Numbers.{number_at, le, Bytes}
 use Rattle.wire.specs.Parts.{flat, start_of, Wide, pack, Small, padded}
-use Rattle.wire.proofs.NumberLaws.{length-le, number-le, le-number_wide, bytes_take, bytes_drop}
+use Rattle.wire.proofs.NumberLaws.{length-le, number-le, le_number_wide, bytes_take, bytes_drop}
 use Rattle.wire.proofs.PartLaws.{number_part, number_inner}
 use Rattle.wire.proofs.PackLaws.{length-pack, number_in_pack, pack-numbers}
 use Rattle.units.specs.declared.Kwh.{Kwh}
@@ -52,7 +52,7 @@ price_back x h = rw (number-le 4 x.0 (omega arith))
 
 pub price_again : (c : List ℕ) → Bytes c → length c ≡ price_width → le price_width (price_in c).0 ≡ c
 unfolding price_in
-price_again c b l = le-number_wide b 4 l
+price_again c b l = le_number_wide b 4 l
 
 operator_back : (x : Operator) → SoundOperator x → operator_in (operator_bytes x) ≡ x
 unfolding operator_in
@@ -72,7 +72,7 @@ margin_back x h = rw (number-le margin_width x.0 (omega arith))
 
 margin_again : (c : List ℕ) → Bytes c → length c ≡ margin_width → margin_bytes (margin_in c) ≡ c
 unfolding margin_in
-margin_again c b l = le-number_wide b margin_width l
+margin_again c b l = le_number_wide b margin_width l
 
 -- a margin for each hour, whatever follows
 margins_back : (hours : ℕ) (xs : List Kwh) (rest : List ℕ) → length xs ≡ hours → Each (λ m. m.0 ≤ most_energy) xs

@@ -14,7 +14,7 @@ use lib.IntN.{sub_ℕ}
 use borrow.Author.Tests.{le-leb, lt-leb, eq-eqb, ne_eqb}
 use Rattle.wire.specs.Numbers.{number, le, signed}
 use Rattle.wire.specs.Parts.{flat, sweep, over}
-use Rattle.wire.proofs.NumberLaws.{length-le, length-signed, number-le_rest, le_wraps, ones, signed_sub}
+use Rattle.wire.proofs.NumberLaws.{length-le, length-signed, number_le_rest, le_wraps, ones, signed_sub}
 use Rattle.wire.proofs.PartLaws.{before}
 use Rattle.wire.proofs.SlotLaws.{Uniform, uniform_map, before_uniform, length_uniform, map_get}
 use Rattle.wire.proofs.SweepLaws.{sweep_flat, sweep_cells, length_over, over_in, over_out}
@@ -45,7 +45,7 @@ module _ (w : ℕ) where
       let m : ℕ = 256 ^ w in
       let q : ℕ = v / m in
       let split : v % m + m * q ≡ v = mod-add-div v m in
-      rw (number-le_rest w v) (le_wraps w (v % m + more) (v + more) q 0 (omega arith))
+      rw (number_le_rest w v) (le_wraps w (v % m + more) (v + more) q 0 (omega arith))
 
   -- so much more bought
   pub raised_bought : (b s q : ℕ) → raised w q (signed w (sub_ℕ b s)) ≡ signed w (sub_ℕ (b + q) s)

@@ -187,10 +187,10 @@ module _ (top : ℕ) (p : Part) (f : PartFits p) where
       let close : Row → Row = λ r. if pending r then with_status 3 r else r in
       let nets : nets_bytes top (map close p.rows) ≡ nets_bytes top p.rows =
       nets_kept top p.rows (map close p.rows) (λ x k. moved_close buyer x k p.rows) (λ x k. moved_close seller x k p.rows) in
-      let loop = sweep_slots ended row_width length-ended most_rows row_bytes length_row close p.rows rf (same-each _ _ (λ r s. row_ended r s) small) in
+      let loop = sweep_slots ended row_width length-ended most_rows row_bytes length_row close p.rows rf (same_each _ _ (λ r s. row_ended r s) small) in
       sweep_part ended row_width length-ended (part_widths top) (part_sections top p) (wide_part top p f) rows_section 0 n at (omega arith) (omega arith) (omega arith)
       ∙ rw (e, loop, nets, length-map p.rows close)
     where
-      same-each : {P : Row → Type 0} (g g' : Row → List ℕ) {xs : List Row} → ((x : Row) → P x → g x ≡ g' x) → Each P xs → map g xs ≡ map g' xs
-      same-each g g' h nil = refl
-      same-each g g' h (cons {x = x} s e) = rw (h x s, same-each g g' h e)
+      same_each : {P : Row → Type 0} (g g' : Row → List ℕ) {xs : List Row} → ((x : Row) → P x → g x ≡ g' x) → Each P xs → map g xs ≡ map g' xs
+      same_each g g' h nil = refl
+      same_each g g' h (cons {x = x} s e) = rw (h x s, same_each g g' h e)

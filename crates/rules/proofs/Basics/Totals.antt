@@ -41,10 +41,10 @@ module _ {ℓ} {A : Type ℓ} where
   total_cong f g (x ∷ xs) h = let e = h x in let ih = total_cong f g xs h in omega arith
 
   -- equal at each element of the list, which has the property
-  pub total-same {κ} : {P : A → Type κ} (f g : A → ℕ) {xs : List A} → ((x : A) → P x → f x ≡ g x) → Each P xs → total f xs ≡ total g xs
+  pub total_same {κ} : {P : A → Type κ} (f g : A → ℕ) {xs : List A} → ((x : A) → P x → f x ≡ g x) → Each P xs → total f xs ≡ total g xs
   unfolding total
-  total-same f g h nil = refl
-  total-same f g h (cons {x = x} p e) = let a = h x p in let ih = total-same f g h e in omega arith
+  total_same f g h nil = refl
+  total_same f g h (cons {x = x} p e) = let a = h x p in let ih = total_same f g h e in omega arith
 
   pub total_append : (f : A → ℕ) (xs ys : List A) → total f (xs ++ ys) ≡ total f xs + total f ys
   unfolding total
@@ -64,10 +64,10 @@ module _ {ℓ} {A : Type ℓ} where
   total_set f d zero (y ∷ ys) x h = omega arith
   total_set f d (suc i) (y ∷ ys) x h = let ih = total_set f d i ys x (omega arith) in omega arith
 
-  pub total-map {κ} : {B : Type κ} (f : B → ℕ) (g : A → B) (xs : List A) → total f (map g xs) ≡ total (λ x. f (g x)) xs
+  pub total_map {κ} : {B : Type κ} (f : B → ℕ) (g : A → B) (xs : List A) → total f (map g xs) ≡ total (λ x. f (g x)) xs
   unfolding total
-  total-map f g [] = refl
-  total-map f g (x ∷ xs) = ap (λ (n : ℕ). f (g x) + n) (total-map f g xs)
+  total_map f g [] = refl
+  total_map f g (x ∷ xs) = ap (λ (n : ℕ). f (g x) + n) (total_map f g xs)
 
   -- those that pass, or all with nothing for the others
   pub total_those : (p : A → Bool) (f : A → ℕ) (xs : List A) → total f (those p xs) ≡ total (λ x. if p x then f x else 0) xs

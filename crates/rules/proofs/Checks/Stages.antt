@@ -18,14 +18,14 @@ module _ (b : Book) (c : Call) where
 
   module _ (e : first_to_apply (bytes_checks c.bytes) ≡ none) where
     -- 5 to 10, by what else it was lent and the ranges of the book
-    pub input-refused : (r : Refusal) → first_to_apply (input_checks b c (checked_as (call_kind c)) (call_requests c)) ≡ some r → refusal b c ≡ some r
+    pub input_refused : (r : Refusal) → first_to_apply (input_checks b c (checked_as (call_kind c)) (call_requests c)) ≡ some r → refusal b c ≡ some r
     unfolding refusal checks
-    input-refused r f = applies_first _ (state_checks b (checked_as (call_kind c)) (call_requests c)) r (applies_later _ _ e ∙ f)
+    input_refused r f = applies_first _ (state_checks b (checked_as (call_kind c)) (call_requests c)) r (applies_later _ _ e ∙ f)
 
     -- 11 to 20, by the state
-    pub state-decides : first_to_apply (input_checks b c (checked_as (call_kind c)) (call_requests c)) ≡ none → refusal b c ≡ first_to_apply (state_checks b (checked_as (call_kind c)) (call_requests c))
+    pub state_decides : first_to_apply (input_checks b c (checked_as (call_kind c)) (call_requests c)) ≡ none → refusal b c ≡ first_to_apply (state_checks b (checked_as (call_kind c)) (call_requests c))
     unfolding refusal checks
-    state-decides f = applies_later _ _ (applies_later _ _ e ∙ f)
+    state_decides f = applies_later _ _ (applies_later _ _ e ∙ f)
 
   -- the outcome and the book, by what it is refused for
   pub step_decided : (o : Option Refusal) → refusal b c ≡ o

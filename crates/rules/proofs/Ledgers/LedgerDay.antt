@@ -23,7 +23,7 @@ use Rattle.rules.specs.Lists.{after, heard}
 use Rattle.rules.specs.Ledger.{Ledger, new_ledger, feed, feed_each, fed, fed_all, ledger_net, ledger_exposure, ledger_hourly_exposure, ledger_available, ledger_after}
 use Rattle.rules.proofs.Ledgers.Ranged.{Ranged, opened_ranged, last_ranged}
 use Rattle.rules.proofs.Ledgers.Agreement.{Agrees, day_agrees}
-use Rattle.rules.proofs.Ledgers.LedgerReadings.{net_read_is_the_ledgers, exposure_read_is_the_ledgers, hourly_exposure_read_is_the_ledgers, available_is_the_ledgers, results-are-the-ledgers, balances-are-the-ledgers, total-is-the-ledgers}
+use Rattle.rules.proofs.Ledgers.LedgerReadings.{net_read_is_the_ledgers, exposure_read_is_the_ledgers, hourly_exposure_read_is_the_ledgers, available_is_the_ledgers, results_are_the_ledgers, balances_are_the_ledgers, total_is_the_ledgers}
 use Rattle.rules.proofs.Settling.SettledTotal.{Owned, book_total}
 
 -- ---- an accepted settle
@@ -51,9 +51,9 @@ module _ (b : Book) (c : Call) (l : Ledger) (w : Settled) (owned : Owned b.setup
       } in
       let e : x ≡ w = cc in
       rw (← e) (record {
-        results = results-are-the-ledgers b l g t ∙ rw g.setup;
-        balances = balances-are-the-ledgers b l g t ∙ rw g.setup;
-        total = book_total b t owned r ∙ total-is-the-ledgers b l g t ∙ rw g.setup;
+        results = results_are_the_ledgers b l g t ∙ rw g.setup;
+        balances = balances_are_the_ledgers b l g t ∙ rw g.setup;
+        total = book_total b t owned r ∙ total_is_the_ledgers b l g t ∙ rw g.setup;
       })
 
   worked_go : (o : Option Refusal) → worked_out b c o ≡ some w → SettledBy l c w

@@ -86,18 +86,18 @@ module _ (b : Book) (l : Ledger) (g : Agrees b l) where
   nets = fun_ext (λ a. fun_ext (λ h. net_is_the_ledgers a h))
 
   module _ (t : List CentsPerMwh) where
-    pub settled-is-the-ledgers : settled b.setup (net_of b.part.rows) t b.schedules ≡ ledger_settled l t
+    pub settled_is_the_ledgers : settled b.setup (net_of b.part.rows) t b.schedules ≡ ledger_settled l t
     unfolding ledger_settled
-    settled-is-the-ledgers = rw (nets, g.setup, g.schedules)
+    settled_is_the_ledgers = rw (nets, g.setup, g.schedules)
 
-    pub results-are-the-ledgers : results b.setup (net_of b.part.rows) t b.schedules
+    pub results_are_the_ledgers : results b.setup (net_of b.part.rows) t b.schedules
         ≡ results l.setup (ledger_net l) t l.page.schedules
-    results-are-the-ledgers = rw (nets, g.setup, g.schedules)
+    results_are_the_ledgers = rw (nets, g.setup, g.schedules)
 
-    pub balances-are-the-ledgers : balances b.setup (net_of b.part.rows) t b.schedules
+    pub balances_are_the_ledgers : balances b.setup (net_of b.part.rows) t b.schedules
         ≡ balances l.setup (ledger_net l) t l.page.schedules
-    balances-are-the-ledgers = rw (nets, g.setup, g.schedules)
+    balances_are_the_ledgers = rw (nets, g.setup, g.schedules)
 
-    pub total-is-the-ledgers : registered_total b.setup (net_of b.part.rows) t b.schedules
+    pub total_is_the_ledgers : registered_total b.setup (net_of b.part.rows) t b.schedules
         ≡ registered_total l.setup (ledger_net l) t l.page.schedules
-    total-is-the-ledgers = rw (nets, g.setup, g.schedules)
+    total_is_the_ledgers = rw (nets, g.setup, g.schedules)

@@ -121,11 +121,11 @@ module _ (s : List ℕ) (third : get_or s 2 0 ≡ kind_number ask) (e : bit (map
 -- without a kind bytes are refused by 2
 no_kind : (b : Book) (c : Call) → bit (map_of c.bytes) 0 ≡ false → refusal b c ≡ some Unreadable
 unfolding refusal checks read_checks unreadable first_to_apply
-no_kind b c e = rw (field_in_absent c.bytes 0 e, e, middle-true (ltb (length c.bytes) 3) (leb (2 ^ 13) (map_of c.bytes)))
+no_kind b c e = rw (field_in_absent c.bytes 0 e, e, middle_true (ltb (length c.bytes) 3) (leb (2 ^ 13) (map_of c.bytes)))
   where
-    middle-true : (s t : Bool) → s || true || t ≡ true
-    middle-true true t = refl
-    middle-true false t = refl
+    middle_true : (s t : Bool) → s || true || t ≡ true
+    middle_true true t = refl
+    middle_true false t = refl
 
 -- what is checked past the bytes looks at the kind only for the map and the range that it has
 same_input : (b : Book) (c : Call) (q : Request)
@@ -155,10 +155,10 @@ module _ (b : Book) (c : Call) (third : get_or c.bytes 2 0 ≡ kind_number ask) 
     same_answer (some r) = refl
     same_answer none = rw (kind_renamed c.bytes third e, kind_asked c.bytes third e)
 
-    buffers-left : (o : Option Refusal) → LeavesBuffers c (answer b c o) × LeavesBuffers c (answer b (as_register c) o)
+    buffers_left : (o : Option Refusal) → LeavesBuffers c (answer b c o) × LeavesBuffers c (answer b (as_register c) o)
     unfolding answer settles
-    buffers-left (some r) = ((refl, refl), (refl, refl))
-    buffers-left none = rw (kind_renamed c.bytes third e, kind_asked c.bytes third e) ((refl, refl), (refl, refl))
+    buffers_left (some r) = ((refl, refl), (refl, refl))
+    buffers_left none = rw (kind_renamed c.bytes third e, kind_asked c.bytes third e) ((refl, refl), (refl, refl))
 
   both_unreadable : bit (map_of c.bytes) 0 ≡ false → (refusal b c ≡ some Unreadable) × (refusal b (as_register c) ≡ some Unreadable)
   both_unreadable e = (no_kind b c e, no_kind b (as_register c) (ap (λ (m : ℕ). bit m 0) (same_map c.bytes) ∙ e))
@@ -179,7 +179,7 @@ module _ (b : Book) (c : Call) (third : get_or c.bytes 2 0 ≡ kind_number ask) 
     where
       go : (t : Bool) → bit (map_of c.bytes) 0 ≡ t
           → LeavesBuffers c (answer b c (refusal b c)) × LeavesBuffers c (answer b (as_register c) (refusal b (as_register c)))
-      go true e = ((buffers-left e (refusal b c)).0, (buffers-left e (refusal b (as_register c))).1)
+      go true e = ((buffers_left e (refusal b c)).0, (buffers_left e (refusal b (as_register c))).1)
       go false e = rw ((both_unreadable e).0, (both_unreadable e).1) ((refl, refl), (refl, refl))
 
 -- ---- what an accepted call leaves of the asks
@@ -443,7 +443,7 @@ module _ (b : Book) (asking : Call) (between : List Call) (committing : Call) (p
   -- every accepted call in between is an ask, the commit gives the number that its ask gave, and registers the row that was asked for
   pub commit_of_its_ask : CommittedAsAsked step b asking between committing
   unfolding after
-  commit_of_its_ask = record { only-asks = stayed.only; same_answer = same_outcome; same_row = same_row }
+  commit_of_its_ask = record { only_asks = stayed.only; same_answer = same_outcome; same_row = same_row }
 
 -- ---- what clears asks
 

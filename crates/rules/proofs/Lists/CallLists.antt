@@ -40,9 +40,9 @@ module _ {B : Type 0} (answer : B → Call → Answer B) where
       let there : after answer b (before ++ calls) ≡ after answer b (before ++ others)
       = after_append b before calls ∙ same ∙ sym (after_append b before others) in
       record {
-        same-before = front calls ∙ sym (front others);
+        same_before = front calls ∙ sym (front others);
         same_after = back calls ∙ ap (λ (x : B). runs answer x rest) there ∙ sym (back others);
-        same-book =
+        same_book =
             after_append b (before ++ calls) rest
             ∙ ap (λ (x : B). after answer x rest) there
             ∙ sym (after_append b (before ++ others) rest);

@@ -40,24 +40,24 @@ module _ {A B : Type 0} {answer : A → Call → Answer A} {other : B → Call �
     pub runs-carried : runs other (form a) cs ≡ map (carried_run form) (runs answer a cs)
     runs-carried = (list_carried a cs e g).0
 
-    pub after-carried : after other (form a) cs ≡ form (after answer a cs)
-    after-carried = (list_carried a cs e g).1
+    pub after_carried : after other (form a) cs ≡ form (after answer a cs)
+    after_carried = (list_carried a cs e g).1
 
-    pub heard-carried : heard other (form a) cs ≡ heard answer a cs
+    pub heard_carried : heard other (form a) cs ≡ heard answer a cs
     unfolding heard
-    heard-carried = rw (runs-carried, map-map)
+    heard_carried = rw (runs-carried, map-map)
 
-    ends-carried : ends_no_batch other (form a) cs ≡ ends_no_batch answer a cs
+    ends_carried : ends_no_batch other (form a) cs ≡ ends_no_batch answer a cs
     unfolding ends_no_batch
-    ends-carried = rw (runs-carried, every_map)
+    ends_carried = rw (runs-carried, every_map)
 
-    no-ask-carried : (n : ℕ) → no_ask_of other n (form a) cs ≡ no_ask_of answer n a cs
+    no_ask_carried : (n : ℕ) → no_ask_of other n (form a) cs ≡ no_ask_of answer n a cs
     unfolding no_ask_of
-    no-ask-carried n = rw (runs-carried, every_map)
+    no_ask_carried n = rw (runs-carried, every_map)
 
-    only-asks-carried : only_asks other (form a) cs ≡ only_asks answer a cs
+    only_asks_carried : only_asks other (form a) cs ≡ only_asks answer a cs
     unfolding only_asks
-    only-asks-carried = rw (runs-carried, every_map)
+    only_asks_carried = rw (runs-carried, every_map)
 
   pub accepts_carried : (ks : List Kind) (a : A) (c : Call) → Good a → accepts_as other ks (form a) c ≡ accepts_as answer ks a c
   accepts_carried ks a c g = ap (λ (x : Answer B). is_acceptance x.outcome.verdict && call_kind c one_of ks) (k.alike a c g)
@@ -71,11 +71,11 @@ module _ {A B : Type 0} {answer : A → Call → Answer A} {other : B → Call �
       record {
         opens = sym (accepts_carried (open_batch ∷ []) a opening g) ∙ batch.opens;
         goes_on =
-            sym (ap (λ (b : B). ends_no_batch other b between) (after-carried a one (cons p nil) g)
-            ∙ ends-carried (after answer a one) between e (after_keeps answer k.keeps a one (cons p nil) g))
+            sym (ap (λ (b : B). ends_no_batch other b between) (after_carried a one (cons p nil) g)
+            ∙ ends_carried (after answer a one) between e (after_keeps answer k.keeps a one (cons p nil) g))
             ∙ batch.goes_on;
         undoes =
-            sym (ap (λ (b : B). accepts_as other (undo ∷ []) b undoing) (after-carried a many (cons p e) g)
+            sym (ap (λ (b : B). accepts_as other (undo ∷ []) b undoing) (after_carried a many (cons p e) g)
             ∙ accepts_carried (undo ∷ []) (after answer a many) undoing (after_keeps answer k.keeps a many (cons p e) g))
             ∙ batch.undoes;
       }
@@ -87,7 +87,7 @@ module _ {A B : Type 0} {answer : A → Call → Answer A} {other : B → Call �
       record {
         opens = sym (accepts_carried (open_batch ∷ []) a opening g) ∙ batch.opens;
         keeps =
-            sym (ap (λ (b : B). accepts_as other (keep ∷ []) b keeping) (after-carried a one (cons p nil) g)
+            sym (ap (λ (b : B). accepts_as other (keep ∷ []) b keeping) (after_carried a one (cons p nil) g)
             ∙ accepts_carried (keep ∷ []) (after answer a one) keeping (after_keeps answer k.keeps a one (cons p nil) g))
             ∙ batch.keeps;
       }
@@ -99,42 +99,42 @@ module _ {A B : Type 0} {answer : A → Call → Answer A} {other : B → Call �
     abbrev many : List Call
     many = asking ∷ between
 
-    good-one : Good (after answer a one)
-    good-one = after_keeps answer k.keeps a one (cons p nil) g
+    good_one : Good (after answer a one)
+    good_one = after_keeps answer k.keeps a one (cons p nil) g
 
-    good-many : Good (after answer a many)
-    good-many = after_keeps answer k.keeps a many (cons p e) g
+    good_many : Good (after answer a many)
+    good_many = after_keeps answer k.keeps a many (cons p e) g
 
     there : after other (form a) many ≡ form (after answer a many)
-    there = after-carried a many (cons p e) g
+    there = after_carried a many (cons p e) g
 
     -- an ask committed on the other form is committed on the one
-    pub committed-carried : AskCommitted other (form a) asking between committing → AskCommitted answer a asking between committing
-    committed-carried pair =
+    pub committed_carried : AskCommitted other (form a) asking between committing → AskCommitted answer a asking between committing
+    committed_carried pair =
         record {
           asks = sym (accepts_carried (ask ∷ []) a asking g) ∙ pair.asks;
           latest =
-              sym (ap (λ (b : B). no_ask_of other (call_account asking) b between) (after-carried a one (cons p nil) g)
-              ∙ no-ask-carried (after answer a one) between e good-one (call_account asking))
+              sym (ap (λ (b : B). no_ask_of other (call_account asking) b between) (after_carried a one (cons p nil) g)
+              ∙ no_ask_carried (after answer a one) between e good_one (call_account asking))
               ∙ pair.latest;
           commits =
               sym (ap (λ (b : B). accepts_as other (commit ∷ []) b committing) there
-              ∙ accepts_carried (commit ∷ []) (after answer a many) committing good-many)
+              ∙ accepts_carried (commit ∷ []) (after answer a many) committing good_many)
               ∙ pair.commits;
           own = pair.own;
         }
 
     -- and what is so on the one is so on the other
-    pub as-asked-carried : CommittedAsAsked answer a asking between committing → CommittedAsAsked other (form a) asking between committing
-    as-asked-carried same =
+    pub as_asked_carried : CommittedAsAsked answer a asking between committing → CommittedAsAsked other (form a) asking between committing
+    as_asked_carried same =
         record {
-          only-asks =
-              ap (λ (b : B). only_asks other b between) (after-carried a one (cons p nil) g)
-              ∙ only-asks-carried (after answer a one) between e good-one
-              ∙ same.only-asks;
+          only_asks =
+              ap (λ (b : B). only_asks other b between) (after_carried a one (cons p nil) g)
+              ∙ only_asks_carried (after answer a one) between e good_one
+              ∙ same.only_asks;
           same_answer =
               ap (λ (b : B). (other b committing).outcome) there
-              ∙ ap (λ (x : Answer B). x.outcome) (k.alike (after answer a many) committing good-many)
+              ∙ ap (λ (x : Answer B). x.outcome) (k.alike (after answer a many) committing good_many)
               ∙ same.same_answer
               ∙ ap (λ (x : Answer B). x.outcome) (sym (k.alike a asking g));
           same_row = same.same_row;

@@ -112,9 +112,9 @@ module _ (b : Book) (c : Call) (sized : length c.bytes ≡ row_length) where
     same_answer (some r) = refl
     same_answer none = rw (e, head_kind c.bytes, one_request c.bytes sized, single_requests c.bytes (rw e))
 
-    of-register : step b (strip_of_one c) ≡ step b c
+    of_register : step b (strip_of_one c) ≡ step b c
     unfolding step
-    of-register = same_answer (refusal b (strip_of_one c)) ∙ ap (answer b c) same-refusal
+    of_register = same_answer (refusal b (strip_of_one c)) ∙ ap (answer b c) same-refusal
 
   of_unreadable : bit (map_of c.bytes) 0 ≡ false → step b (strip_of_one c) ≡ step b c
   unfolding step answer
@@ -127,7 +127,7 @@ unfolding field_in
 strip_of_one_lem b c sized third = go (bit (map_of c.bytes) 0) refl
   where
     go : (t : Bool) → bit (map_of c.bytes) 0 ≡ t → step b (strip_of_one c) ≡ step b c
-    go true e = of-register b c sized (rw (e, offset_first (map_of c.bytes), number_at_one c.bytes 2) third)
+    go true e = of_register b c sized (rw (e, offset_first (map_of c.bytes), number_at_one c.bytes 2) third)
     go false e = of_unreadable b c sized e
 
 -- ---- an accepted strip and its registers in turn

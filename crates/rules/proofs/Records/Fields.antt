@@ -8,7 +8,7 @@ use native.Mathlib.Omega.{arith}
 use lib.ListN.{length, get_or, take, drop, length-append}
 use lib.Seq.{take_at, drop_at, drop-drop, ext_get_or}
 use Rattle.wire.specs.Numbers.{number, number_at, le, Bytes, none}
-use Rattle.wire.proofs.NumberLaws.{length-le, number-le, number-le_rest, number_at_zero, number_at_small, bytes_le, bytes_append}
+use Rattle.wire.proofs.NumberLaws.{length-le, number-le, number_le_rest, number_at_zero, number_at_small, bytes_le, bytes_append}
 use Rattle.wire.proofs.SlotLaws.{map_get}
 use Rattle.units.specs.Units.{kwh, cents, cents_per_mwh}
 use Rattle.rules.specs.declared.Request.{Request}
@@ -35,11 +35,11 @@ offset_step m k = omega (arith, total_last (room m) k 0, ap (room m) (zero-add k
 
 -- a field begins no later than those behind it
 pub offset_grows : (m k n : ℕ) → k ≤ n → offset m k ≤ offset m n
-offset_grows m k n h = let e : k + (n - k) ≡ n = omega arith in omega (arith, by-steps k (n - k), ap (offset m) e)
+offset_grows m k n h = let e : k + (n - k) ≡ n = omega arith in omega (arith, by_steps k (n - k), ap (offset m) e)
   where
-    by-steps : (k d : ℕ) → offset m k ≤ offset m (k + d)
-    by-steps k zero = omega (arith, ap (offset m) (add-zero k))
-    by-steps k (suc d) = omega (arith, offset_step m k, by-steps (suc k) d, ap (offset m) (across k d))
+    by_steps : (k d : ℕ) → offset m k ≤ offset m (k + d)
+    by_steps k zero = omega (arith, ap (offset m) (add-zero k))
+    by_steps k (suc d) = omega (arith, offset_step m k, by_steps (suc k) d, ap (offset m) (across k d))
 
 -- ---- what a record holds
 
@@ -151,20 +151,20 @@ module _ (q : Request) where
     length-write = length_of_write ∙ sym (tables_agree q.kind h).ends
 
     -- the map reads back
-    pub map-in-write : map_of (write q) ≡ wanted_map q.kind
+    pub map_in_write : map_of (write q) ≡ wanted_map q.kind
     unfolding map_of number_at write
-    map-in-write =
+    map_in_write =
         let m : ℕ = wanted_map q.kind in
         ap number (take_at (le 2 m) (field_bytes m q 0 field_count) 2 (length-le 2 m)) ∙ number-le 2 m (omega (arith, (tables_agree q.kind h).small))
 
     -- a field reads back as far as its room holds it
-    pub field-in-write : (k : ℕ) → k < field_count → field_in (write q) k ≡ field_of q k % 256 ^ room (wanted_map q.kind) k
+    pub field_in-write : (k : ℕ) → k < field_count → field_in (write q) k ≡ field_of q k % 256 ^ room (wanted_map q.kind) k
     unfolding number_at
-    field-in-write k l =
+    field_in-write k l =
         let m : ℕ = wanted_map q.kind in
         let e : k + suc (12 - k) ≡ field_count = omega arith in
         field_in-room (write q) k
-        ∙ rw (map-in-write, drop_write k (suc (12 - k)) e, take_fields m q k (12 - k)) (number-le_rest (room m k) (field_of q k))
+        ∙ rw (map_in_write, drop_write k (suc (12 - k)) e, take_fields m q k (12 - k)) (number_le_rest (room m k) (field_of q k))
 
 -- a field of a canonical request fits its room, be it none
 fits_room : (b : Bool) (x w : ℕ) → (b ≡ false → x ≡ 0) → x < 256 ^ w → x < 256 ^ (if b then w else 0)

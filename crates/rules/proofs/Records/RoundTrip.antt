@@ -21,7 +21,7 @@ use Rattle.rules.specs.Requests.{is_single, wanted_map, wanted_length, field_cou
 use Rattle.rules.proofs.Checks.Clearing.{Clear, clear, clear_applies}
 use Rattle.rules.proofs.Checks.Passed.{passed_3, passed_4, passed_5_record}
 use Rattle.rules.proofs.Checks.KindTables.{Agree, tables_agree}
-use Rattle.rules.proofs.Records.Fields.{offset_first, offset_step, offset_grows, field_in-room, field_in_absent, field_in_fits, field_of_request, same_fields, length-write, map-in-write, field-in-write, canonical_fits}
+use Rattle.rules.proofs.Records.Fields.{offset_first, offset_step, offset_grows, field_in-room, field_in_absent, field_in_fits, field_of_request, same_fields, length-write, map_in_write, field_in-write, canonical_fits}
 
 -- ---- when a record reads
 
@@ -74,7 +74,7 @@ record_ends s r = r.sized ∙ (tables_agree (field_in s 0) r.known).ends ∙ ap 
 
 module _ (q : Request) (h : is_single q.kind ≡ true) (c : Canonical q) (f : Fits q) where
   pub field_reads_back : (k : ℕ) → k < field_count → field_in (write q) k ≡ field_of q k
-  field_reads_back k l = field-in-write q h k l ∙ mod-eq_of_lt (canonical_fits q c f k l)
+  field_reads_back k l = field_in-write q h k l ∙ mod-eq_of_lt (canonical_fits q c f k l)
 
   same_request : request_of (write q) ≡ q
   same_request = same_fields (request_of (write q)) q (λ k l. field_of_request (write q) k l ∙ field_reads_back k l)
@@ -83,7 +83,7 @@ module _ (q : Request) (h : is_single q.kind ≡ true) (c : Canonical q) (f : Fi
   written_reads_back =
       let kind : field_in (write q) 0 ≡ q.kind = field_reads_back 0 (omega arith) in
       let keeps : Readable (write q) =
-      record { known = rw kind h; mapped = rw kind (map-in-write q h); sized = rw kind (length-write q h) } in
+      record { known = rw kind h; mapped = rw kind (map_in_write q h); sized = rw kind (length-write q h) } in
       reads (write q) keeps ∙ ap Read same_request
 
 -- ---- a record, read and written

@@ -15,7 +15,7 @@ use Rattle.rules.specs.declared.AccountHour.{AccountHour}
 use Rattle.rules.specs.Basics.{if◌then◌else◌, total, find, nth, up_to, Each}
 use Rattle.rules.specs.Books.{Setup, no_row, periods, margins_at, estimate_at}
 use Rattle.rules.specs.Registration.{pending, confirmed, includes_hour, counted, with_status, mark, closed, moved, waiting, buyer, seller, bought, sold, net_of, pending_sales, pending_purchases, account_hour, after_trade, after_trades, keeps_margins, broken_hour, broken_by, exposure_of, exposure, exposure_with}
-use Rattle.rules.proofs.Basics.Totals.{total_zero, total_cong, total-same, total_append, total_snoc, total_set, total-map}
+use Rattle.rules.proofs.Basics.Totals.{total_zero, total_cong, total_same, total_append, total_snoc, total_set, total_map}
 use Rattle.rules.proofs.Basics.Searches.{each_map}
 
 -- ---- shares of a row
@@ -75,7 +75,7 @@ module _ (party : Row → ℕ) (a h : ℕ) where
   pub moved_added : (rows : List Row) {added : List Row} → Each (λ r. pending r ≡ true) added → moved party (rows ++ added) a h ≡ moved party rows a h
   unfolding moved moved_share
   moved_added rows {added} e =
-      omega (arith, total_append (moved_share party a h) rows added, total-same (moved_share party a h) (λ r. 0) moved_idle e, total_zero added)
+      omega (arith, total_append (moved_share party a h) rows added, total_same (moved_share party a h) (λ r. 0) moved_idle e, total_zero added)
 
   -- confirm moves the row's quantity
   pub moved_confirm : ((status : ℕ) (r : Row) → party (with_status status r) ≡ party r)
@@ -104,7 +104,7 @@ module _ (party : Row → ℕ) (a h : ℕ) where
   pub moved_close : (rows : List Row) → moved party (closed rows) a h ≡ moved party rows a h
   unfolding moved moved_share closed
   moved_close rows =
-      total-map (moved_share party a h) (λ r. if pending r then with_status 3 r else r) rows
+      total_map (moved_share party a h) (λ r. if pending r then with_status 3 r else r) rows
       ∙ total_cong _ _ rows (λ r. moved_closed r (pending r) refl)
 
 -- ---- what waits
@@ -144,7 +144,7 @@ module _ (side a h : ℕ) where
   pub waiting_close : (rows : List Row) → waiting side (closed rows) a h ≡ 0
   unfolding waiting waiting_share closed
   waiting_close rows =
-      total-map (waiting_share side a h) (λ r. if pending r then with_status 3 r else r) rows
+      total_map (waiting_share side a h) (λ r. if pending r then with_status 3 r else r) rows
       ∙ total_cong _ (λ r. 0) rows (λ r. waiting_closed r (pending r) refl)
       ∙ total_zero rows
 
@@ -164,7 +164,7 @@ module _ (side a h : ℕ) where
       → waiting side (rows ++ added) a h ≡ waiting side rows a h
   unfolding waiting waiting_share
   waiting_added rows {added} e =
-      omega (arith, total_append (waiting_share side a h) rows added, total-same (waiting_share side a h) (λ r. 0) waiting_idle e, total_zero added)
+      omega (arith, total_append (waiting_share side a h) rows added, total_same (waiting_share side a h) (λ r. 0) waiting_idle e, total_zero added)
 
   -- what waits on another account than the proposer stands
   pub waiting_of_others : (rows : List Row) (n status : ℕ) → pending (nth rows n no_row) ≡ true → eqb status 1 ≡ false

@@ -11,7 +11,7 @@ use Rattle.rules.specs.declared.AccountHour.{AccountHour}
 use Rattle.rules.specs.Basics.{if◌then◌else◌, total, up_to}
 use Rattle.rules.specs.Books.{Setup, periods, account_count}
 use Rattle.rules.specs.Registration.{exposed, exposed_amount, of_operator, exposure_of, hourly_exposure_of, accounts_of, account_hours_of}
-use Rattle.rules.proofs.Basics.Totals.{total_times, total_cong, total-map, total_those, total_where, total_rearranged, total_flat, swap, shared}
+use Rattle.rules.proofs.Basics.Totals.{total_times, total_cong, total_map, total_those, total_where, total_rearranged, total_flat, swap, shared}
 use Rattle.rules.proofs.Rows.Operators.{owned, operator_cong, operator_one}
 
 -- ---- an operator's account hours
@@ -26,7 +26,7 @@ module _ (u : Setup) (o : ℕ) where
     unfolding account_hours_of
     by_hour =
         total_flat f (λ h. map (λ a. (a, h)) (accounts_of u o)) hours
-        ∙ total_cong _ _ hours (λ h. total-map f (λ a. (a, h)) (accounts_of u o))
+        ∙ total_cong _ _ hours (λ h. total_map f (λ a. (a, h)) (accounts_of u o))
 
     -- and account by account
     by_account : total f (account_hours_of u o) ≡ of_operator u (λ a. total (λ h. f (a, h)) hours) o

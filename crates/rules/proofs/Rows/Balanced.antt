@@ -11,7 +11,7 @@ use Rattle.rules.specs.Basics.{if◌then◌else◌, total, sum_of, up_to, Each}
 use Rattle.rules.specs.Registration.{confirmed, includes_hour, buyer, seller, counted, moved, bought, sold, net_of, figure}
 use Rattle.rules.proofs.Basics.Differences.{difference_add, difference_none}
 use Rattle.rules.proofs.Basics.Searches.{each_map}
-use Rattle.rules.proofs.Basics.Totals.{total-same, swap, shared}
+use Rattle.rules.proofs.Basics.Totals.{total_same, swap, shared}
 
 -- both parties are accounts 1 to n, the side is 1 or 2
 pub record Parties (n : ℕ) (r : Row) : Type 0 where
@@ -53,7 +53,7 @@ pub moved_all_lem : (party : Row → ℕ) (n h : ℕ) (rows : List Row) → Each
 unfolding moved
 moved_all_lem party n h rows e =
     swap (λ a. counted (λ r. confirmed r && includes_hour h r && eqb (party r) a)) (up_to n) rows
-    ∙ total-same _ _ (λ r p. shared n (party r) r.quantity.0 (confirmed r && includes_hour h r) p.0 p.1) e
+    ∙ total_same _ _ (λ r p. shared n (party r) r.quantity.0 (confirmed r && includes_hour h r) p.0 p.1) e
 
 pub balanced : (n h : ℕ) (rows : List Row) → Each (Parties n) rows
     → total (λ a. bought rows a h) (up_to n) ≡ total (λ a. sold rows a h) (up_to n)

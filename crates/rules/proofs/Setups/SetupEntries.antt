@@ -203,13 +203,13 @@ module _ (s : List ℕ) (n : Counts) (counted : n ≡ counts_in s) (a h : ℕ) (
         nth_entry margin_width margin_in n.hours h (account_offset n a + from) s (kwh 0) hl hh
         ∙ margin_at s (account_offset n a + from + margin_width * (h - 1))
 
-    pub margins-at : margins_at (setup_of s) a h ≡
+    pub margins_at_lem : margins_at (setup_of s) a h ≡
         record {
           lower = kwh (number_at s (account_offset n a + lower_offset + margin_width * (h - 1)) margin_width);
           upper = kwh (number_at s (account_offset n a + upper_offset n + margin_width * (h - 1)) margin_width);
         }
     unfolding setup_of
-    margins-at =
+    margins_at_lem =
         let entry = account_numbered s n counted a refl (sym (account_at s (account_offset n a) n)) al ah in
         ap (λ (x : Account). record { lower = nth x.lower h (kwh 0); upper = nth x.upper h (kwh 0) }) (sym entry)
         ∙ rw (listed lower_offset, listed (upper_offset n))

@@ -17,7 +17,7 @@ outage hours =
     record { operator = 1; kind = 1; lower = for_hours 4 20000 ++ for_hours 4 0 ++ for_hours (hours - 8) 20000; upper = for_hours hours 0 }
 
 -- a sale over the whole day breaks the margin of hour 5 first; over hours 9 to 24 it passes, and so it does up to hour 4
-sale-over_an_outage :
+sale_over_an_outage :
     Prints (record {
       items =
           opens_for (outage ∷ withdrawer ∷ [])
@@ -29,7 +29,7 @@ sale-over_an_outage :
       printed = "0 0 0 0\n1 18 5 0\n2 18 8 0\n3 0 1 0\n4 0 2 0\n";
     })
 unfolding everything
-sale-over_an_outage = refl
+sale_over_an_outage = refl
 
 -- its upper margin in hour 12 is one short of that in the hours before
 abbrev short_at_twelve : ℕ → Account

@@ -80,13 +80,13 @@ unfolding everything
 counts = refl
 
 -- 22 is for the strip's own rows, 14 for those that stood, and 14 comes first
-twins-within_and_without :
+twins_within_and_without :
     Prints (record {
       items = opens ∷ strip (sells 7 1 ∷ sells 7 2 ∷ []) ∷ sells 7 1 ∷ strip (sells 7 1 ∷ sells 7 2 ∷ []) ∷ [];
       printed = "0 0 0 0\n1 22 0 0\n2 0 1 0\n3 14 0 0\n";
     })
 unfolding everything
-twins-within_and_without = refl
+twins_within_and_without = refl
 
 -- a row of a strip is confirmed by itself; undo counts the strip's rows
 in_a_batch :

@@ -1,47 +1,47 @@
 -- Without an ask there is nothing to judge; else the tests of register are made, each on the book as it would be.
 use mathlib.Core.Path.{sym, ◌∙◌}
 use native.Mathlib.Omega.{arith}
-use Rattle.asks.proofs.StandingLaws.{none-stands, ask-row, ask-in-range, later-falls, full-falls, broken-falls, covered-decides}
+use Rattle.asks.proofs.StandingLaws.{none_stands, ask_row, ask_in_range, later_falls, full_falls, broken_falls, covered_decides}
 use borrow.Author.Rules.{rules}
 use Rattle.asks.proofs.standing.ask_stands.Goals as goal
 
 pub returns-then-row-eq0 : goal.returns-then-row-eq0
 returns-then-row-eq0 c =
-    none-stands _ c.requires.ask_inputs.sale_inputs.is_sound _ c.asked_row-row.result c.requires.book_value.1 c.requires.book_value.2 c.asked_row-row.ensures c.if-row-eq0.true
+    none_stands _ c.requires.ask_inputs.sale_inputs.is_sound _ c.asked_row-row.result c.requires.book_value.1 c.requires.book_value.2 c.asked_row-row.ensures c.if-row-eq0.true
 
 pub returns-then-phase-ne-REGISTRATION : goal.returns-then-phase-ne-REGISTRATION
 returns-then-phase-ne-REGISTRATION c =
-    later-falls _ c.requires.ask_inputs.sale_inputs.is_sound _ _ c.requires.book_value.1 c.requires.book_value.2 c.asked_row-row.ensures c.if-row-eq0.false
+    later_falls _ c.requires.ask_inputs.sale_inputs.is_sound _ _ c.requires.book_value.1 c.requires.book_value.2 c.asked_row-row.ensures c.if-row-eq0.false
     (λ e. c.if-phase-ne-REGISTRATION.true (c.phase.ensures ∙ e))
 
 pub returns-then-row_count-ge-MOST_ROWS : goal.returns-then-row_count-ge-MOST_ROWS
 returns-then-row_count-ge-MOST_ROWS c =
     let first = sym c.phase.ensures ∙ c.if-phase-ne-REGISTRATION.false in
-    full-falls _ c.requires.ask_inputs.sale_inputs.is_sound _ _ c.requires.book_value.1 c.requires.book_value.2 c.asked_row-row.ensures c.if-row-eq0.false c.requires.book_value.0 first
+    full_falls _ c.requires.ask_inputs.sale_inputs.is_sound _ _ c.requires.book_value.1 c.requires.book_value.2 c.asked_row-row.ensures c.if-row-eq0.false c.requires.book_value.0 first
     (omega (arith, c.row_count.ensures.meaning))
 
 pub keeps_margins_with-requires : goal.keeps_margins_with-requires
 keeps_margins_with-requires c =
-    record { book_value = (c.requires.ask_inputs.sale_inputs.is_sound, c.requires.ask_inputs.account_hours); row_value = ask-in-range _ c.requires.ask_inputs.sale_inputs.is_sound _ _ c.requires.book_value.1 c.requires.book_value.2 c.asked_row-row.ensures c.if-row-eq0.false }
+    record { book_value = (c.requires.ask_inputs.sale_inputs.is_sound, c.requires.ask_inputs.account_hours); row_value = ask_in_range _ c.requires.ask_inputs.sale_inputs.is_sound _ _ c.requires.book_value.1 c.requires.book_value.2 c.asked_row-row.ensures c.if-row-eq0.false }
 
 pub covered_with-requires : goal.covered_with-requires
 covered_with-requires c =
     record {
       operator_exposures = (c.requires.ask_inputs.exposures_known, c.requires.ask_inputs.sale_inputs);
       row_value = (
-        ask-in-range _ c.requires.ask_inputs.sale_inputs.is_sound _ _ c.requires.book_value.1 c.requires.book_value.2 c.asked_row-row.ensures c.if-row-eq0.false,
-        (ask-row _ c.requires.ask_inputs.sale_inputs.is_sound _ _ c.requires.book_value.1 c.requires.book_value.2 c.asked_row-row.ensures c.if-row-eq0.false).waits,
+        ask_in_range _ c.requires.ask_inputs.sale_inputs.is_sound _ _ c.requires.book_value.1 c.requires.book_value.2 c.asked_row-row.ensures c.if-row-eq0.false,
+        (ask_row _ c.requires.ask_inputs.sale_inputs.is_sound _ _ c.requires.book_value.1 c.requires.book_value.2 c.asked_row-row.ensures c.if-row-eq0.false).waits,
       );
     }
 
 pub returns-then-keeps_margins_with : goal.returns-then-keeps_margins_with
 returns-then-keeps_margins_with c =
     let first = sym c.phase.ensures ∙ c.if-phase-ne-REGISTRATION.false in
-    covered-decides _ c.requires.ask_inputs.sale_inputs.is_sound _ _ c.requires.book_value.1 c.requires.book_value.2 c.asked_row-row.ensures c.if-row-eq0.false c.requires.book_value.0 first
+    covered_decides _ c.requires.ask_inputs.sale_inputs.is_sound _ _ c.requires.book_value.1 c.requires.book_value.2 c.asked_row-row.ensures c.if-row-eq0.false c.requires.book_value.0 first
     (omega arith) (sym c.keeps_margins_with.ensures ∙ c.if-keeps_margins_with.true) _ c.covered_with.ensures
 
 pub returns : goal.returns
 returns c =
     let first = sym c.phase.ensures ∙ c.if-phase-ne-REGISTRATION.false in
-    broken-falls _ c.requires.ask_inputs.sale_inputs.is_sound _ _ c.requires.book_value.1 c.requires.book_value.2 c.asked_row-row.ensures c.if-row-eq0.false c.requires.book_value.0 first
+    broken_falls _ c.requires.ask_inputs.sale_inputs.is_sound _ _ c.requires.book_value.1 c.requires.book_value.2 c.asked_row-row.ensures c.if-row-eq0.false c.requires.book_value.0 first
     (omega arith) (sym c.keeps_margins_with.ensures ∙ c.if-keeps_margins_with.false)

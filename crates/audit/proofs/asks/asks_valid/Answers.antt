@@ -9,12 +9,12 @@ use Rattle.rules.specs.Limits.{most_accounts, most_hours}
 use Rattle.rules.proofs.Basics.CountingLaws.{every_done, every_next, every_fails}
 use Rattle.image.specs.Layout.{ask_offset}
 use Rattle.audit.specs.Validity.{ask_valid, asks_valid}
-use Rattle.audit.proofs.AskTests.{zero-asks}
+use Rattle.audit.proofs.AskTests.{zero_asks}
 use Rattle.audit.proofs.asks.asks_valid.Goals as goal
 
 pub returns-then-all_zero : goal.returns-then-all_zero
 returns-then-all_zero c =
-    sym (zero-asks most_hours _ (omega (arith, c.requires)) (sym c.all_zero.ensures ∙ c.if-all_zero.true))
+    sym (zero_asks most_hours _ (omega (arith, c.requires)) (sym c.all_zero.ensures ∙ c.if-all_zero.true))
 
 pub loop-number-init : goal.loop-number-init
 unfolding asks_valid

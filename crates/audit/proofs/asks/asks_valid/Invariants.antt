@@ -9,7 +9,7 @@ use Rattle.rules.specs.Limits.{most_accounts, most_hours}
 use Rattle.rules.proofs.Basics.CountingLaws.{every_done, every_next, every_fails}
 use Rattle.image.specs.Layout.{ask_offset}
 use Rattle.audit.specs.Validity.{ask_valid, asks_valid}
-use Rattle.audit.proofs.AskTests.{zero-asks}
+use Rattle.audit.proofs.AskTests.{zero_asks}
 use Rattle.audit.proofs.asks.asks_valid.Given as goal
 
 abbrev pub invariant-loop-number : goal.invariant-loop-number

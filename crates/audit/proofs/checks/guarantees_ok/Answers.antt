@@ -13,7 +13,7 @@ use Rattle.rules.specs.Basics.{every}
 use Rattle.rules.specs.Limits.{most_guarantee}
 use Rattle.rules.specs.Opening.{guarantee_width}
 use Rattle.image.specs.Cells.{guarantees_from}
-use Rattle.audit.proofs.CheckLaws.{TestsLeft, tested-next, tested-all}
+use Rattle.audit.proofs.CheckLaws.{TestsLeft, tested_next, tested_all}
 use Rattle.audit.proofs.checks.guarantees_ok.Goals as goal
 
 pub loop-left-init : goal.loop-left-init
@@ -23,7 +23,7 @@ loop-left-init c = (search rules, record { together = refl })
 pub loop-left-preserved : goal.loop-left-preserved
 unfolding number_at
 loop-left-preserved c =
-    (search rules, tested-next c.loop-left.invariant.1 (c.loop-left.left - 1) (omega arith) (ap cents c.get_u64-g.ensures) refl)
+    (search rules, tested_next c.loop-left.invariant.1 (c.loop-left.left - 1) (omega arith) (ap cents c.get_u64-g.ensures) refl)
 
 pub returns : goal.returns
-returns c = tested-all c.loop-left.invariant.1 (omega arith)
+returns c = tested_all c.loop-left.invariant.1 (omega arith)

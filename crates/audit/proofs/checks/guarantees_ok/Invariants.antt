@@ -13,7 +13,7 @@ use Rattle.rules.specs.Basics.{every}
 use Rattle.rules.specs.Limits.{most_guarantee}
 use Rattle.rules.specs.Opening.{guarantee_width}
 use Rattle.image.specs.Cells.{guarantees_from}
-use Rattle.audit.proofs.CheckLaws.{TestsLeft, tested-next, tested-all}
+use Rattle.audit.proofs.CheckLaws.{TestsLeft, tested_next, tested_all}
 use Rattle.audit.proofs.checks.guarantees_ok.Given as goal
 
 abbrev pub small : Cents → Bool

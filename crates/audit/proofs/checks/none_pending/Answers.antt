@@ -12,7 +12,7 @@ use Rattle.image.specs.Image.{row_in}
 use Rattle.image.specs.Cells.{rows_from}
 use Rattle.image.specs.Layout.{row_width}
 use Rattle.image.proofs.Reading.RowsFrom.{not_any}
-use Rattle.audit.proofs.CheckLaws.{TestsLeft, tested-next, tested-all}
+use Rattle.audit.proofs.CheckLaws.{TestsLeft, tested_next, tested_all}
 use Rattle.audit.proofs.checks.none_pending.Goals as goal
 
 pub loop-left-init : goal.loop-left-init
@@ -21,7 +21,7 @@ loop-left-init c = (search rules, record { together = not_any pending _ })
 
 pub loop-left-preserved : goal.loop-left-preserved
 loop-left-preserved c =
-    (search rules, tested-next c.loop-left.invariant.1 (c.loop-left.left - 1) (omega arith) c.row_at-r.ensures refl)
+    (search rules, tested_next c.loop-left.invariant.1 (c.loop-left.left - 1) (omega arith) c.row_at-r.ensures refl)
 
 pub returns : goal.returns
-returns c = tested-all c.loop-left.invariant.1 (omega arith)
+returns c = tested_all c.loop-left.invariant.1 (omega arith)

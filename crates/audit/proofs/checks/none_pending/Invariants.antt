@@ -12,7 +12,7 @@ use Rattle.image.specs.Image.{row_in}
 use Rattle.image.specs.Cells.{rows_from}
 use Rattle.image.specs.Layout.{row_width}
 use Rattle.image.proofs.Reading.RowsFrom.{not_any}
-use Rattle.audit.proofs.CheckLaws.{TestsLeft, tested-next, tested-all}
+use Rattle.audit.proofs.CheckLaws.{TestsLeft, tested_next, tested_all}
 use Rattle.audit.proofs.checks.none_pending.Given as goal
 
 abbrev pub invariant-loop-left : goal.invariant-loop-left

@@ -10,7 +10,7 @@ use Rattle.image.specs.Image.{row_in}
 use Rattle.image.specs.Valid.{row_ok}
 use Rattle.image.specs.Cells.{rows_from}
 use Rattle.image.specs.Layout.{row_width}
-use Rattle.audit.proofs.CheckLaws.{TestsLeft, tested-next, tested-all}
+use Rattle.audit.proofs.CheckLaws.{TestsLeft, tested_next, tested_all}
 use Rattle.audit.proofs.checks.rows_ok.Goals as goal
 
 pub loop-left-init : goal.loop-left-init
@@ -19,7 +19,7 @@ loop-left-init c = (search rules, λ u n h. record { together = refl })
 
 pub loop-left-preserved : goal.loop-left-preserved
 loop-left-preserved c =
-    (search rules, λ u n h. tested-next (c.loop-left.invariant.1 u n h) (c.loop-left.left - 1) (omega arith) c.row_at.ensures (c.row_ok-ok.ensures u n h))
+    (search rules, λ u n h. tested_next (c.loop-left.invariant.1 u n h) (c.loop-left.left - 1) (omega arith) c.row_at.ensures (c.row_ok-ok.ensures u n h))
 
 pub returns : goal.returns
-returns c u n h = tested-all (c.loop-left.invariant.1 u n h) (omega arith)
+returns c u n h = tested_all (c.loop-left.invariant.1 u n h) (omega arith)

@@ -10,7 +10,7 @@ use Rattle.image.specs.Image.{row_in}
 use Rattle.image.specs.Valid.{row_ok}
 use Rattle.image.specs.Cells.{rows_from}
 use Rattle.image.specs.Layout.{row_width}
-use Rattle.audit.proofs.CheckLaws.{TestsLeft, tested-next, tested-all}
+use Rattle.audit.proofs.CheckLaws.{TestsLeft, tested_next, tested_all}
 use Rattle.audit.proofs.checks.rows_ok.Given as goal
 
 abbrev pub invariant-loop-left : goal.invariant-loop-left

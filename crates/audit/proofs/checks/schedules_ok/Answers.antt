@@ -10,7 +10,7 @@ use Rattle.image.specs.Image.{schedule_in}
 use Rattle.image.specs.Valid.{schedule_ok}
 use Rattle.image.specs.Cells.{schedules_from}
 use Rattle.image.specs.Layout.{schedule_width}
-use Rattle.audit.proofs.CheckLaws.{TestsLeft, tested-next, tested-all}
+use Rattle.audit.proofs.CheckLaws.{TestsLeft, tested_next, tested_all}
 use Rattle.audit.proofs.checks.schedules_ok.Goals as goal
 
 pub loop-left-init : goal.loop-left-init
@@ -19,7 +19,7 @@ loop-left-init c = (search rules, λ u n h. record { together = refl })
 
 pub loop-left-preserved : goal.loop-left-preserved
 loop-left-preserved c =
-    (search rules, λ u n h. tested-next (c.loop-left.invariant.1 u n h) (c.loop-left.left - 1) (omega arith) c.schedule_at.ensures (c.schedule_ok-ok.ensures u n h))
+    (search rules, λ u n h. tested_next (c.loop-left.invariant.1 u n h) (c.loop-left.left - 1) (omega arith) c.schedule_at.ensures (c.schedule_ok-ok.ensures u n h))
 
 pub returns : goal.returns
-returns c u n h = tested-all (c.loop-left.invariant.1 u n h) (omega arith)
+returns c u n h = tested_all (c.loop-left.invariant.1 u n h) (omega arith)

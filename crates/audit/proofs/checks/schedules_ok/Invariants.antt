@@ -10,7 +10,7 @@ use Rattle.image.specs.Image.{schedule_in}
 use Rattle.image.specs.Valid.{schedule_ok}
 use Rattle.image.specs.Cells.{schedules_from}
 use Rattle.image.specs.Layout.{schedule_width}
-use Rattle.audit.proofs.CheckLaws.{TestsLeft, tested-next, tested-all}
+use Rattle.audit.proofs.CheckLaws.{TestsLeft, tested_next, tested_all}
 use Rattle.audit.proofs.checks.schedules_ok.Given as goal
 
 abbrev pub invariant-loop-left : goal.invariant-loop-left

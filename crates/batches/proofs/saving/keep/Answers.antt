@@ -13,7 +13,7 @@ use Rattle.book.proofs.StateLaws.{book_length}
 use Rattle.book.proofs.Answers.{refused_all}
 use Rattle.batches.proofs.Decisions.{ending_finds_batch}
 use Rattle.batches.proofs.Acceptances.{kept_answered}
-use Rattle.batches.proofs.BatchLaws.{saved-rows-end}
+use Rattle.batches.proofs.BatchLaws.{saved_rows_end}
 use borrow.Author.Rules.{rules}
 use Rattle.batches.proofs.saving.keep.Goals as goal
 
@@ -36,7 +36,7 @@ end_batch-requires c =
     λ q. checked-same _ none (sym (c.inside_batch.ensures keep q refl) ∙ c.in_default.is) in
     let batch : is_some (book_in c.args.book.now).saved ≡ true =
     ending_finds_batch keep _ (request_of []) refl (free (request_of [])) in
-    record { book_len = book_length _ c.requires; n_le_most_rows = saved-rows-end _ c.requires batch _ c.saved_row_count-saved.ensures.meaning }
+    record { book_len = book_length _ c.requires; n_le_most_rows = saved_rows_end _ c.requires batch _ c.saved_row_count-saved.ensures.meaning }
 
 pub returns : goal.returns
 returns c =

@@ -2,7 +2,7 @@
 use mathlib.Core.Path.{sym, ap, ◌∙◌}
 use Rattle.rules.specs.Verdicts.{checked}
 use Rattle.book.proofs.Answers.{in_wrong_phase}
-use Rattle.batches.proofs.Decisions.{with-batch, outside-batch, phase_outside}
+use Rattle.batches.proofs.Decisions.{with_batch, outside_batch, phase_outside}
 use borrow.Author.Rules.{rules}
 use Rattle.batches.proofs.saving.outside_batch.Goals as goal
 
@@ -10,7 +10,7 @@ pub returns-then-phase-ne-REGISTRATION : goal.returns-then-phase-ne-REGISTRATION
 returns-then-phase-ne-REGISTRATION c = λ k q m. ap checked (sym (in_wrong_phase _ q k (λ e. c.if-phase-ne-REGISTRATION.true (c.phase.ensures ∙ e ∙ phase_outside k m))))
 
 pub returns-then-batch_open : goal.returns-then-batch_open
-returns-then-batch_open c = λ k q m. ap checked (sym (with-batch _ q (sym c.phase.ensures ∙ c.if-phase-ne-REGISTRATION.false) k m (sym c.batch_open.ensures ∙ c.if-batch_open.true)))
+returns-then-batch_open c = λ k q m. ap checked (sym (with_batch _ q (sym c.phase.ensures ∙ c.if-phase-ne-REGISTRATION.false) k m (sym c.batch_open.ensures ∙ c.if-batch_open.true)))
 
 pub returns : goal.returns
-returns c = λ k q m. ap checked (sym (outside-batch _ q (sym c.phase.ensures ∙ c.if-phase-ne-REGISTRATION.false) k m (sym c.batch_open.ensures ∙ c.if-batch_open.false)))
+returns c = λ k q m. ap checked (sym (outside_batch _ q (sym c.phase.ensures ∙ c.if-phase-ne-REGISTRATION.false) k m (sym c.batch_open.ensures ∙ c.if-batch_open.false)))

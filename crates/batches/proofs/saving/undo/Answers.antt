@@ -16,7 +16,7 @@ use Rattle.book.proofs.Answers.{refused_all}
 use Rattle.batches.specs.Saving.{batch_ended}
 use Rattle.batches.proofs.Decisions.{ending_finds_batch}
 use Rattle.batches.proofs.Acceptances.{undone_answered}
-use Rattle.batches.proofs.BatchLaws.{present_rows_end, saved-rows-end, saved-past-present, saved_room_left}
+use Rattle.batches.proofs.BatchLaws.{present_rows_end, saved_rows_end, saved_past_present, saved_room_left}
 use borrow.Author.Rules.{rules}
 use Rattle.batches.proofs.saving.undo.Goals as goal
 
@@ -40,7 +40,7 @@ copy_part-requires c =
     let batch : is_some (book_in c.args.book.now).saved ≡ true =
     ending_finds_batch undo _ (request_of []) refl (free (request_of [])) in
     let n = book_length _ c.requires in
-    record { has_part = (omega arith, omega arith, inr (omega arith)); n_le_most_rows = (c.row_count-rows.ensures.bounded, saved-past-present _ c.requires batch _ c.row_count-rows.ensures.meaning, present_rows_end _ c.requires _ c.row_count-rows.ensures.meaning) }
+    record { has_part = (omega arith, omega arith, inr (omega arith)); n_le_most_rows = (c.row_count-rows.ensures.bounded, saved_past_present _ c.requires batch _ c.row_count-rows.ensures.meaning, present_rows_end _ c.requires _ c.row_count-rows.ensures.meaning) }
 
 pub end_batch-requires : goal.end_batch-requires
 end_batch-requires c =
@@ -49,7 +49,7 @@ end_batch-requires c =
     let batch : is_some (book_in c.args.book.now).saved ≡ true =
     ending_finds_batch undo _ (request_of []) refl (free (request_of [])) in
     let n = book_length _ c.requires in
-    let (few, room) = saved-rows-end _ c.requires batch _ c.saved_row_count-saved.ensures.meaning in
+    let (few, room) = saved_rows_end _ c.requires batch _ c.saved_row_count-saved.ensures.meaning in
     record { book_len = omega arith; n_le_most_rows = (few, saved_room_left _ _ _ n few room c.copy_part.ensures) }
 
 pub returns : goal.returns

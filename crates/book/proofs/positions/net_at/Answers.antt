@@ -2,13 +2,13 @@
 -- was sold, and from there on the reverse.
 use native.Mathlib.Omega.{arith}
 use borrow.Author.Rules.{rules}
-use Rattle.book.proofs.ReadingLaws.{net-has-place}
+use Rattle.book.proofs.ReadingLaws.{net_has_place}
 use Rattle.book.proofs.NettedLaws.{net_bought, net_sold}
 use Rattle.book.proofs.positions.net_at.Goals as goal
 
 pub stored_net-stored-requires : goal.stored_net-stored-requires
 stored_net-stored-requires c =
-    (c.requires.0, net-has-place c.args.book.now c.requires.0 c.args.account c.args.hour c.requires.1 c.requires.2)
+    (c.requires.0, net_has_place c.args.book.now c.requires.0 c.args.account c.args.hour c.requires.1 c.requires.2)
 
 pub returns-then-stored-lt-HALF_U32 : goal.returns-then-stored-lt-HALF_U32
 returns-then-stored-lt-HALF_U32 c =

@@ -4,7 +4,7 @@ use native.Mathlib.Omega.{arith}
 use borrow.Author.Rules.{rules}
 use Rattle.rules.specs.Basics.{nil}
 use Rattle.book.proofs.StateLaws.{book_length}
-use Rattle.book.proofs.ReadingLaws.{exposure-no-operator, exposure-stands}
+use Rattle.book.proofs.ReadingLaws.{exposure-no_operator, exposure_stands}
 use Rattle.book.proofs.WorthParts.{exposure_read}
 use Rattle.book.proofs.readings.exposure_in.Goals as goal
 
@@ -13,7 +13,7 @@ counts-n-requires c = omega (arith, book_length c.args.book.now c.requires)
 
 pub returns-then-outside : goal.returns-then-outside
 returns-then-outside c =
-    sym (exposure-no-operator c.args.book.now c.requires c.counts-n.result c.counts-n.ensures c.args.operator
+    sym (exposure-no_operator c.args.book.now c.requires c.counts-n.result c.counts-n.ensures c.args.operator
     (sym c.outside.ensures ∙ c.if-outside.true))
 
 pub exposure_with-requires : goal.exposure_with-requires
@@ -21,6 +21,6 @@ exposure_with-requires c = (c.requires, nil)
 
 pub returns : goal.returns
 returns c =
-    sym (exposure-stands c.args.book.now c.requires c.counts-n.result c.counts-n.ensures c.args.operator
+    sym (exposure_stands c.args.book.now c.requires c.counts-n.result c.counts-n.ensures c.args.operator
     c.exposure_with.result (sym c.outside.ensures ∙ c.if-outside.false)
     (exposure_read c.args.book.now c.requires c.args.operator _ c.exposure_with.ensures.meaning))

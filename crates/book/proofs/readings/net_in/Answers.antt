@@ -4,7 +4,7 @@ use native.Mathlib.Omega.{arith}
 use borrow.Author.Rules.{rules}
 use Rattle.rules.specs.declared.NetReading.{NetReading}
 use Rattle.book.proofs.StateLaws.{book_length}
-use Rattle.book.proofs.ReadingLaws.{net-no-account, net-no-hour, net-in-table, net-stands}
+use Rattle.book.proofs.ReadingLaws.{net_no_account, net_no_hour, net_in_table, net_stands}
 use Rattle.book.proofs.readings.net_in.Goals as goal
 
 pub counts-n-requires : goal.counts-n-requires
@@ -12,23 +12,23 @@ counts-n-requires c = omega (arith, book_length c.args.book.now c.requires)
 
 pub returns-then-outside : goal.returns-then-outside
 returns-then-outside c =
-    sym (net-no-account c.args.book.now c.requires c.counts-n.result c.counts-n.ensures c.args.account c.args.hour
+    sym (net_no_account c.args.book.now c.requires c.counts-n.result c.counts-n.ensures c.args.account c.args.hour
     (sym c.outside.ensures ∙ c.if-outside.true))
 
 pub returns-then-outside-2 : goal.returns-then-outside-2
 returns-then-outside-2 c =
-    sym (net-no-hour c.args.book.now c.requires c.counts-n.result c.counts-n.ensures c.args.account c.args.hour
+    sym (net_no_hour c.args.book.now c.requires c.counts-n.result c.counts-n.ensures c.args.account c.args.hour
     (sym c.outside.ensures ∙ c.if-outside.false) (sym c.outside-2.ensures ∙ c.if-outside-2.true))
 
 pub stored_net-requires : goal.stored_net-requires
 stored_net-requires c = (
   c.requires,
-  net-in-table c.args.book.now c.requires c.counts-n.result c.counts-n.ensures c.args.account c.args.hour
+  net_in_table c.args.book.now c.requires c.counts-n.result c.counts-n.ensures c.args.account c.args.hour
       (sym c.outside.ensures ∙ c.if-outside.false) (sym c.outside-2.ensures ∙ c.if-outside-2.false),
 )
 
 pub returns : goal.returns
 returns c =
     ap NetReading.Read c.position_of.ensures
-    ∙ sym (net-stands c.args.book.now c.requires c.counts-n.result c.counts-n.ensures c.args.account c.args.hour
+    ∙ sym (net_stands c.args.book.now c.requires c.counts-n.result c.counts-n.ensures c.args.account c.args.hour
     (sym c.outside.ensures ∙ c.if-outside.false) (sym c.outside-2.ensures ∙ c.if-outside-2.false) c.stored_net.result c.stored_net.ensures)

@@ -3,7 +3,7 @@ use native.Mathlib.Omega.{arith}
 use borrow.Author.Rules.{rules}
 use Rattle.rules.specs.Books.{no_row}
 use Rattle.rules.proofs.Basics.Searches.{each_at}
-use Rattle.book.proofs.ShortLaws.{net_small, short-alone, short-one}
+use Rattle.book.proofs.ShortLaws.{net_small, short_alone, short_one}
 use Rattle.book.proofs.worth.short_at.Goals as goal
 
 pub short_with-requires : goal.short_with-requires
@@ -13,11 +13,11 @@ short_with-requires c =
 
 pub returns-in-Nothing : goal.returns-in-Nothing
 returns-in-Nothing c =
-    let both = short-alone _ c.requires.0 c.args.account c.args.hour c.requires.1 c.requires.2 _ c.net_at-net.ensures _ c.short.ensures in
+    let both = short_alone _ c.requires.0 c.args.account c.args.hour c.requires.1 c.requires.2 _ c.net_at-net.ensures _ c.short.ensures in
     rw c.in-Nothing.is (record { meaning = both.0; bounded = both.1 })
 
 pub returns-in-One : goal.returns-in-One
 returns-in-One c =
-    let both = short-one _ c.requires.0 c.args.account c.args.hour c.requires.1 c.requires.2 _ c.net_at-net.ensures _ _
+    let both = short_one _ c.requires.0 c.args.account c.args.hour c.requires.1 c.requires.2 _ c.net_at-net.ensures _ _
     (each_at no_row 0 (rw c.in-One.is at c.requires.3) (omega arith)) c.short_with.ensures in
     rw c.in-One.is (record { meaning = both.0; bounded = both.1 })

@@ -7,7 +7,7 @@ use Rattle.rules.specs.Requests.{map_check}
 use Rattle.rules.proofs.Checks.Clearing.{checked-same}
 use Rattle.rules.proofs.Records.RoundTrip.{Readable, reads, record_ends}
 use Rattle.records.proofs.KindLaws.{single_is_kind}
-use Rattle.records.proofs.ReadingLaws.{reads-other-map, reads-other-length, reads_on}
+use Rattle.records.proofs.ReadingLaws.{reads_other_map, reads_other_length, reads_on}
 use borrow.Author.Rules.{rules}
 use Rattle.records.proofs.reader.read_as.Goals as goal
 
@@ -16,7 +16,7 @@ map_fault-requires c = (c.requires.0, single_is_kind c.args.kind c.requires.2)
 
 pub returns-in-Fails : goal.returns-in-Fails
 returns-in-Fails c =
-    reads-other-map c.args.bytes.now c.args.kind c.requires.0 c.requires.1 c.requires.2 (checked-same _ (some _) (sym c.map_fault.ensures ∙ c.in-Fails.is))
+    reads_other_map c.args.bytes.now c.args.kind c.requires.0 c.requires.1 c.requires.2 (checked-same _ (some _) (sym c.map_fault.ensures ∙ c.in-Fails.is))
 
 pub wanted_length-requires : goal.wanted_length-requires
 wanted_length-requires c = single_is_kind c.args.kind c.requires.2
@@ -25,7 +25,7 @@ pub returns-then-bytes-wanted_length : goal.returns-then-bytes-wanted_length
 returns-then-bytes-wanted_length c =
     let mapped : applies (map_check c.args.kind c.args.bytes.now) ≡ none =
     checked-same _ none (sym c.map_fault.ensures ∙ c.in_default.is) in
-    reads-other-length c.args.bytes.now c.args.kind c.requires.0 c.requires.1 c.requires.2 mapped (λ e. c.if-bytes-wanted_length.true (e ∙ sym c.wanted_length.ensures))
+    reads_other_length c.args.bytes.now c.args.kind c.requires.0 c.requires.1 c.requires.2 mapped (λ e. c.if-bytes-wanted_length.true (e ∙ sym c.wanted_length.ensures))
 
 pub request-requires : goal.request-requires
 request-requires c =

@@ -5,7 +5,7 @@ use Rattle.rules.specs.Requests.{confirm}
 use Rattle.rules.proofs.Checks.Clearing.{checked-same}
 use Rattle.book.proofs.StateLaws.{book_length, row_count_high}
 use Rattle.book.proofs.Answers.{refused_answered}
-use Rattle.registration.proofs.ConfirmLaws.{accepted_number, accepted-tabled, accepted-energy, trade-answered}
+use Rattle.registration.proofs.ConfirmLaws.{accepted_number, accepted_tabled, accepted_energy, trade_answered}
 use Rattle.registration.proofs.confirm.confirm.Goals as goal
 
 pub confirm_fault-requires : goal.confirm_fault-requires
@@ -25,9 +25,9 @@ pub put_trade-requires : goal.put_trade-requires
 put_trade-requires c =
     let free = checked-same _ none (sym c.confirm_fault.ensures ∙ c.in_default.is) in
     let within = accepted_number _ _ _ c.requires.book_value free c.confirmed_number-number.ensures.meaning in
-    (book_length _ c.requires.book_value, within.0, omega (arith, within.1, row_count_high _ c.requires.book_value), accepted-tabled _ _ _ c.requires.book_value free c.confirmed_number-number.ensures.meaning _ c.numbered_row-row.ensures, accepted-energy _ _ _ c.requires.book_value free c.confirmed_number-number.ensures.meaning _ c.numbered_row-row.ensures)
+    (book_length _ c.requires.book_value, within.0, omega (arith, within.1, row_count_high _ c.requires.book_value), accepted_tabled _ _ _ c.requires.book_value free c.confirmed_number-number.ensures.meaning _ c.numbered_row-row.ensures, accepted_energy _ _ _ c.requires.book_value free c.confirmed_number-number.ensures.meaning _ c.numbered_row-row.ensures)
 
 pub returns : goal.returns
 returns c =
     let free = checked-same _ none (sym c.confirm_fault.ensures ∙ c.in_default.is) in
-    let both = trade-answered _ _ _ c.requires.book_value free c.confirmed_number-number.ensures.meaning _ c.numbered_row-row.ensures _ c.put_trade.ensures in record { answer = both.0; bytes = both.1.0; still = both.1.1 }
+    let both = trade_answered _ _ _ c.requires.book_value free c.confirmed_number-number.ensures.meaning _ c.numbered_row-row.ensures _ c.put_trade.ensures in record { answer = both.0; bytes = both.1.0; still = both.1.1 }

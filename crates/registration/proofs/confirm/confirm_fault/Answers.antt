@@ -4,7 +4,7 @@ use Rattle.rules.specs.Requests.{confirm}
 use Rattle.rules.specs.Verdicts.{checked}
 use Rattle.image.specs.Valid.{book_in}
 use Rattle.book.proofs.Answers.{in_wrong_phase}
-use Rattle.registration.proofs.ConfirmLaws.{confirmed-high, names_no_row, names-other-terms, names-its-terms}
+use Rattle.registration.proofs.ConfirmLaws.{confirmed-high, names_no_row, names_other_terms, names_its_terms}
 use Rattle.registration.proofs.confirm.confirm_fault.Goals as goal
 
 pub returns-then-phase-ne-REGISTRATION : goal.returns-then-phase-ne-REGISTRATION
@@ -22,9 +22,9 @@ numbered_row-row-requires c =
 pub margin_or_exposure_fault-requires : goal.margin_or_exposure_fault-requires
 margin_or_exposure_fault-requires c =
     let first = sym c.phase.ensures ∙ c.if-phase-ne-REGISTRATION.false in
-    (c.requires.book_value, names-its-terms _ _ _ first c.requires.number_value _ c.if-number-eq0.false c.numbered_row-row.ensures (sym c.is_mirrored.ensures ∙ c.if-is_mirrored.true))
+    (c.requires.book_value, names_its_terms _ _ _ first c.requires.number_value _ c.if-number-eq0.false c.numbered_row-row.ensures (sym c.is_mirrored.ensures ∙ c.if-is_mirrored.true))
 
 pub returns : goal.returns
 returns c =
     let first = sym c.phase.ensures ∙ c.if-phase-ne-REGISTRATION.false in
-    ap checked (sym (names-other-terms _ _ _ first c.requires.number_value _ c.if-number-eq0.false c.numbered_row-row.ensures (sym c.is_mirrored.ensures ∙ c.if-is_mirrored.false)))
+    ap checked (sym (names_other_terms _ _ _ first c.requires.number_value _ c.if-number-eq0.false c.numbered_row-row.ensures (sym c.is_mirrored.ensures ∙ c.if-is_mirrored.false)))

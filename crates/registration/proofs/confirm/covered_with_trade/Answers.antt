@@ -2,12 +2,12 @@
 -- that of the rows and the trade, which is worked out and tested.
 use Rattle.std.proofs.Common.{◌∙◌, rules}
 use Rattle.rules.specs.Basics.{nil, cons}
-use Rattle.registration.proofs.ConfirmLaws.{purchase_frees_none, trade-in-range}
+use Rattle.registration.proofs.ConfirmLaws.{purchase_frees_none, trade-in_range}
 use Rattle.registration.proofs.confirm.covered_with_trade.Goals as goal
 
 pub exposure_with-owed-requires : goal.exposure_with-owed-requires
 exposure_with-owed-requires c =
-    (c.requires.book_value.0, cons (trade-in-range _ _ c.requires.book_value.0 c.requires.waits_in.0 _ c.requires.waits_in.1) nil)
+    (c.requires.book_value.0, cons (trade-in_range _ _ c.requires.book_value.0 c.requires.waits_in.0 _ c.requires.waits_in.1) nil)
 
 pub returns : goal.returns
 returns c =

@@ -3,7 +3,7 @@ use Rattle.std.proofs.Common.{sym, ap, ◌∙◌, rules}
 use Rattle.rules.specs.Verdicts.{checked}
 use Rattle.registration.proofs.MarginLaws.{sound_account_trade, found_hour, found_nowhere}
 use Rattle.book.proofs.WorthParts.{sound_row_in_range}
-use Rattle.registration.proofs.RegisterLaws.{proposing_sound, margin_breaks, row-uncovered, covered-with-row}
+use Rattle.registration.proofs.RegisterLaws.{proposing_sound, margin_breaks, row_uncovered, covered_with_row_lem}
 use Rattle.registration.proofs.register.margin_or_exposure_fault.Goals as goal
 
 pub first_broken-requires : goal.first_broken-requires
@@ -23,9 +23,9 @@ covered_with_row-requires c =
 pub returns-then-covered_with_row : goal.returns-then-covered_with_row
 returns-then-covered_with_row c =
     let kept = found_nowhere _ _ _ _ _ c.proposed_row-row.ensures (sym c.in_default.is ∙ c.first_broken.ensures) in
-    ap checked (sym (covered-with-row _ _ c.requires.proposing kept _ (rw c.proposed_row-row.ensures at c.covered_with_row.ensures) c.if-covered_with_row.true))
+    ap checked (sym (covered_with_row_lem _ _ c.requires.proposing kept _ (rw c.proposed_row-row.ensures at c.covered_with_row.ensures) c.if-covered_with_row.true))
 
 pub returns : goal.returns
 returns c =
     let kept = found_nowhere _ _ _ _ _ c.proposed_row-row.ensures (sym c.in_default.is ∙ c.first_broken.ensures) in
-    ap checked (sym (row-uncovered _ _ c.requires.proposing kept _ (rw c.proposed_row-row.ensures at c.covered_with_row.ensures) c.if-covered_with_row.false))
+    ap checked (sym (row_uncovered _ _ c.requires.proposing kept _ (rw c.proposed_row-row.ensures at c.covered_with_row.ensures) c.if-covered_with_row.false))

@@ -5,7 +5,7 @@ use Rattle.rules.specs.Registration.{alike}
 use Rattle.rules.specs.Calls.{number_from}
 use Rattle.image.specs.Cells.{rows_from}
 use Rattle.image.specs.Layout.{row_width}
-use Rattle.registration.proofs.PendingLaws.{numbered, none_passed, number-none, number-here, number-next}
+use Rattle.registration.proofs.PendingLaws.{numbered, none_passed, number_none, number_here, number-next}
 use Rattle.registration.proofs.search.number_among.Goals as goal
 
 pub loop-passed-init : goal.loop-passed-init
@@ -13,7 +13,7 @@ loop-passed-init c = (search rules, search rules, none_passed _ _ _ _ _ (omega a
 
 pub returns-then-alike_at : goal.returns-then-alike_at
 returns-then-alike_at c =
-    number-here _ c.args.book.now c.loop-passed.k (c.args.n - c.loop-passed.passed) _ c.loop-passed.passed c.loop-passed.invariant.2 (c.args.n - c.loop-passed.passed - 1) (omega arith)
+    number_here _ c.args.book.now c.loop-passed.k (c.args.n - c.loop-passed.passed) _ c.loop-passed.passed c.loop-passed.invariant.2 (c.args.n - c.loop-passed.passed - 1) (omega arith)
     (sym c.alike_at.ensures ∙ c.if-alike_at.true)
 
 pub loop-passed-preserved : goal.loop-passed-preserved
@@ -26,4 +26,4 @@ loop-passed-preserved c = (
 
 pub returns : goal.returns
 returns c =
-    number-none _ c.args.book.now c.loop-passed.k (c.args.n - c.loop-passed.passed) _ c.loop-passed.passed c.loop-passed.invariant.2 (omega arith)
+    number_none _ c.args.book.now c.loop-passed.k (c.args.n - c.loop-passed.passed) _ c.loop-passed.passed c.loop-passed.invariant.2 (omega arith)

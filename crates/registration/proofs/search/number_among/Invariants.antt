@@ -5,7 +5,7 @@ use Rattle.rules.specs.Registration.{alike}
 use Rattle.rules.specs.Calls.{number_from}
 use Rattle.image.specs.Cells.{rows_from}
 use Rattle.image.specs.Layout.{row_width}
-use Rattle.registration.proofs.PendingLaws.{numbered, none_passed, number-none, number-here, number-next}
+use Rattle.registration.proofs.PendingLaws.{numbered, none_passed, number_none, number_here, number-next}
 use Rattle.registration.proofs.search.number_among.Given as goal
 
 abbrev pub invariant-loop-passed : goal.invariant-loop-passed

@@ -5,13 +5,13 @@ use Rattle.rules.specs.Basics.{index_of}
 use Rattle.rules.specs.Registration.{alike}
 use Rattle.rules.specs.Calls.{number_from}
 use Rattle.image.specs.Valid.{book_in}
-use Rattle.book.proofs.BookRows.{rows_in, rows-summable}
+use Rattle.book.proofs.BookRows.{rows_in, rows_summable}
 use Rattle.book.proofs.StateLaws.{row_count_high}
 use Rattle.registration.proofs.PendingLaws.{number_high}
 use Rattle.registration.proofs.search.pending_number.Goals as goal
 
 pub number_among-requires : goal.number_among-requires
-number_among-requires c = (rows-summable _ c.requires _ c.row_count-n.ensures.meaning).0
+number_among-requires c = (rows_summable _ c.requires _ c.row_count-n.ensures.meaning).0
 
 pub overflow_cast-result : goal.overflow_cast-result
 overflow_cast-result c =

@@ -8,7 +8,7 @@ use Rattle.image.proofs.Round.{book_is_sound, book_is_image}
 use Rattle.book.proofs.StateLaws.{book_length}
 use Rattle.settlement.proofs.Refusals.{operators_counted, operators_few}
 use Rattle.items.proofs.WrittenLaws.{written_as}
-use Rattle.replaying.proofs.AnswerLaws.{answer-prints, answer-small}
+use Rattle.replaying.proofs.AnswerLaws.{answer_prints, answer_small}
 use borrow.Author.Rules.{rules}
 use Rattle.valuation.specs.Tables.{balance_width}
 use Rattle.replaying.proofs.answers.answer_with.Goals as goal
@@ -25,9 +25,9 @@ put_answer-requires c =
     let few = operators_few _ (book_is_sound most_hours book_size _ c.requires.book_value) _ c.counts-n.ensures in
     let results = ap length c.requires.results_value.0 in
     let balances = ap length c.requires.results_value.1 in
-    record { n_in_bounds = (omega (arith, length-replicate {A = ℕ} most_schedules 0), few, omega (arith, length-replicate {A = ℕ} (balance_width * most_operators) 0), omega arith); each = answer-small _ (book_is_image most_hours book_size _ c.requires.book_value).1 _ c.call_item-outcome.ensures.answer.outcome_given c.settles-settled.ensures _ (operators_counted _ (book_is_sound most_hours book_size _ c.requires.book_value) _ c.counts-n.ensures) c.call_item-outcome.ensures.answer.balances_left }
+    record { n_in_bounds = (omega (arith, length-replicate {A = ℕ} most_schedules 0), few, omega (arith, length-replicate {A = ℕ} (balance_width * most_operators) 0), omega arith); each = answer_small _ (book_is_image most_hours book_size _ c.requires.book_value).1 _ c.call_item-outcome.ensures.answer.outcome_given c.settles-settled.ensures _ (operators_counted _ (book_is_sound most_hours book_size _ c.requires.book_value) _ c.counts-n.ensures) c.call_item-outcome.ensures.answer.balances_left }
 
 pub returns : goal.returns
 returns c =
     let few = operators_few _ (book_is_sound most_hours book_size _ c.requires.book_value) _ c.counts-n.ensures in
-    record { lines = written_as _ (answer-prints _ (book_is_image most_hours book_size _ c.requires.book_value).1 _ c.call_item-outcome.ensures.answer.outcome_given c.settles-settled.ensures _ _ _ c.schedule_count-standing.ensures.meaning (operators_counted _ (book_is_sound most_hours book_size _ c.requires.book_value) _ c.counts-n.ensures) c.call_item-outcome.ensures.answer.results_left c.call_item-outcome.ensures.answer.balances_left) c.put_answer.ensures.written; bound = omega arith; book = c.call_item-outcome.ensures.answer.book_left; still = c.call_item-outcome.ensures.still }
+    record { lines = written_as _ (answer_prints _ (book_is_image most_hours book_size _ c.requires.book_value).1 _ c.call_item-outcome.ensures.answer.outcome_given c.settles-settled.ensures _ _ _ c.schedule_count-standing.ensures.meaning (operators_counted _ (book_is_sound most_hours book_size _ c.requires.book_value) _ c.counts-n.ensures) c.call_item-outcome.ensures.answer.results_left c.call_item-outcome.ensures.answer.balances_left) c.put_answer.ensures.written; bound = omega arith; book = c.call_item-outcome.ensures.answer.book_left; still = c.call_item-outcome.ensures.still }

@@ -3,7 +3,7 @@ use mathlib.Core.Path.{sym, ap}
 use borrow.Author.Rules.{rules}
 use Rattle.rules.specs.declared.Point.{Point}
 use Rattle.valuation.proofs.CongruityLaws.{on_point, point_stands, point_in_cells, account_read_in_cells}
-use Rattle.valuation.proofs.ScheduleLaws.{in_lanes, carried-fits, carried-next}
+use Rattle.valuation.proofs.ScheduleLaws.{in_lanes, carried_fits, carried-next}
 use Rattle.settlement.proofs.judging.judge.Goals as goal
 
 pub point-site-requires : goal.point-site-requires
@@ -26,13 +26,13 @@ carried_by-more-requires c =
 pub gather_energy-requires : goal.gather_energy-requires
 gather_energy-requires c =
     let on = on_point _ c.requires.priced.0.is_sound _ c.requires.priced.1 _ c.point-site.ensures in
-    let fits = carried-fits c.requires.priced.0 on _ _ c.carried_by-more.ensures c.args.energy.now c.args.charges.now c.requires.room_for.energy_room c.requires.room_for.charges_room in
+    let fits = carried_fits c.requires.priced.0 on _ _ c.carried_by-more.ensures c.args.energy.now c.args.charges.now c.requires.room_for.energy_room c.requires.room_for.charges_room in
     ((c.requires.room_for.energy_whole, in_lanes c.requires.priced.0 on), fits.0)
 
 pub gather_cct-requires : goal.gather_cct-requires
 gather_cct-requires c =
     let on = on_point _ c.requires.priced.0.is_sound _ c.requires.priced.1 _ c.point-site.ensures in
-    let fits = carried-fits c.requires.priced.0 on _ _ c.carried_by-more.ensures c.args.energy.now c.args.charges.now c.requires.room_for.energy_room c.requires.room_for.charges_room in
+    let fits = carried_fits c.requires.priced.0 on _ _ c.carried_by-more.ensures c.args.energy.now c.args.charges.now c.requires.room_for.energy_room c.requires.room_for.charges_room in
     ((c.requires.room_for.charges_whole, in_lanes c.requires.priced.0 on), fits.1)
 
 pub returns : goal.returns

@@ -8,7 +8,7 @@ use Rattle.image.specs.Valid.{book_in}
 use Rattle.rules.specs.Limits.{most_schedules}
 use Rattle.book.proofs.StateLaws.{schedule_count_high}
 use Rattle.settlement.specs.Judging.{TablesIn}
-use Rattle.settlement.proofs.TurnLaws.{judged_in, length_unused, length_unregistered, length_unjudged, in_turn, tables_begin, tables_end, in_place, next-room, tables-follow}
+use Rattle.settlement.proofs.TurnLaws.{judged_in, length_unused, length_unregistered, length_unjudged, in_turn, tables_begin, tables_end, in_place, next-room, tables_follow}
 use Rattle.settlement.proofs.judging.judge_each.Goals as goal
 
 pub loop-k-init : goal.loop-k-init
@@ -41,19 +41,19 @@ loop-k-preserved c =
     let here : c.loop-k.k < c.args.n = omega (arith, c.loop-k-test.true) in
     let h : c.loop-k.k < length (book_in c.args.book.now).schedules = omega (arith, here, c.requires.in_order.all_of) in
     let turn = in_turn _ _ _ _ here c.requires.in_order.by_priority in
-    (search rules, search rules, tables-follow _ _ c.requires.priced c.loop-k.k h _ turn _ _ _ _ _ _ _ _ c.judge-result.ensures.limits c.judge-result.ensures.sums c.loop-k.invariant.2)
+    (search rules, search rules, tables_follow _ _ c.requires.priced c.loop-k.k h _ turn _ _ _ _ _ _ _ _ c.judge-result.ensures.limits c.judge-result.ensures.sums c.loop-k.invariant.2)
 
 pub shape_of-used : goal.shape_of-used
 shape_of-used c =
-    c.loop-k.invariant.2.used-by.whole ∙ sym (length_unused _ c.requires.used_value.0)
+    c.loop-k.invariant.2.used_by.whole ∙ sym (length_unused _ c.requires.used_value.0)
 
 pub shape_of-energy : goal.shape_of-energy
 shape_of-energy c =
-    c.loop-k.invariant.2.registered-of.energy-of.whole ∙ sym (length_unregistered _ c.requires.used_value.1.no_energy)
+    c.loop-k.invariant.2.registered_of.energy_of.whole ∙ sym (length_unregistered _ c.requires.used_value.1.no_energy)
 
 pub shape_of-charges : goal.shape_of-charges
 shape_of-charges c =
-    c.loop-k.invariant.2.registered-of.charges-of.whole ∙ sym (length_unregistered _ c.requires.used_value.1.no_charges)
+    c.loop-k.invariant.2.registered_of.charges_of.whole ∙ sym (length_unregistered _ c.requires.used_value.1.no_charges)
 
 pub shape_of-results : goal.shape_of-results
 shape_of-results c =

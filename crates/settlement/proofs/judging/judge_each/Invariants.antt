@@ -8,7 +8,7 @@ use Rattle.image.specs.Valid.{book_in}
 use Rattle.rules.specs.Limits.{most_schedules}
 use Rattle.book.proofs.StateLaws.{schedule_count_high}
 use Rattle.settlement.specs.Judging.{TablesIn}
-use Rattle.settlement.proofs.TurnLaws.{judged_in, length_unused, length_unregistered, length_unjudged, in_turn, tables_begin, tables_end, in_place, next-room, tables-follow}
+use Rattle.settlement.proofs.TurnLaws.{judged_in, length_unused, length_unregistered, length_unjudged, in_turn, tables_begin, tables_end, in_place, next-room, tables_follow}
 use Rattle.settlement.proofs.judging.judge_each.Given as goal
 
 abbrev pub invariant-loop-k : goal.invariant-loop-k

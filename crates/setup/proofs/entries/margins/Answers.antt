@@ -8,7 +8,7 @@ use Rattle.units.specs.declared.Kwh.{Kwh}
 use Rattle.rules.specs.declared.Counts.{Counts}
 use Rattle.rules.specs.Books.{margins_at}
 use Rattle.rules.specs.Opening.{counts_in, setup_of, account_offset, setup_length, lower_offset, upper_offset, margin_width, margin_in}
-use Rattle.rules.proofs.Setups.SetupEntries.{margin_inside, margin_at, margins-at}
+use Rattle.rules.proofs.Setups.SetupEntries.{margin_inside, margin_at, margins_at_lem}
 use Rattle.setup.specs.Faults.{Whole}
 use borrow.Author.Rules.{rules}
 use Rattle.setup.proofs.entries.margins.Goals as goal
@@ -34,7 +34,7 @@ module _ (s : List ℕ) (n : Counts) (a h : ℕ) (same : n ≡ counts_in s) (own
         let at : ℕ = account_offset n a in
         let past : at + lower_offset + margin_width * (h - 1) + margin_width * n.hours ≡ at + upper_offset n + margin_width * (h - 1) = omega arith in
         rw (low, up, place, all, past, margin_at s (at + lower_offset + margin_width * (h - 1)), margin_at s (at + upper_offset n + margin_width * (h - 1)))
-        (sym (margins-at s n same a h own.1 account_known hour.0 hour-known))
+        (sym (margins_at_lem s n same a h own.1 account_known hour.0 hour-known))
 
 pub margin_at-requires : goal.margin_at-requires
 margin_at-requires c =

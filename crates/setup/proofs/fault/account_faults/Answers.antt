@@ -7,7 +7,7 @@ use Rattle.rules.specs.declared.Counts.{Counts}
 use Rattle.rules.specs.Basics.{entries}
 use Rattle.rules.specs.Opening.{account_in, accounts_offset, accounts_in, account_values, values_of, account_entry}
 use Rattle.setup.specs.Faults.{first_fault, account_faults}
-use Rattle.setup.proofs.FaultLaws.{EntriesLeft, none_left, first-inside, first-clear, first-fails, at_counts}
+use Rattle.setup.proofs.FaultLaws.{EntriesLeft, none_left, first_inside, first_clear, first_fails, at_counts}
 use borrow.Author.Rules.{rules}
 use Rattle.setup.proofs.fault.account_faults.Goals as goal
 
@@ -21,11 +21,11 @@ loop-left-init c =
 
 pub account_fault-requires : goal.account_fault-requires
 account_fault-requires c =
-    (c.requires, first-inside c.loop-left.invariant (c.loop-left.left - 1) (omega arith))
+    (c.requires, first_inside c.loop-left.invariant (c.loop-left.left - 1) (omega arith))
 
 pub returns-in-Fails : goal.returns-in-Fails
 returns-in-Fails c =
-    first-fails c.loop-left.invariant (c.loop-left.left - 1) (omega arith) refl c.account_fault.ensures c.in-Fails.is
+    first_fails c.loop-left.invariant (c.loop-left.left - 1) (omega arith) refl c.account_fault.ensures c.in-Fails.is
 
 pub overflow_add-at : goal.overflow_add-at
 overflow_add-at c =
@@ -33,7 +33,7 @@ overflow_add-at c =
 
 pub loop-left-preserved : goal.loop-left-preserved
 loop-left-preserved c =
-    rw c.account_entry-entry.ensures.0 (first-clear c.loop-left.invariant (c.loop-left.left - 1) (omega arith) refl c.account_fault.ensures c.in_default.is)
+    rw c.account_entry-entry.ensures.0 (first_clear c.loop-left.invariant (c.loop-left.left - 1) (omega arith) refl c.account_fault.ensures c.in_default.is)
 
 pub returns : goal.returns
 returns c = none_left c.loop-left.invariant (omega arith)

@@ -6,7 +6,7 @@ use Rattle.rules.specs.declared.Counts.{Counts}
 use Rattle.rules.specs.Basics.{entries}
 use Rattle.rules.specs.Opening.{point_in, points_offset, accounts_in, points_in, point_values, values_of, point_entry}
 use Rattle.setup.specs.Faults.{first_fault, point_faults}
-use Rattle.setup.proofs.FaultLaws.{EntriesLeft, none_left, first-clear, first-fails, at_counts}
+use Rattle.setup.proofs.FaultLaws.{EntriesLeft, none_left, first_clear, first_fails, at_counts}
 use borrow.Author.Rules.{rules}
 use Rattle.setup.proofs.fault.point_faults.Goals as goal
 
@@ -20,11 +20,11 @@ loop-left-init c =
 
 pub returns-in-Fails : goal.returns-in-Fails
 returns-in-Fails c =
-    first-fails c.loop-left.invariant (c.loop-left.left - 1) (omega arith) c.point_at-x.ensures c.point_fault.ensures c.in-Fails.is
+    first_fails c.loop-left.invariant (c.loop-left.left - 1) (omega arith) c.point_at-x.ensures c.point_fault.ensures c.in-Fails.is
 
 pub loop-left-preserved : goal.loop-left-preserved
 loop-left-preserved c =
-    first-clear c.loop-left.invariant (c.loop-left.left - 1) (omega arith) c.point_at-x.ensures c.point_fault.ensures c.in_default.is
+    first_clear c.loop-left.invariant (c.loop-left.left - 1) (omega arith) c.point_at-x.ensures c.point_fault.ensures c.in_default.is
 
 pub returns : goal.returns
 returns c = none_left c.loop-left.invariant (omega arith)

@@ -4,7 +4,7 @@ use mathlib.Core.Path.{refl}
 use native.Mathlib.Omega.{arith}
 use Rattle.rules.specs.Opening.{margin_in, margin_values, margin_width}
 use Rattle.setup.specs.Faults.{margin_faults}
-use Rattle.setup.proofs.FaultLaws.{EntriesLeft, none_left, first-clear, first-fails, no_margin_fault}
+use Rattle.setup.proofs.FaultLaws.{EntriesLeft, none_left, first_clear, first_fails, no_margin_fault}
 use borrow.Author.Rules.{rules}
 use Rattle.setup.proofs.values.margin_faults.Goals as goal
 
@@ -17,11 +17,11 @@ loop-left-init c = record { inside = search rules; come_to = refl }
 
 pub returns-in-Fails : goal.returns-in-Fails
 returns-in-Fails c =
-    first-fails c.loop-left.invariant (c.loop-left.left - 1) (omega arith) c.margin_at-x.ensures c.margin_fault.ensures c.in-Fails.is
+    first_fails c.loop-left.invariant (c.loop-left.left - 1) (omega arith) c.margin_at-x.ensures c.margin_fault.ensures c.in-Fails.is
 
 pub loop-left-preserved : goal.loop-left-preserved
 loop-left-preserved c =
-    first-clear c.loop-left.invariant (c.loop-left.left - 1) (omega arith) c.margin_at-x.ensures c.margin_fault.ensures c.in_default.is
+    first_clear c.loop-left.invariant (c.loop-left.left - 1) (omega arith) c.margin_at-x.ensures c.margin_fault.ensures c.in_default.is
 
 pub returns : goal.returns
 returns c = none_left c.loop-left.invariant (omega arith)

@@ -12,7 +12,7 @@ use Rattle.rules.proofs.Checks.Clearing.{checked-same}
 use Rattle.strip_rows.specs.Rows.{rows_from}
 use Rattle.strip_rows.specs.Passes.{row_check, PassWants}
 use Rattle.strip_rows.proofs.RowsFrom.{rows_split, row_length_lem, part_row}
-use Rattle.strip_rows.proofs.Passes.{pass_done, pass-here, pass-next}
+use Rattle.strip_rows.proofs.Passes.{pass_done, pass_here, pass_next}
 use borrow.Author.Rules.{rules}
 use Rattle.strip_rows.proofs.record.first_row_fault.Goals as goal
 
@@ -28,7 +28,7 @@ loop-left-preserved c = (
   search rules,
   (rows_split c.args.bytes.now c.loop-left.k c.loop-left.left (c.loop-left.left - 1) (omega arith) c.loop-left.invariant.1).1,
   c.loop-left.invariant.2
-      ∙ pass-next (row_check c.args.pass) c.args.bytes.now c.loop-left.k c.loop-left.left (c.loop-left.left - 1) (omega arith) (part_row c.args.bytes.now c.loop-left.k)
+      ∙ pass_next (row_check c.args.pass) c.args.bytes.now c.loop-left.k c.loop-left.left (c.loop-left.left - 1) (omega arith) (part_row c.args.bytes.now c.loop-left.k)
       (checked-same _ none (sym c.row_fault.ensures ∙ c.in_default.is)),
 )
 
@@ -39,6 +39,6 @@ returns-then-left-eq0 c =
 pub returns-in-Fails : goal.returns-in-Fails
 returns-in-Fails c =
     let here =
-    pass-here (row_check c.args.pass) c.args.bytes.now c.loop-left.k c.loop-left.left (c.loop-left.left - 1) (omega arith) (part_row c.args.bytes.now c.loop-left.k) _
+    pass_here (row_check c.args.pass) c.args.bytes.now c.loop-left.k c.loop-left.left (c.loop-left.left - 1) (omega arith) (part_row c.args.bytes.now c.loop-left.k) _
     (checked-same _ (some _) (sym c.row_fault.ensures ∙ c.in-Fails.is)) in
     sym (ap checked (c.loop-left.invariant.2 ∙ here))

@@ -12,7 +12,7 @@ use Rattle.rules.proofs.Checks.Clearing.{checked-same}
 use Rattle.strip_rows.specs.Rows.{rows_from}
 use Rattle.strip_rows.specs.Passes.{row_check, PassWants}
 use Rattle.strip_rows.proofs.RowsFrom.{rows_split, row_length_lem, part_row}
-use Rattle.strip_rows.proofs.Passes.{pass_done, pass-here, pass-next}
+use Rattle.strip_rows.proofs.Passes.{pass_done, pass_here, pass_next}
 use borrow.Author.Rules.{rules}
 use Rattle.strip_rows.proofs.record.first_row_fault.Given as goal
 

@@ -9,7 +9,7 @@ use borrow.Author.Tests.{not-true, not-false}
 use Rattle.rules.specs.Verdicts.{applies, checked}
 use Rattle.rules.specs.Requests.{kind_number, strip, head_length, row_length, strip_count, unreadable, map_check}
 use Rattle.rules.proofs.Checks.Clearing.{checked-same}
-use Rattle.strip_rows.proofs.StripLaws.{head_short, count_outside, fails_2, fails-4, fails-5, fails-21, rows-decide}
+use Rattle.strip_rows.proofs.StripLaws.{head_short, count_outside, fails_2, fails_4, fails_5, fails_21, rows_decide}
 use borrow.Author.Rules.{rules}
 use Rattle.strip_rows.proofs.record.strip_fault.Goals as goal
 
@@ -26,7 +26,7 @@ pub returns-in-Fails : goal.returns-in-Fails
 returns-in-Fails c =
     let fine : unreadable c.args.bytes.now ≡ false =
     sym c.no_map.ensures ∙ c.if-no_map.false in
-    sym (ap checked (fails-4 c.args.bytes.now fine _ (checked-same _ (some _) (sym c.map_fault.ensures ∙ c.in-Fails.is))))
+    sym (ap checked (fails_4 c.args.bytes.now fine _ (checked-same _ (some _) (sym c.map_fault.ensures ∙ c.in-Fails.is))))
 
 pub returns-then-bytes-lt-HEAD_LENGTH : goal.returns-then-bytes-lt-HEAD_LENGTH
 returns-then-bytes-lt-HEAD_LENGTH c =
@@ -34,7 +34,7 @@ returns-then-bytes-lt-HEAD_LENGTH c =
     sym c.no_map.ensures ∙ c.if-no_map.false in
     let mapped : applies (map_check (kind_number strip) c.args.bytes.now) ≡ none =
     checked-same _ none (sym c.map_fault.ensures ∙ c.in_default.is) in
-    sym (ap checked (fails-5 c.args.bytes.now fine mapped (head_short c.args.bytes.now c.if-bytes-lt-HEAD_LENGTH.true)))
+    sym (ap checked (fails_5 c.args.bytes.now fine mapped (head_short c.args.bytes.now c.if-bytes-lt-HEAD_LENGTH.true)))
 
 pub overflow_mul-n : goal.overflow_mul-n
 overflow_mul-n c =
@@ -54,7 +54,7 @@ returns-then-bytes-n c =
     sym c.no_map.ensures ∙ c.if-no_map.false in
     let mapped : applies (map_check (kind_number strip) c.args.bytes.now) ≡ none =
     checked-same _ none (sym c.map_fault.ensures ∙ c.in_default.is) in
-    sym (ap checked (fails-5 c.args.bytes.now fine mapped (rw c.row_count-n.ensures at c.if-bytes-n.true)))
+    sym (ap checked (fails_5 c.args.bytes.now fine mapped (rw c.row_count-n.ensures at c.if-bytes-n.true)))
 
 pub returns-then-n : goal.returns-then-n
 returns-then-n c =
@@ -66,7 +66,7 @@ returns-then-n c =
     ≡ head_length + row_length * strip_count c.args.bytes.now =
     rw (← c.row_count-n.ensures) c.if-bytes-n.false in
     let outside = rw (c.row_count-n.ensures, count_outside (strip_count c.args.bytes.now)) at c.if-n.true in
-    sym (ap checked (fails-21 c.args.bytes.now fine mapped sized (not-true _ outside)))
+    sym (ap checked (fails_21 c.args.bytes.now fine mapped sized (not-true _ outside)))
 
 pub returns : goal.returns
 returns c =
@@ -79,4 +79,4 @@ returns c =
     rw (← c.row_count-n.ensures) c.if-bytes-n.false in
     let inside = rw (c.row_count-n.ensures, count_outside (strip_count c.args.bytes.now)) at c.if-n.false in
     c.rows_fault.ensures
-    ∙ rw c.row_count-n.ensures (sym (ap checked (rows-decide c.args.bytes.now fine mapped sized (not-false _ inside))))
+    ∙ rw c.row_count-n.ensures (sym (ap checked (rows_decide c.args.bytes.now fine mapped sized (not-false _ inside))))

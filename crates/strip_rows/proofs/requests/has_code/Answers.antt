@@ -7,7 +7,7 @@ use Rattle.rules.specs.Basics.{any_passes}
 use Rattle.rules.specs.Registration.{of_code}
 use Rattle.rules.proofs.Basics.Searches.{any_step}
 use Rattle.strip_rows.specs.Rows.{requests_from, RegisterRows}
-use Rattle.strip_rows.proofs.RowSteps.{first-register, other-registers, requests_step, requests_done}
+use Rattle.strip_rows.proofs.RowSteps.{first_register, other_registers, requests_step, requests_done}
 use Rattle.strip_rows.proofs.requests.has_code.Goals as goal
 
 pub loop-left-init : goal.loop-left-init
@@ -21,7 +21,7 @@ slice_bounds-is_of_code-end c = omega (arith, c.loop-left.invariant.0.inside)
 
 pub is_of_code-requires : goal.is_of_code-requires
 is_of_code-requires c =
-    first-register _ c.loop-left.k c.loop-left.left (c.loop-left.left - 1) (omega arith) c.loop-left.invariant.0
+    first_register _ c.loop-left.k c.loop-left.left (c.loop-left.left - 1) (omega arith) c.loop-left.invariant.0
 
 pub returns-then-is_of_code : goal.returns-then-is_of_code
 returns-then-is_of_code c =
@@ -35,7 +35,7 @@ overflow_sub-left c = omega arith
 
 pub loop-left-preserved : goal.loop-left-preserved
 loop-left-preserved c = (
-  other-registers _ c.loop-left.k c.loop-left.left (c.loop-left.left - 1) (omega arith) c.loop-left.invariant.0,
+  other_registers _ c.loop-left.k c.loop-left.left (c.loop-left.left - 1) (omega arith) c.loop-left.invariant.0,
   c.loop-left.invariant.1 ∙ rw (requests_step _ c.loop-left.k c.loop-left.left (c.loop-left.left - 1) (omega arith) refl) (any_step _ _ _ ∙ rw (sym c.is_of_code.ensures ∙ c.if-is_of_code.false)),
 )
 

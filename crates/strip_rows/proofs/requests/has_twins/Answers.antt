@@ -5,7 +5,7 @@ use native.Mathlib.Omega.{arith}
 use borrow.Author.Rules.{rules}
 use Rattle.rules.specs.Registration.{twins}
 use Rattle.strip_rows.specs.Rows.{requests_from, RegisterRows}
-use Rattle.strip_rows.proofs.RowSteps.{first-register, other-registers, requests_step, requests_done}
+use Rattle.strip_rows.proofs.RowSteps.{first_register, other_registers, requests_step, requests_done}
 use Rattle.strip_rows.proofs.RequestLaws.{twins_here, twins_next}
 use Rattle.strip_rows.proofs.requests.has_twins.Goals as goal
 
@@ -20,7 +20,7 @@ slice_bounds-row_request-end c = omega (arith, c.loop-left.invariant.0.inside)
 
 pub row_request-q-requires : goal.row_request-q-requires
 row_request-q-requires c =
-    first-register _ c.loop-left.k c.loop-left.left (c.loop-left.left - 1) (omega arith) c.loop-left.invariant.0
+    first_register _ c.loop-left.k c.loop-left.left (c.loop-left.left - 1) (omega arith) c.loop-left.invariant.0
 
 pub overflow_add-k-in-loop-left : goal.overflow_add-k-in-loop-left
 overflow_add-k-in-loop-left c = omega arith
@@ -30,7 +30,7 @@ overflow_sub-left c = omega arith
 
 pub has_code-requires : goal.has_code-requires
 has_code-requires c =
-    other-registers _ c.loop-left.k c.loop-left.left (c.loop-left.left - 1) (omega arith) c.loop-left.invariant.0
+    other_registers _ c.loop-left.k c.loop-left.left (c.loop-left.left - 1) (omega arith) c.loop-left.invariant.0
 
 pub returns-then-has_code : goal.returns-then-has_code
 returns-then-has_code c =
@@ -38,7 +38,7 @@ returns-then-has_code c =
 
 pub loop-left-preserved : goal.loop-left-preserved
 loop-left-preserved c = (
-  other-registers _ c.loop-left.k c.loop-left.left (c.loop-left.left - 1) (omega arith) c.loop-left.invariant.0,
+  other_registers _ c.loop-left.k c.loop-left.left (c.loop-left.left - 1) (omega arith) c.loop-left.invariant.0,
   c.loop-left.invariant.1 ∙ rw (requests_step _ c.loop-left.k c.loop-left.left (c.loop-left.left - 1) (omega arith) c.row_request-q.ensures) (twins_next _ _ (sym c.has_code.ensures ∙ c.if-has_code.false)),
 )
 

@@ -5,7 +5,7 @@ use native.Mathlib.Omega.{arith}
 use borrow.Author.Rules.{rules}
 use Rattle.rules.specs.Registration.{twins}
 use Rattle.strip_rows.specs.Rows.{requests_from, RegisterRows}
-use Rattle.strip_rows.proofs.RowSteps.{first-register, other-registers, requests_step, requests_done}
+use Rattle.strip_rows.proofs.RowSteps.{first_register, other_registers, requests_step, requests_done}
 use Rattle.strip_rows.proofs.RequestLaws.{twins_here, twins_next}
 use Rattle.strip_rows.proofs.requests.has_twins.Given as goal
 

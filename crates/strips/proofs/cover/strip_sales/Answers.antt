@@ -13,7 +13,7 @@ use Rattle.image.proofs.Sound.Soundness.{SoundRow}
 use Rattle.book.specs.Worth.{sale_worth, most_sale_worth}
 use Rattle.book.proofs.WorthParts.{sound_row_in_range}
 use Rattle.strip_rows.specs.Rows.{requests_from, RegisterRows}
-use Rattle.strip_rows.proofs.RowSteps.{first-register, other-registers}
+use Rattle.strip_rows.proofs.RowSteps.{first_register, other_registers}
 use Rattle.strips.specs.Ready.{proposed_rows}
 use Rattle.strips.proofs.ReadyLaws.{ready_sound}
 use Rattle.strips.proofs.LoopLaws.{proposed_from, first_has, sum_step, sum_done}
@@ -31,7 +31,7 @@ slice_bounds-row_request-end c = omega (arith, c.loop-left.invariant.0.inside)
 
 pub row_request-q-requires : goal.row_request-q-requires
 row_request-q-requires c =
-    first-register _ c.loop-left.k c.loop-left.left (c.loop-left.left - 1) (omega arith) c.loop-left.invariant.0
+    first_register _ c.loop-left.k c.loop-left.left (c.loop-left.left - 1) (omega arith) c.loop-left.invariant.0
 
 pub sale_of-requires : goal.sale_of-requires
 sale_of-requires c =
@@ -53,7 +53,7 @@ loop-left-smaller c = omega arith
 
 pub loop-left-preserved : goal.loop-left-preserved
 loop-left-preserved c = (
-  other-registers _ c.loop-left.k c.loop-left.left (c.loop-left.left - 1) (omega arith) c.loop-left.invariant.0,
+  other_registers _ c.loop-left.k c.loop-left.left (c.loop-left.left - 1) (omega arith) c.loop-left.invariant.0,
   (first_has _ c.loop-left.k c.loop-left.left (c.loop-left.left - 1) (omega arith) c.row_request-q.ensures c.loop-left.invariant.1).1,
   omega (arith, c.loop-left.invariant.2),
   omega (arith, c.plus-sum.ensures.exact, c.sale_of.ensures.bounded, c.loop-left.invariant.3, c.loop-left.invariant.2),

@@ -13,7 +13,7 @@ use Rattle.image.proofs.Sound.Soundness.{SoundRow}
 use Rattle.book.specs.Worth.{sale_worth, most_sale_worth}
 use Rattle.book.proofs.WorthParts.{sound_row_in_range}
 use Rattle.strip_rows.specs.Rows.{requests_from, RegisterRows}
-use Rattle.strip_rows.proofs.RowSteps.{first-register, other-registers}
+use Rattle.strip_rows.proofs.RowSteps.{first_register, other_registers}
 use Rattle.strips.specs.Ready.{proposed_rows}
 use Rattle.strips.proofs.ReadyLaws.{ready_sound}
 use Rattle.strips.proofs.LoopLaws.{proposed_from, first_has, sum_step, sum_done}

@@ -7,7 +7,7 @@ use borrow.Author.Rules.{rules}
 use Rattle.rules.specs.Limits.{most_rows, book_size}
 use Rattle.registration.specs.Proposing.{rows_appended}
 use Rattle.strip_rows.specs.Rows.{RegisterRows}
-use Rattle.strip_rows.proofs.RowSteps.{first-register, other-registers}
+use Rattle.strip_rows.proofs.RowSteps.{first_register, other_registers}
 use Rattle.strips.specs.Ready.{proposed_rows}
 use Rattle.strips.proofs.LoopLaws.{proposed_from, append-step, append_done}
 use Rattle.strips.proofs.rows.append_rows.Goals as goal
@@ -23,7 +23,7 @@ slice_bounds-row_request-end c = omega (arith, c.loop-left.invariant.0.inside)
 
 pub row_request-q-requires : goal.row_request-q-requires
 row_request-q-requires c =
-    first-register _ c.loop-left.k c.loop-left.left (c.loop-left.left - 1) (omega arith) c.loop-left.invariant.0
+    first_register _ c.loop-left.k c.loop-left.left (c.loop-left.left - 1) (omega arith) c.loop-left.invariant.0
 
 pub append_row-requires : goal.append_row-requires
 append_row-requires c =
@@ -43,7 +43,7 @@ loop-left-smaller c = omega arith
 
 pub loop-left-preserved : goal.loop-left-preserved
 loop-left-preserved c = (
-  other-registers _ c.loop-left.k c.loop-left.left (c.loop-left.left - 1) (omega arith) c.loop-left.invariant.0,
+  other_registers _ c.loop-left.k c.loop-left.left (c.loop-left.left - 1) (omega arith) c.loop-left.invariant.0,
   omega arith,
   search rules,
   append-step _ c.loop-left.k c.loop-left.left (c.loop-left.left - 1) (omega arith) c.row_request-q.ensures c.proposed_row-row.ensures _ _ _ c.loop-left.number c.append_row.ensures c.loop-left.invariant.3,

@@ -7,7 +7,7 @@ use borrow.Author.Rules.{rules}
 use Rattle.rules.specs.Limits.{most_rows, book_size}
 use Rattle.registration.specs.Proposing.{rows_appended}
 use Rattle.strip_rows.specs.Rows.{RegisterRows}
-use Rattle.strip_rows.proofs.RowSteps.{first-register, other-registers}
+use Rattle.strip_rows.proofs.RowSteps.{first_register, other_registers}
 use Rattle.strips.specs.Ready.{proposed_rows}
 use Rattle.strips.proofs.LoopLaws.{proposed_from, append-step, append_done}
 use Rattle.strips.proofs.rows.append_rows.Given as goal

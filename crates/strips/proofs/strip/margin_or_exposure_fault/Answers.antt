@@ -7,7 +7,7 @@ use Rattle.strips.specs.Ready.{strip_requests, proposed_rows, proposer}
 use borrow.Author.Rules.{rules}
 use Rattle.wire.proofs.NumberLaws.{bytes_known}
 use Rattle.strips.proofs.ReadyLaws.{proposer_known, proposed-pending}
-use Rattle.strips.proofs.DecidingLaws.{margin-decides, covered-decides, uncovered-decides}
+use Rattle.strips.proofs.DecidingLaws.{margin_decides, covered_decides, uncovered_decides}
 use Rattle.strips.proofs.strip.margin_or_exposure_fault.Goals as goal
 
 pub broken_with-requires : goal.broken_with-requires
@@ -20,18 +20,18 @@ returns-in-Hour c =
     let searched : let b = book_in c.args.book.now in
     c.broken_with.result ≡ broken (broken_by b.setup b.part.rows (proposed_rows c.args.bytes.now c.args.n) (proposer c.args.bytes.now c.args.n)) =
     rw c.requires.book_value.2 at (c.broken_with.ensures (proposed_rows c.args.bytes.now c.args.n) (proposed-pending (strip_requests c.args.bytes.now c.args.n)) (rw c.requires.book_value.2 c.fill_all_waits.ensures)) in
-    margin-decides _ _ c.requires.addable _ (sym c.in-Hour.is ∙ searched)
+    margin_decides _ _ c.requires.addable _ (sym c.in-Hour.is ∙ searched)
 
 pub returns-then-covered_with_strip : goal.returns-then-covered_with_strip
 returns-then-covered_with_strip c =
     let searched : let b = book_in c.args.book.now in
     c.broken_with.result ≡ broken (broken_by b.setup b.part.rows (proposed_rows c.args.bytes.now c.args.n) (proposer c.args.bytes.now c.args.n)) =
     rw c.requires.book_value.2 at (c.broken_with.ensures (proposed_rows c.args.bytes.now c.args.n) (proposed-pending (strip_requests c.args.bytes.now c.args.n)) (rw c.requires.book_value.2 c.fill_all_waits.ensures)) in
-    covered-decides _ _ c.requires.addable (sym c.in_default.is ∙ searched) _ (rw c.requires.book_value.2 at c.covered_with_strip.ensures) c.if-covered_with_strip.true
+    covered_decides _ _ c.requires.addable (sym c.in_default.is ∙ searched) _ (rw c.requires.book_value.2 at c.covered_with_strip.ensures) c.if-covered_with_strip.true
 
 pub returns : goal.returns
 returns c =
     let searched : let b = book_in c.args.book.now in
     c.broken_with.result ≡ broken (broken_by b.setup b.part.rows (proposed_rows c.args.bytes.now c.args.n) (proposer c.args.bytes.now c.args.n)) =
     rw c.requires.book_value.2 at (c.broken_with.ensures (proposed_rows c.args.bytes.now c.args.n) (proposed-pending (strip_requests c.args.bytes.now c.args.n)) (rw c.requires.book_value.2 c.fill_all_waits.ensures)) in
-    uncovered-decides _ _ c.requires.addable (sym c.in_default.is ∙ searched) _ (rw c.requires.book_value.2 at c.covered_with_strip.ensures) c.if-covered_with_strip.false
+    uncovered_decides _ _ c.requires.addable (sym c.in_default.is ∙ searched) _ (rw c.requires.book_value.2 at c.covered_with_strip.ensures) c.if-covered_with_strip.false

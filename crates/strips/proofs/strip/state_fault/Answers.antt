@@ -8,11 +8,11 @@ use Rattle.rules.specs.Basics.{any_passes}
 use Rattle.rules.specs.Requests.{head_length}
 use Rattle.rules.specs.Registration.{has_twin}
 use Rattle.image.specs.Valid.{book_in}
-use Rattle.strip_rows.proofs.RowSteps.{first-register, first_request}
+use Rattle.strip_rows.proofs.RowSteps.{first_register, first_request}
 use Rattle.strips.specs.Ready.{strip_requests, proposer}
 use Rattle.strips.proofs.ReadyLaws.{requests_length}
 use Rattle.strips.proofs.StandingLaws.{standing_twin}
-use Rattle.strips.proofs.DecidingLaws.{later_decides, standing-decides, twins-decide, no-room-decides}
+use Rattle.strips.proofs.DecidingLaws.{later_decides, standing_decides, twins_decide, no_room_decides}
 use Rattle.strips.proofs.strip.state_fault.Goals as goal
 
 pub returns-then-phase-ne-REGISTRATION : goal.returns-then-phase-ne-REGISTRATION
@@ -20,7 +20,7 @@ returns-then-phase-ne-REGISTRATION c = later_decides _ _ (λ e. c.if-phase-ne-RE
 
 pub row_request-first-requires : goal.row_request-first-requires
 row_request-first-requires c =
-    first-register _ head_length c.args.n (c.args.n - 1) (omega (arith, c.requires.1.is_strip.some_rows)) c.requires.1.is_strip.rows
+    first_register _ head_length c.args.n (c.args.n - 1) (omega (arith, c.requires.1.is_strip.some_rows)) c.requires.1.is_strip.rows
 
 pub any_is_alike-requires : goal.any_is_alike-requires
 any_is_alike-requires c = (c.requires.0, c.requires.1.is_strip.rows)
@@ -34,7 +34,7 @@ returns-then-any_is_alike c =
     ∙ standing_twin (book_in c.args.book.now).part.rows (strip_requests c.args.bytes.now c.args.n) _ c.requires.1.one_proposer in
     let in-phase : (book_in c.args.book.now).phase ≡ 1 =
     sym c.phase.ensures ∙ c.if-phase-ne-REGISTRATION.false in
-    standing-decides _ _ in-phase (sym stands ∙ c.if-any_is_alike.true)
+    standing_decides _ _ in-phase (sym stands ∙ c.if-any_is_alike.true)
 
 pub has_twins-requires : goal.has_twins-requires
 has_twins-requires c = c.requires.1.is_strip.rows
@@ -48,7 +48,7 @@ returns-then-has_twins c =
     ∙ standing_twin (book_in c.args.book.now).part.rows (strip_requests c.args.bytes.now c.args.n) _ c.requires.1.one_proposer in
     let in-phase : (book_in c.args.book.now).phase ≡ 1 =
     sym c.phase.ensures ∙ c.if-phase-ne-REGISTRATION.false in
-    twins-decide _ _ in-phase (sym stands ∙ c.if-any_is_alike.false) (sym c.has_twins.ensures ∙ c.if-has_twins.true)
+    twins_decide _ _ in-phase (sym stands ∙ c.if-any_is_alike.false) (sym c.has_twins.ensures ∙ c.if-has_twins.true)
 
 pub returns-then-row_count-n-gt-MOST_ROWS : goal.returns-then-row_count-n-gt-MOST_ROWS
 returns-then-row_count-n-gt-MOST_ROWS c =
@@ -59,7 +59,7 @@ returns-then-row_count-n-gt-MOST_ROWS c =
     ∙ standing_twin (book_in c.args.book.now).part.rows (strip_requests c.args.bytes.now c.args.n) _ c.requires.1.one_proposer in
     let in-phase : (book_in c.args.book.now).phase ≡ 1 =
     sym c.phase.ensures ∙ c.if-phase-ne-REGISTRATION.false in
-    no-room-decides _ _ in-phase (sym stands ∙ c.if-any_is_alike.false) (sym c.has_twins.ensures ∙ c.if-has_twins.false)
+    no_room_decides _ _ in-phase (sym stands ∙ c.if-any_is_alike.false) (sym c.has_twins.ensures ∙ c.if-has_twins.false)
     (omega (arith, c.row_count.ensures.meaning, requests_length c.args.bytes.now head_length c.args.n))
 
 pub margin_or_exposure_fault-requires : goal.margin_or_exposure_fault-requires

@@ -16,7 +16,7 @@ use Rattle.book.proofs.BookRows.{counts_in_lem}
 use Rattle.strip_rows.specs.Rows.{StripOf}
 use Rattle.strip_rows.specs.Passes.{requests_checks}
 use Rattle.strips.specs.Ready.{ReadyStrip, strip_requests}
-use Rattle.strips.proofs.CallLaws.{read_strip, in_range_ready, strip_bytes_refused, strip-input-refused, strip-state-refused, strip-step, refused-strip, accepted-strip}
+use Rattle.strips.proofs.CallLaws.{read_strip, in_range_ready, strip_bytes_refused, strip_input_refused, strip_state_refused, strip-step, refused-strip, accepted-strip}
 use Rattle.strips.proofs.strip.strip.Goals as goal
 
 pub returns-in-Fails : goal.returns-in-Fails
@@ -50,7 +50,7 @@ returns-in-Fails-requests_fault c =
     λ o e. ap (λ (m : Counts). first_to_apply (requests_checks m (strip_requests c.args.bytes.now c.row_count-n.result))) (counts_in_lem _ c.requires.0 ∙ sym c.counts.ensures)
     ∙ checked-same _ o (sym c.requests_fault.ensures ∙ e) in
     let why = found (some _) c.in-Fails-requests_fault.is in
-    let both = refused-strip _ _ _ c.requires.0 (λ x e. strip-input-refused _ x _ _ e c.requires.1 c.row_count-n.ensures read _ why) in record { answer = both.0; bytes = both.1.0; still = both.1.1 }
+    let both = refused-strip _ _ _ c.requires.0 (λ x e. strip_input_refused _ x _ _ e c.requires.1 c.row_count-n.ensures read _ why) in record { answer = both.0; bytes = both.1.0; still = both.1.1 }
 
 pub state_fault-requires : goal.state_fault-requires
 state_fault-requires c =
@@ -76,7 +76,7 @@ returns-in-Fails-state_fault c =
     ∙ checked-same _ o (sym c.requests_fault.ensures ∙ e) in
     let why = checked-same _ (some _) (sym c.state_fault.ensures ∙ c.in-Fails-state_fault.is) in
     let fine = found none c.in_default-requests_fault.is in
-    let both = refused-strip _ _ _ c.requires.0 (λ x e. strip-state-refused _ x _ _ e c.requires.1 c.row_count-n.ensures read fine _ why) in record { answer = both.0; bytes = both.1.0; still = both.1.1 }
+    let both = refused-strip _ _ _ c.requires.0 (λ x e. strip_state_refused _ x _ _ e c.requires.1 c.row_count-n.ensures read fine _ why) in record { answer = both.0; bytes = both.1.0; still = both.1.1 }
 
 pub accept-requires : goal.accept-requires
 accept-requires c =

@@ -17,7 +17,7 @@ use Rattle.book.proofs.WaitLaws.{Waiting, length-no_waits, waits_with, waits_nex
 use Rattle.book.proofs.StateLaws.{book_is_sound, row_count_high}
 use Rattle.book.proofs.BookRows.{sound_tabled}
 use Rattle.strip_rows.specs.Rows.{requests_from, RegisterRows}
-use Rattle.strip_rows.proofs.RowSteps.{first-register, any_register, first_request, requests_step, requests_done}
+use Rattle.strip_rows.proofs.RowSteps.{first_register, any_register, first_request, requests_step, requests_done}
 use Rattle.strips.specs.Ready.{proposer, proposed_rows, strip_requests}
 use Rattle.strips.proofs.ReadyLaws.{OwnRow, ready_rows, requests_length}
 use Rattle.strips.proofs.LoopLaws.{first_has}
@@ -25,7 +25,7 @@ use Rattle.strips.proofs.waits.fill_all_waits.Goals as goal
 
 pub row_request-first-requires : goal.row_request-first-requires
 row_request-first-requires c =
-    first-register _ head_length c.args.n (c.args.n - 1) (omega (arith, c.requires.2.is_strip.some_rows)) c.requires.2.is_strip.rows
+    first_register _ head_length c.args.n (c.args.n - 1) (omega (arith, c.requires.2.is_strip.some_rows)) c.requires.2.is_strip.rows
 
 pub fill_waits-requires : goal.fill_waits-requires
 fill_waits-requires c = (c.requires.0, c.requires.1)

@@ -17,7 +17,7 @@ use Rattle.book.proofs.WaitLaws.{Waiting, length-no_waits, waits_with, waits_nex
 use Rattle.book.proofs.StateLaws.{book_is_sound, row_count_high}
 use Rattle.book.proofs.BookRows.{sound_tabled}
 use Rattle.strip_rows.specs.Rows.{requests_from, RegisterRows}
-use Rattle.strip_rows.proofs.RowSteps.{first-register, any_register, first_request, requests_step, requests_done}
+use Rattle.strip_rows.proofs.RowSteps.{first_register, any_register, first_request, requests_step, requests_done}
 use Rattle.strips.specs.Ready.{proposer, proposed_rows, strip_requests}
 use Rattle.strips.proofs.ReadyLaws.{OwnRow, ready_rows, requests_length}
 use Rattle.strips.proofs.LoopLaws.{first_has}
