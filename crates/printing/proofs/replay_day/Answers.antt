@@ -1,4 +1,4 @@
-use Rattle.std.proofs.Common.{rules, refl, ◌≡◌, arith, ◌∙◌}
+use Rattle.std.proofs.Common.{refl, arith, ◌∙◌}
 use Rattle.printing.proofs.RoundLaws.{led_none, led_on, replayed}
 use Rattle.printing.proofs.replay_day.Goals as goal
 
