@@ -17,7 +17,7 @@ use Rattle.rules.specs.declared.Refusal.TheVariants.{SetupShape, SetupValue}
 use Rattle.rules.specs.Basics.{every, find, entries, within}
 use Rattle.rules.specs.Limits.{most_energy}
 use Rattle.rules.specs.Books.{injection_kind, withdrawal_kind}
-use Rattle.rules.specs.Verdicts.{◌⇒◌, ◌⇒↑◌, first_to_apply, checked}
+use Rattle.rules.specs.Verdicts.{◌⇒↑◌, first_to_apply, checked}
 use Rattle.rules.specs.Opening.{counts_in, Value, values_of, margin_values, account_values, values, margin_in, account_in, lower_offset, upper_offset, margin_width, account_entry, misshapen, faulty_offset, setup_of, setup_refusal, operators_in}
 use Rattle.rules.proofs.Basics.Products.{one_more}
 use Rattle.rules.proofs.Setups.SetupShape.{shape_of, shape_length}

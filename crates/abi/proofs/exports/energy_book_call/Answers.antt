@@ -1,6 +1,5 @@
 -- It is the call of `day`, with its outcome packed.
 use Rattle.abi.proofs.PackingLaws.{given-packed}
-use borrow.Author.Rules.{rules}
 use Rattle.abi.proofs.exports.energy_book_call.Goals as goal
 
 pub returns : goal.returns

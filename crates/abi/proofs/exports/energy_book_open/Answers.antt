@@ -1,5 +1,4 @@
 -- It is the opening of `day`, with its outcome packed.
-use borrow.Author.Rules.{rules}
 use Rattle.abi.proofs.exports.energy_book_open.Goals as goal
 
 pub returns : goal.returns

@@ -1,5 +1,4 @@
 -- It is the writing of `day`, with its outcome packed.
-use borrow.Author.Rules.{rules}
 use Rattle.abi.proofs.exports.energy_book_write.Goals as goal
 
 pub returns : goal.returns

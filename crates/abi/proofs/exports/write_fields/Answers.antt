@@ -2,7 +2,6 @@
 use mathlib.Core.Path.{refl}
 use borrow.Author.Tests.{eq-eqb, ne_eqb}
 use Rattle.abi.specs.Fields.{fields_outcome, fields_written}
-use borrow.Author.Rules.{rules}
 use Rattle.abi.proofs.exports.write_fields.Goals as goal
 
 pub returns-then-fields-ne-FIELDS_SIZE : goal.returns-then-fields-ne-FIELDS_SIZE

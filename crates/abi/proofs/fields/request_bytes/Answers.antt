@@ -1,7 +1,6 @@
 -- Each field is put at its place, one after the other, over as many bytes.
 use mathlib.Core.Path.{refl}
 use lib.ListN.{replicate}
-use borrow.Author.Rules.{rules}
 use Rattle.wire.proofs.PackLaws.{put_pack}
 use Rattle.rules.specs.Requests.{widths}
 use Rattle.abi.specs.Fields.{fields_size, request_bytes}

@@ -1,6 +1,5 @@
 -- Each field is the number at its place.
 use Rattle.abi.specs.Fields.{request_in}
-use borrow.Author.Rules.{rules}
 use Rattle.abi.proofs.fields.request_in.Goals as goal
 
 pub returns : goal.returns

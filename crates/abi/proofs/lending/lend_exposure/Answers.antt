@@ -1,7 +1,6 @@
 -- A refusal leaves the figure alone, and an exposure is lent in its 8 bytes.
-use mathlib.Core.Path.{refl, ap}
+use mathlib.Core.Path.{ap}
 use Rattle.rules.specs.Verdicts.{numbers}
-use borrow.Author.Rules.{rules}
 use Rattle.abi.proofs.lending.lend_exposure.Goals as goal
 
 pub returns-in-Read : goal.returns-in-Read

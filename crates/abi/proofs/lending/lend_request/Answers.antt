@@ -1,7 +1,6 @@
 -- A refusal leaves the fields alone, and a request is lent in its 34 bytes.
-use mathlib.Core.Path.{refl, ap}
+use mathlib.Core.Path.{ap}
 use Rattle.rules.specs.Verdicts.{numbers}
-use borrow.Author.Rules.{rules}
 use Rattle.abi.proofs.lending.lend_request.Goals as goal
 
 pub returns-in-Read : goal.returns-in-Read

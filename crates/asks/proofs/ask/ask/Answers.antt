@@ -5,7 +5,6 @@ use Rattle.rules.specs.Requests.{ask}
 use Rattle.rules.proofs.Checks.Clearing.{checked-same}
 use Rattle.registration.proofs.RegisterLaws.{ready_proposes}
 use Rattle.asks.proofs.AskLaws.{ask_refused, ask_accepted}
-use borrow.Author.Rules.{rules}
 use Rattle.asks.proofs.ask.ask.Goals as goal
 
 pub register_fault-requires : goal.register_fault-requires

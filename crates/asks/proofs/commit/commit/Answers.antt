@@ -9,7 +9,6 @@ use Rattle.image.proofs.Round.{book_is_sound}
 use Rattle.book.proofs.StateLaws.{book_length}
 use Rattle.book.proofs.Answers.{refused_answered}
 use Rattle.asks.proofs.CommitLaws.{few_rows, committed_answered}
-use borrow.Author.Rules.{rules}
 use Rattle.asks.proofs.commit.commit.Goals as goal
 
 pub returns-in-Fails : goal.returns-in-Fails

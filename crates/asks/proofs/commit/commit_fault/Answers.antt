@@ -8,7 +8,6 @@ use Rattle.book.proofs.Answers.{in_wrong_phase}
 use Rattle.registration.proofs.RegisterLaws.{ready_proposes}
 use Rattle.asks.proofs.PlaceLaws.{proposer_placed}
 use Rattle.asks.proofs.CommitLaws.{asks_stand_lem, commit_clear, no_standing_ask}
-use borrow.Author.Rules.{rules}
 use Rattle.asks.proofs.commit.commit_fault.Goals as goal
 
 pub phase-requires : goal.phase-requires

@@ -1,18 +1,12 @@
 -- The entries before that of the operator are the exposures of the operators before it.
 use Prim.Native.Nat.{◌+◌, ◌-◌, ◌≤◌}
-use mathlib.Core.Path.{◌≡◌, sym, ap, ◌∙◌}
-use native.Mathlib.Omega.{arith}
-use borrow.Author.Rules.{rules}
-use Rattle.rules.specs.declared.Counts.{Counts}
+use mathlib.Core.Path.{◌≡◌}
 use Rattle.rules.specs.Limits.{most_operators}
-use Rattle.rules.specs.Books.{Setup, operator_count}
+use Rattle.rules.specs.Books.{operator_count}
 use Rattle.rules.specs.Registration.{exposure}
 use Rattle.image.specs.Valid.{book_in}
-use Rattle.book.proofs.StateLaws.{book_length, book_is_sound}
-use Rattle.book.proofs.BookRows.{counts_in_lem, setup_in_lem, setup_tabled, estimates_in_lem}
-use Rattle.book.proofs.WorthParts.{Listed, listed_first, listed_next}
+use Rattle.book.proofs.WorthParts.{Listed}
 use Rattle.asks.specs.Standing.{exposures_size}
-use Rattle.asks.proofs.SharedLaws.{exposures_listed}
 use Rattle.asks.proofs.exposures.fill_exposures.Given as goal
 
 abbrev pub invariant-loop-number : goal.invariant-loop-number

@@ -2,7 +2,6 @@
 use native.Mathlib.Omega.{arith}
 use Rattle.book.proofs.StateLaws.{book_length}
 use Rattle.asks.proofs.PlaceLaws.{ask_in_place}
-use borrow.Author.Rules.{rules}
 use Rattle.asks.proofs.places.asked_row.Goals as goal
 
 pub row_at-requires : goal.row_at-requires

@@ -2,7 +2,6 @@
 use native.Mathlib.Omega.{arith}
 use Rattle.book.proofs.StateLaws.{book_length}
 use Rattle.asks.proofs.PlaceLaws.{cleared_written}
-use borrow.Author.Rules.{rules}
 use Rattle.asks.proofs.places.clear_asks.Goals as goal
 
 pub clear_at-requires : goal.clear_at-requires

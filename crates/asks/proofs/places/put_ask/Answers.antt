@@ -5,7 +5,6 @@ use lib.ListN.{length}
 use Rattle.image.proofs.Writing.Sizes.{length_row}
 use Rattle.book.proofs.StateLaws.{book_length}
 use Rattle.asks.proofs.PlaceLaws.{proposer_placed, ask_written}
-use borrow.Author.Rules.{rules}
 use Rattle.asks.proofs.places.put_ask.Goals as goal
 
 pub ask_offset-at-requires : goal.ask_offset-at-requires

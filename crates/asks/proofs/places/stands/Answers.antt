@@ -1,6 +1,5 @@
 -- The row in the place of the proposer is compared; a place without an ask has no pending row.
 use Rattle.asks.proofs.PlaceLaws.{stands_tested}
-use borrow.Author.Rules.{rules}
 use Rattle.asks.proofs.places.stands.Goals as goal
 
 pub returns : goal.returns

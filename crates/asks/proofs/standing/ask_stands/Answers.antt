@@ -2,7 +2,6 @@
 use mathlib.Core.Path.{sym, ◌∙◌}
 use native.Mathlib.Omega.{arith}
 use Rattle.asks.proofs.StandingLaws.{none_stands, ask_row, ask_in_range, later_falls, full_falls, broken_falls, covered_decides}
-use borrow.Author.Rules.{rules}
 use Rattle.asks.proofs.standing.ask_stands.Goals as goal
 
 pub returns-then-row-eq0 : goal.returns-then-row-eq0

@@ -4,7 +4,6 @@ use native.Mathlib.Omega.{arith}
 use Rattle.book.proofs.StateLaws.{book_length}
 use Rattle.asks.proofs.StandingLaws.{no_asks_stand}
 use Rattle.asks.proofs.TwinLaws.{twin_falls}
-use borrow.Author.Rules.{rules}
 use Rattle.asks.proofs.standing.asks_stand.Goals as goal
 
 pub all_zero-requires : goal.all_zero-requires

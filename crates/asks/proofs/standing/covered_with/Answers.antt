@@ -4,7 +4,6 @@ use native.Mathlib.Omega.{arith}
 use Rattle.image.proofs.Sound.Soundness.{sound_row}
 use Rattle.book.proofs.WorthParts.{sound_row_in_range}
 use Rattle.asks.proofs.SharedLaws.{exposure_with_row, exposure_high}
-use borrow.Author.Rules.{rules}
 use Rattle.asks.proofs.standing.covered_with.Goals as goal
 
 pub operator_of-operator-requires : goal.operator_of-operator-requires

@@ -1,14 +1,11 @@
 -- The first ask that falls decides; where none fell, all stand if those that are left do.
 use Prim.Native.Nat.{◌+◌, ◌-◌, ◌≤◌}
-use mathlib.Core.Path.{◌≡◌, refl, ◌∙◌, sym}
-use native.Mathlib.Omega.{arith}
+use mathlib.Core.Path.{◌≡◌}
 use Rattle.rules.specs.Basics.{every, counting}
 use Rattle.rules.specs.Limits.{most_accounts}
 use Rattle.rules.specs.Books.{ask_at}
 use Rattle.rules.specs.Asks.{ask_stands, asks_stand}
-use Rattle.rules.proofs.Basics.CountingLaws.{every_done, every_next, every_fails}
 use Rattle.image.specs.Valid.{book_in}
-use borrow.Author.Rules.{rules}
 use Rattle.asks.proofs.standing.each_stands.Given as goal
 
 abbrev pub invariant-loop-number : goal.invariant-loop-number

@@ -1,15 +1,9 @@
 -- A row found so far or among the rows that are left is one among all.
-use Prim.Native.Nat.{◌+◌, ◌-◌, ◌≤◌}
-use mathlib.Core.Path.{◌≡◌, refl}
-use mathlib.Core.Bool.{◌||◌}
+use Prim.Native.Nat.{◌-◌}
+use mathlib.Core.Path.{refl}
 use native.Mathlib.Omega.{arith}
-use lib.ListN.{length, drop}
 use borrow.Author.Rules.{rules}
-use Rattle.rules.specs.Basics.{any_passes}
-use Rattle.rules.specs.Limits.{most_rows}
-use Rattle.image.specs.Valid.{book_in}
 use Rattle.book.proofs.WaitLaws.{told_next, told_last}
-use Rattle.asks.specs.Standing.{is_ask_twin, some_ask_twin}
 use Rattle.asks.proofs.twins.any_ask_twin.Goals as goal
 
 pub loop-number-init : goal.loop-number-init

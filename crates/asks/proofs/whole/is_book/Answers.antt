@@ -4,7 +4,6 @@ use Rattle.rules.specs.Limits.{most_hours, book_size}
 use Rattle.image.proofs.Round.{book_by_asks}
 use Rattle.book.proofs.StateLaws.{row_count_stands}
 use Rattle.book.proofs.BookRows.{rows_in}
-use borrow.Author.Rules.{rules}
 use Rattle.asks.proofs.whole.is_book.Goals as goal
 
 pub asks_stand-requires : goal.asks_stand-requires

@@ -15,7 +15,6 @@ use Rattle.book.specs.Kinds.{decided}
 use Rattle.book.proofs.StateLaws.{book_length}
 use Rattle.book.proofs.Answers.{refused_all}
 use Rattle.batches.proofs.Acceptances.{closed_answered}
-use borrow.Author.Rules.{rules}
 use Rattle.batches.proofs.gate.close_gate.Goals as goal
 
 pub returns-in-Fails : goal.returns-in-Fails

@@ -2,7 +2,6 @@
 use mathlib.Core.Path.{sym, ◌∙◌}
 use native.Mathlib.Omega.{arith}
 use Rattle.image.proofs.Writing.Loops.{ended_pending, ended_other}
-use borrow.Author.Rules.{rules}
 use Rattle.batches.proofs.gate.end_row.Goals as goal
 
 pub returns-then-get_u8-eq-PENDING : goal.returns-then-get_u8-eq-PENDING

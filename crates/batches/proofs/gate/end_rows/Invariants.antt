@@ -1,13 +1,10 @@
 -- To end the rows that are left, after those ended so far, is to end all.
-use Prim.Native.Nat.{◌+◌, ◌-◌, ◌*◌, ◌≤◌}
-use mathlib.Core.Path.{◌≡◌, refl, sym, ◌∙◌}
-use native.Mathlib.Omega.{arith}
+use Prim.Native.Nat.{◌+◌, ◌*◌, ◌≤◌}
+use mathlib.Core.Path.{◌≡◌}
 use lib.ListN.{length}
-use borrow.Author.Rules.{rules}
 use Rattle.wire.specs.Parts.{sweep}
 use Rattle.image.specs.Layout.{row_width}
 use Rattle.image.specs.Changes.{ended}
-use Rattle.image.proofs.Writing.Loops.{sweep_on, sweep_done}
 use Rattle.batches.proofs.gate.end_rows.Given as goal
 
 abbrev pub invariant-loop-left : goal.invariant-loop-left

@@ -1,5 +1,4 @@
 -- The part is cleared up to the end of its rows and from its net positions on; between them it is zero already.
-use borrow.Author.Rules.{rules}
 use Rattle.batches.proofs.BatchLaws.{part_cleared_lem}
 use Rattle.batches.proofs.saving.clear_part.Goals as goal
 

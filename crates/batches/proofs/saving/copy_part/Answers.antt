@@ -1,7 +1,6 @@
 -- The part is copied up to the end of its rows and from its net positions on; between them both parts are zero already.
 use mathlib.Core.Logic.{⊎_elim, inl, inr}
 use native.Mathlib.Omega.{arith}
-use borrow.Author.Rules.{rules}
 use Rattle.batches.proofs.BatchLaws.{part_copied_lem}
 use Rattle.batches.proofs.saving.copy_part.Goals as goal
 

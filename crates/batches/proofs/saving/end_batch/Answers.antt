@@ -1,5 +1,4 @@
 -- The saved part is cleared, and then the flag.
-use borrow.Author.Rules.{rules}
 use Rattle.batches.proofs.saving.end_batch.Goals as goal
 
 pub returns : goal.returns

@@ -14,7 +14,6 @@ use Rattle.book.proofs.Answers.{refused_all}
 use Rattle.batches.proofs.Decisions.{ending_finds_batch}
 use Rattle.batches.proofs.Acceptances.{kept_answered}
 use Rattle.batches.proofs.BatchLaws.{saved_rows_end}
-use borrow.Author.Rules.{rules}
 use Rattle.batches.proofs.saving.keep.Goals as goal
 
 pub returns-in-Fails : goal.returns-in-Fails

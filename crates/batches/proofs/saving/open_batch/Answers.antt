@@ -2,7 +2,6 @@
 use mathlib.Core.Path.{refl}
 use Rattle.rules.specs.Requests.{open_batch}
 use Rattle.batches.proofs.Acceptances.{opening_answered}
-use borrow.Author.Rules.{rules}
 use Rattle.batches.proofs.saving.open_batch.Goals as goal
 
 pub returns : goal.returns

@@ -1,6 +1,5 @@
 -- A fault is refused, and no fault is accepted with no number.
 use mathlib.Core.Path.{refl}
-use borrow.Author.Rules.{rules}
 use Rattle.batches.proofs.saving.outcome_of.Goals as goal
 
 pub returns-in-Clear : goal.returns-in-Clear

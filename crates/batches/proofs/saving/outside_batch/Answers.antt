@@ -3,7 +3,6 @@ use mathlib.Core.Path.{sym, ap, ◌∙◌}
 use Rattle.rules.specs.Verdicts.{checked}
 use Rattle.book.proofs.Answers.{in_wrong_phase}
 use Rattle.batches.proofs.Decisions.{with_batch, outside_batch, phase_outside}
-use borrow.Author.Rules.{rules}
 use Rattle.batches.proofs.saving.outside_batch.Goals as goal
 
 pub returns-then-phase-ne-REGISTRATION : goal.returns-then-phase-ne-REGISTRATION

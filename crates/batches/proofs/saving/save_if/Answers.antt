@@ -9,7 +9,6 @@ use Rattle.wire.specs.Regions.{splice}
 use Rattle.image.specs.Layout.{flag_offset}
 use Rattle.book.proofs.StateLaws.{book_length}
 use Rattle.batches.proofs.BatchLaws.{present_rows_end, saved_past_rows}
-use borrow.Author.Rules.{rules}
 use Rattle.batches.proofs.saving.save_if.Goals as goal
 
 pub copy_part-requires : goal.copy_part-requires

@@ -17,7 +17,6 @@ use Rattle.batches.specs.Saving.{batch_ended}
 use Rattle.batches.proofs.Decisions.{ending_finds_batch}
 use Rattle.batches.proofs.Acceptances.{undone_answered}
 use Rattle.batches.proofs.BatchLaws.{present_rows_end, saved_rows_end, saved_past_present, saved_room_left}
-use borrow.Author.Rules.{rules}
 use Rattle.batches.proofs.saving.undo.Goals as goal
 
 pub returns-in-Fails : goal.returns-in-Fails

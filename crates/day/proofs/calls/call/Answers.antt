@@ -1,7 +1,6 @@
 -- Bytes that are a book are called as one, and others are refused with 1.
 use mathlib.Core.Path.{sym, ◌∙◌}
 use Rattle.day.proofs.CallLaws.{no_book_given}
-use borrow.Author.Rules.{rules}
 use Rattle.day.proofs.calls.call.Goals as goal
 
 pub call_in-requires : goal.call_in-requires

@@ -2,7 +2,6 @@
 use mathlib.Core.Path.{sym, ◌∙◌}
 use Rattle.wire.proofs.NumberLaws.{bytes_known}
 use Rattle.day.proofs.CallLaws.{cleared_given, uncleared_given}
-use borrow.Author.Rules.{rules}
 use Rattle.day.proofs.calls.call_in.Goals as goal
 
 pub returns-then-clears_asks : goal.returns-then-clears_asks

@@ -11,7 +11,6 @@ use Rattle.rules.specs.Requests.{reading, is_strip}
 use Rattle.image.proofs.Round.{book_is_sound}
 use Rattle.day.proofs.RequestLaws.{other_kind, read_code}
 use Rattle.day.proofs.CallLaws.{unread_given, said_given, strip-given, settle-given}
-use borrow.Author.Rules.{rules}
 use Rattle.day.proofs.calls.change_in.Goals as goal
 
 pub strip-requires : goal.strip-requires

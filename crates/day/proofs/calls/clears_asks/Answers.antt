@@ -1,5 +1,4 @@
 -- An accepted call clears them unless its record has the kind of an ask; a refused one does not.
-use borrow.Author.Rules.{rules}
 use Rattle.day.proofs.calls.clears_asks.Goals as goal
 
 pub returns-in-Accepted : goal.returns-in-Accepted

@@ -1,6 +1,5 @@
 -- Bytes that are a book are read as one, and others are not.
 use mathlib.Core.Path.{sym, ◌∙◌}
-use borrow.Author.Rules.{rules}
 use Rattle.rules.specs.Limits.{most_hours, book_size}
 use Rattle.image.proofs.Round.{book_is_sound}
 use Rattle.book.specs.Answers.{hourly_exposure_answer}

@@ -1,5 +1,4 @@
 -- What is a book is sound.
-use borrow.Author.Rules.{rules}
 use Rattle.rules.specs.Limits.{most_hours, book_size}
 use Rattle.image.proofs.Round.{book_is_sound}
 use Rattle.day.proofs.interface.hourly_exposure_in.Goals as goal

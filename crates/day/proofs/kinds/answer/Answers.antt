@@ -10,7 +10,6 @@ use Rattle.image.specs.Valid.{book_in}
 use Rattle.image.proofs.Round.{book_is_sound}
 use Rattle.book.proofs.StateLaws.{book_length}
 use Rattle.day.proofs.RequestLaws.{ranges_found, in_range_ready, refused_saying, plain_saying}
-use borrow.Author.Rules.{rules}
 use Rattle.day.proofs.kinds.answer.Goals as goal
 
 pub counts-n-requires : goal.counts-n-requires

@@ -1,11 +1,8 @@
 -- Each kind is answered by the function that is named in its arm; no other number comes there.
-use Prim.Native.Nat.{◌≤◌}
-use mathlib.Core.Logic.{⊎_elim}
 use Rattle.rules.specs.Limits.{most_hours, book_size}
 use Rattle.rules.specs.Requests.{register, confirm, withdraw, guarantee, schedule, ask, commit}
 use Rattle.image.proofs.Round.{book_is_sound}
-use Rattle.day.proofs.RequestLaws.{plain_by_kind, batch_range, none_left, none_first, ready_for}
-use borrow.Author.Rules.{rules}
+use Rattle.day.proofs.RequestLaws.{plain_by_kind, none_left, none_first, ready_for}
 use Rattle.std.proofs.Common.{arith}
 use Rattle.day.proofs.kinds.by_kind.Goals as goal
 use Rattle.day.proofs.kinds.by_kind.Goals.{in_default-via-then-kind-lt1, in_default-via-else-kind-lt1+else-kind-lt9}

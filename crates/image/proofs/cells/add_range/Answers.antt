@@ -1,10 +1,9 @@
 -- The cells from `at` to the cursor are raised, those past it are as they came.
-use Prim.Native.Nat.{◌+◌, ◌-◌, ◌≤◌}
+use Prim.Native.Nat.{◌-◌}
 use mathlib.Core.Path.{◌≡◌}
 use native.Mathlib.Omega.{arith}
-use lib.ListN.{length, length-set}
+use lib.ListN.{length-set}
 use borrow.Author.Rules.{rules}
-use Rattle.image.specs.Tables.{Raised}
 use Rattle.image.proofs.Tables.SumLaws.{raised_none, raised-next}
 use Rattle.image.proofs.cells.add_range.Goals as goal
 

@@ -1,5 +1,4 @@
 -- Each number inside the schedule's bytes is that number of the whole.
-use borrow.Author.Rules.{rules}
 use Rattle.image.proofs.Reading.RowBytes.{schedule_at}
 use Rattle.image.proofs.schedules.schedule_at.Goals as goal
 

@@ -1,7 +1,6 @@
 -- Each field is put at its place, one after the other, over as many bytes.
 use mathlib.Core.Path.{refl}
 use lib.ListN.{replicate}
-use borrow.Author.Rules.{rules}
 use Rattle.wire.proofs.PackLaws.{put_pack}
 use Rattle.image.specs.Layout.{schedule_widths, schedule_width}
 use Rattle.image.specs.Image.{schedule_bytes}

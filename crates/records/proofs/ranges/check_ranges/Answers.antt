@@ -1,8 +1,6 @@
 -- The kind says which map is wanted, and the map which fields are checked.
 use mathlib.Core.Path.{sym, ap, refl}
-use mathlib.Core.Logic.{⊎_elim}
 use native.Mathlib.Omega.{arith}
-use borrow.Author.Rules.{rules}
 use Rattle.rules.specs.Requests.{wanted_map}
 use Rattle.records.proofs.KindLaws.{wanted_run, wanted_none}
 use Rattle.records.proofs.RangeLaws.{ranges_none, ranges_kind_alone}

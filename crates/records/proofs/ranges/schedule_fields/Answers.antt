@@ -1,6 +1,5 @@
 -- The checks stand in the order of the bits of the map.
 use native.Mathlib.Omega.{arith}
-use borrow.Author.Rules.{rules}
 use Rattle.rules.specs.Basics.{counting, bit}
 use Rattle.rules.specs.Requests.{in_range}
 use Rattle.records.proofs.RangeLaws.{ranges_of}

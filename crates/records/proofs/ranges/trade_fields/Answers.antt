@@ -1,5 +1,4 @@
 -- The fields of a trade, and then its accounts.
-use borrow.Author.Rules.{rules}
 use Rattle.rules.specs.Basics.{bit}
 use Rattle.rules.specs.Requests.{same_accounts}
 use Rattle.records.proofs.RangeLaws.{fields_and_accounts}

@@ -1,14 +1,9 @@
 -- The fields below `k` have been read and `at` is where the next begins; filling in the rest gives them all.
-use Prim.Native.Nat.{ℕ, suc, ◌+◌, ◌-◌, ◌≤◌}
-use mathlib.Core.Path.{◌≡◌, refl, ◌∙◌, sym, ap}
-use mathlib.Core.List.{List, map}
-use native.Mathlib.Numerals.{add-one}
-use native.Mathlib.Omega.{arith}
-use borrow.Author.Rules.{rules}
-use Rattle.rules.specs.Basics.{total, counting}
-use Rattle.rules.specs.Requests.{field_count, map_of, room, offset, bits, field_in}
-use Rattle.rules.proofs.Records.Fields.{offset_step, offset_grows, field_in-room}
-use Rattle.records.proofs.FieldLaws.{room_small, fill, fill_none, fill_next}
+use Prim.Native.Nat.{◌-◌, ◌≤◌}
+use mathlib.Core.Path.{◌≡◌}
+use mathlib.Core.List.{map}
+use Rattle.rules.specs.Requests.{field_count, map_of, offset, bits, field_in}
+use Rattle.records.proofs.FieldLaws.{fill}
 use Rattle.records.proofs.reader.fields.Given as goal
 
 abbrev pub invariant-loop-k : goal.invariant-loop-k

@@ -5,7 +5,6 @@ use borrow.Author.Tests.{ne_eqb}
 use Rattle.rules.specs.Requests.{map_of}
 use Rattle.rules.proofs.Records.Fields.{field_in_absent}
 use Rattle.records.proofs.ReadingLaws.{kind_there, kind_short}
-use borrow.Author.Rules.{rules}
 use Rattle.records.proofs.reader.is_of_kind.Goals as goal
 
 pub returns-then-bytes-lt3 : goal.returns-then-bytes-lt3

@@ -6,7 +6,6 @@ use Rattle.rules.specs.Requests.{maps, map_of}
 use Rattle.rules.proofs.Checks.Passed.{readable}
 use Rattle.records.proofs.FieldLaws.{below_largest}
 use Rattle.records.proofs.ReadingLaws.{map_differs, map_agrees}
-use borrow.Author.Rules.{rules}
 use Rattle.records.proofs.reader.map_fault.Goals as goal
 
 pub get_u16-given-requires : goal.get_u16-given-requires

@@ -2,7 +2,6 @@
 use lib.ListN.{length}
 use borrow.Author.Tests.{lt-ltb, le-ltb}
 use Rattle.rules.specs.Requests.{map_of, unreadable}
-use borrow.Author.Rules.{rules}
 use Rattle.records.proofs.reader.no_map.Goals as goal
 
 pub returns-then-bytes-lt3 : goal.returns-then-bytes-lt3

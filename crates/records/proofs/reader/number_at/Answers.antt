@@ -1,9 +1,8 @@
 -- What has been read is the number from `p` on, and each step puts one byte more in front.
-use Prim.Native.Nat.{suc, ◌+◌, ◌-◌, ◌^◌, ◌≤◌, ◌<◌}
+use Prim.Native.Nat.{suc, ◌+◌, ◌-◌, ◌^◌, ◌<◌}
 use mathlib.Core.Path.{◌≡◌, ◌∙◌, sym}
 use native.Mathlib.Omega.{arith}
 use borrow.Author.Rules.{rules}
-use Rattle.wire.specs.Numbers.{number_at}
 use Rattle.wire.proofs.NumberLaws.{bytes_known, number_at_zero, number_at-step, number_at_below}
 use Rattle.records.proofs.reader.number_at.Goals as goal
 

@@ -1,9 +1,7 @@
 -- Refusals 2 and 3 come first; the rest is read by its kind.
 use mathlib.Core.Path.{◌∙◌, sym}
-use borrow.Author.Tests.{not-true, not-false}
 use Rattle.rules.proofs.Checks.Passed.{readable}
 use Rattle.records.proofs.ReadingLaws.{kind_third, reads_nothing, reads_no_kind}
-use borrow.Author.Rules.{rules}
 use Rattle.records.proofs.reader.read.Goals as goal
 
 pub returns-then-no_map : goal.returns-then-no_map

@@ -8,7 +8,6 @@ use Rattle.rules.proofs.Checks.Clearing.{checked-same}
 use Rattle.rules.proofs.Records.RoundTrip.{Readable, reads, record_ends}
 use Rattle.records.proofs.KindLaws.{single_is_kind}
 use Rattle.records.proofs.ReadingLaws.{reads_other_map, reads_other_length, reads_on}
-use borrow.Author.Rules.{rules}
 use Rattle.records.proofs.reader.read_as.Goals as goal
 
 pub map_fault-requires : goal.map_fault-requires

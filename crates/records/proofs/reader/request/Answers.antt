@@ -7,7 +7,6 @@ use Rattle.wire.proofs.NumberLaws.{bytes_known}
 use Rattle.rules.specs.Basics.{counting}
 use Rattle.rules.specs.Requests.{width_of, bits, field_in, request_of}
 use Rattle.rules.proofs.Records.Fields.{field_in_fits}
-use borrow.Author.Rules.{rules}
 use Rattle.std.proofs.Common.{List, Fits, w8}
 use Rattle.records.proofs.reader.request.Goals as goal
 

@@ -1,6 +1,5 @@
 -- A shift is a division by a power of two.
 use mathlib.Core.Path.{refl}
-use borrow.Author.Rules.{rules}
 use Rattle.rules.specs.Basics.{bit}
 use Rattle.records.proofs.tables.has_field.Goals as goal
 

@@ -1,5 +1,4 @@
 -- The width where the bit stands, else nothing.
-use borrow.Author.Rules.{rules}
 use Rattle.rules.specs.Requests.{room}
 use Rattle.records.proofs.tables.room_of.Goals as goal
 

@@ -1,6 +1,5 @@
 -- A length is the entry of the table, which has one for each kind, and fits a word.
 use native.Mathlib.Omega.{arith}
-use borrow.Author.Rules.{rules}
 use Rattle.rules.specs.Requests.{lengths}
 use Rattle.records.proofs.FieldLaws.{below_largest}
 use Rattle.records.proofs.KindLaws.{kind_high}

@@ -1,6 +1,5 @@
 -- A map is the entry of the table, which has one for each kind.
 use native.Mathlib.Omega.{arith}
-use borrow.Author.Rules.{rules}
 use Rattle.records.proofs.KindLaws.{kind_high}
 use Rattle.records.proofs.tables.wanted_map.Goals as goal
 

@@ -1,6 +1,5 @@
 -- A width is the entry of the table, and fits a word.
 use native.Mathlib.Omega.{arith}
-use borrow.Author.Rules.{rules}
 use Rattle.rules.specs.Requests.{widths}
 use Rattle.records.proofs.FieldLaws.{below_largest}
 use Rattle.records.proofs.tables.width.Goals as goal

@@ -1,5 +1,4 @@
 -- The fields stand in the order of their bits.
-use borrow.Author.Rules.{rules}
 use Rattle.records.proofs.writer.field_of.Goals as goal
 
 pub returns : goal.returns

@@ -1,6 +1,5 @@
 -- A field that is widened is the same number.
 use native.Mathlib.Omega.{arith}
-use borrow.Author.Rules.{rules}
 use Rattle.records.proofs.writer.fields_of.Goals as goal
 
 pub overflow_cast-result-9 : goal.overflow_cast-result-9

@@ -1,13 +1,12 @@
 -- Putting the fields from `k` on at `at`, where they begin, gives the whole.
 use Prim.Native.Nat.{suc, ◌+◌, ◌-◌, ◌≤◌}
-use mathlib.Core.Path.{◌≡◌, refl, ◌∙◌, sym}
+use mathlib.Core.Path.{refl, ◌∙◌, sym}
 use lib.ListN.{length}
 use native.Mathlib.Numerals.{add-one}
 use native.Mathlib.Omega.{arith}
 use borrow.Author.Rules.{rules}
-use Rattle.wire.specs.Regions.{splice}
 use Rattle.rules.specs.Basics.{total, counting}
-use Rattle.rules.specs.Requests.{field_count, offset, field_bytes}
+use Rattle.rules.specs.Requests.{field_count, offset}
 use Rattle.rules.proofs.Records.Fields.{offset_step, offset_grows}
 use Rattle.records.proofs.WritingLaws.{fields_put, fields_next}
 use Rattle.records.proofs.writer.put_fields.Goals as goal

@@ -1,12 +1,9 @@
 -- Putting what is left of the number from `p` on gives the whole.
-use Prim.Native.Nat.{◌+◌, ◌-◌, ◌≤◌}
-use mathlib.Core.Path.{◌≡◌, refl, ◌∙◌, sym}
-use lib.ListN.{length, length-set}
-use native.Mathlib.Omega.{arith}
-use borrow.Author.Rules.{rules}
+use Prim.Native.Nat.{◌+◌, ◌≤◌}
+use mathlib.Core.Path.{◌≡◌}
+use lib.ListN.{length}
 use Rattle.wire.specs.Numbers.{le}
 use Rattle.wire.specs.Regions.{splice}
-use Rattle.records.proofs.WritingLaws.{number_put, number-next}
 use Rattle.records.proofs.writer.put_number.Given as goal
 
 abbrev pub invariant-loop-left : goal.invariant-loop-left

@@ -4,7 +4,6 @@ use Rattle.rules.specs.Requests.{offset}
 use Rattle.rules.proofs.Checks.KindTables.{tables_agree}
 use Rattle.records.proofs.KindLaws.{single_is_kind}
 use Rattle.records.proofs.WritingLaws.{record_put}
-use borrow.Author.Rules.{rules}
 use Rattle.records.proofs.writer.put_record.Goals as goal
 
 pub wanted_map-wanted-requires : goal.wanted_map-wanted-requires

@@ -1,10 +1,8 @@
 -- Refusals 3 and 10 come first and leave the buffer alone.
 use mathlib.Core.Path.{◌∙◌, sym}
 use native.Mathlib.Omega.{arith}
-use borrow.Author.Tests.{not-true, not-false}
 use Rattle.records.proofs.KindLaws.{single_is_kind}
 use Rattle.records.proofs.WritingLaws.{writes_no_kind, writes_no_room, writes_record}
-use borrow.Author.Rules.{rules}
 use Rattle.records.proofs.writer.write.Goals as goal
 
 pub returns-then-not-is_single : goal.returns-then-not-is_single

@@ -1,6 +1,5 @@
 -- Each of the four sums takes its share of the trade.
 use Rattle.rules.specs.Registration.{after_trade}
-use borrow.Author.Rules.{rules}
 use Rattle.rules.proofs.AccountHour.after_trade.Goals as goal
 
 pub returns : goal.returns

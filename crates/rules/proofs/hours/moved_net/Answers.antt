@@ -1,6 +1,5 @@
 -- What the row moves for its buyer and for its seller is added.
 use mathlib.Core.Path.{◌∙◌}
-use borrow.Author.Rules.{rules}
 use Rattle.rules.proofs.hours.moved_net.Goals as goal
 
 pub returns : goal.returns

@@ -1,5 +1,4 @@
 -- By cases on the verdict.
-use borrow.Author.Rules.{rules}
 use Rattle.rules.proofs.verdicts.outcome_numbers.Goals as goal
 
 pub returns-in-Accepted : goal.returns-in-Accepted

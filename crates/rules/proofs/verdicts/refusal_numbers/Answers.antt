@@ -1,5 +1,4 @@
 -- By cases on the refusal: each arm of the code is the line of the table for that refusal.
-use borrow.Author.Rules.{rules}
 use Rattle.rules.proofs.verdicts.refusal_numbers.Goals as goal
 
 pub returns-in-NotABook : goal.returns-in-NotABook

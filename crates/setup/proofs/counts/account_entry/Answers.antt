@@ -1,7 +1,6 @@
 -- The widths of an account's fields add up to the width of its entry.
 use native.Mathlib.Omega.{arith}
 use Rattle.rules.specs.Opening.{account_entry}
-use borrow.Author.Rules.{rules}
 use Rattle.setup.proofs.counts.account_entry.Goals as goal
 
 pub returns : goal.returns

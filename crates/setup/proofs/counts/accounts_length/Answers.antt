@@ -2,7 +2,6 @@
 use Prim.Native.Nat.{◌^◌}
 use native.Mathlib.Omega.{arith}
 use Rattle.rules.proofs.Basics.Products.{no_longer}
-use borrow.Author.Rules.{rules}
 use Rattle.setup.proofs.counts.accounts_length.Goals as goal
 
 pub overflow_mul-result : goal.overflow_mul-result

@@ -5,7 +5,6 @@ use Rattle.rules.specs.declared.Counts.{Counts}
 use Rattle.rules.specs.Books.{Account}
 use Rattle.rules.specs.Opening.{setup_length, setup_of}
 use Rattle.rules.proofs.Setups.SetupEntries.{account_at, account_inside, account_numbered, account_wide}
-use borrow.Author.Rules.{rules}
 use Rattle.setup.proofs.entries.account_operator.Goals as goal
 
 pub get_u8-requires : goal.get_u8-requires

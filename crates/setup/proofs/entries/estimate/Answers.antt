@@ -2,7 +2,6 @@
 use mathlib.Core.Path.{refl}
 use Rattle.rules.specs.Opening.{estimates_in, price_width}
 use Rattle.rules.proofs.Setups.SetupEntries.{entry_by_number}
-use borrow.Author.Rules.{rules}
 use Rattle.setup.proofs.entries.estimate.Goals as goal
 
 pub returns : goal.returns

@@ -10,7 +10,6 @@ use Rattle.rules.specs.Books.{margins_at}
 use Rattle.rules.specs.Opening.{counts_in, setup_of, account_offset, setup_length, lower_offset, upper_offset, margin_width, margin_in}
 use Rattle.rules.proofs.Setups.SetupEntries.{margin_inside, margin_at, margins_at_lem}
 use Rattle.setup.specs.Faults.{Whole}
-use borrow.Author.Rules.{rules}
 use Rattle.setup.proofs.entries.margins.Goals as goal
 
 module _ (s : List ℕ) (n : Counts) (a h : ℕ) (same : n ≡ counts_in s) (own : Whole s × (1 ≤ a) × (a ≤ (counts_in s).accounts)) (hour : (1 ≤ h) × (h ≤ (counts_in s).hours))

@@ -3,7 +3,6 @@ use mathlib.Core.Path.{◌∙◌, ap}
 use native.Mathlib.Omega.{arith}
 use Rattle.rules.specs.Opening.{operators_in, operators_offset, operator_entry}
 use Rattle.rules.proofs.Setups.SetupEntries.{entry_by_number}
-use borrow.Author.Rules.{rules}
 use Rattle.setup.proofs.entries.operator.Goals as goal
 
 pub operator_at-requires : goal.operator_at-requires

@@ -3,7 +3,6 @@ use mathlib.Core.Path.{◌∙◌, ap}
 use native.Mathlib.Omega.{arith}
 use Rattle.rules.specs.Opening.{points_in, points_offset, point_entry}
 use Rattle.rules.proofs.Setups.SetupEntries.{entry_by_number}
-use borrow.Author.Rules.{rules}
 use Rattle.setup.proofs.entries.point.Goals as goal
 
 pub point_at-requires : goal.point_at-requires

@@ -1,6 +1,5 @@
 -- Each field is read from its own bytes of the entry.
 use Rattle.rules.proofs.Setups.SetupEntries.{point_at}
-use borrow.Author.Rules.{rules}
 use Rattle.setup.proofs.entries.point_at.Goals as goal
 
 pub returns : goal.returns

@@ -1,6 +1,5 @@
 -- The entry is one number.
 use Rattle.rules.proofs.Setups.SetupEntries.{price_at}
-use borrow.Author.Rules.{rules}
 use Rattle.setup.proofs.entries.price_at.Goals as goal
 
 pub returns : goal.returns

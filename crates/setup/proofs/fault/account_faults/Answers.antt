@@ -7,8 +7,7 @@ use Rattle.rules.specs.declared.Counts.{Counts}
 use Rattle.rules.specs.Basics.{entries}
 use Rattle.rules.specs.Opening.{account_in, accounts_offset, accounts_in, account_values, values_of, account_entry}
 use Rattle.setup.specs.Faults.{first_fault, account_faults}
-use Rattle.setup.proofs.FaultLaws.{EntriesLeft, none_left, first_inside, first_clear, first_fails, at_counts}
-use borrow.Author.Rules.{rules}
+use Rattle.setup.proofs.FaultLaws.{none_left, first_inside, first_clear, first_fails, at_counts}
 use Rattle.setup.proofs.fault.account_faults.Goals as goal
 
 pub loop-left-init : goal.loop-left-init

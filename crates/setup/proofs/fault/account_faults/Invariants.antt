@@ -1,14 +1,7 @@
 -- An account without a fault is passed over, and the first with one decides.
-use Prim.Native.Nat.{ℕ, ◌-◌}
-use lib.ListN.{drop}
-use mathlib.Core.Path.{refl}
-use native.Mathlib.Omega.{arith}
-use Rattle.rules.specs.declared.Counts.{Counts}
-use Rattle.rules.specs.Basics.{entries}
-use Rattle.rules.specs.Opening.{account_in, accounts_offset, accounts_in, account_values, values_of, account_entry}
-use Rattle.setup.specs.Faults.{first_fault, account_faults}
-use Rattle.setup.proofs.FaultLaws.{EntriesLeft, none_left, first_inside, first_clear, first_fails, at_counts}
-use borrow.Author.Rules.{rules}
+use Rattle.rules.specs.Opening.{account_in, account_values, account_entry}
+use Rattle.setup.specs.Faults.{account_faults}
+use Rattle.setup.proofs.FaultLaws.{EntriesLeft}
 use Rattle.setup.proofs.fault.account_faults.Given as goal
 
 abbrev pub invariant-loop-left : goal.invariant-loop-left

@@ -7,7 +7,7 @@ use Rattle.rules.specs.declared.Counts.{Counts}
 use Rattle.rules.specs.Basics.{entries}
 use Rattle.rules.specs.Opening.{price_in, estimates_in, estimate_values, values_of, price_width, estimates_offset}
 use Rattle.setup.specs.Faults.{first_fault, estimate_faults}
-use Rattle.setup.proofs.FaultLaws.{EntriesLeft, none_left, first_clear, first_fails}
+use Rattle.setup.proofs.FaultLaws.{none_left, first_clear, first_fails}
 use borrow.Author.Rules.{rules}
 use Rattle.setup.proofs.fault.estimate_faults.Goals as goal
 

@@ -2,7 +2,6 @@
 use mathlib.Core.Path.{sym, ◌∙◌}
 use Rattle.rules.proofs.Setups.SetupShape.{shape_of}
 use Rattle.setup.proofs.FaultLaws.{shaped, refused_shape, refused_value}
-use borrow.Author.Rules.{rules}
 use Rattle.setup.proofs.fault.fault.Goals as goal
 
 pub returns-then-misshapen : goal.returns-then-misshapen

@@ -6,7 +6,7 @@ use Rattle.rules.specs.declared.Counts.{Counts}
 use Rattle.rules.specs.Basics.{entries}
 use Rattle.rules.specs.Opening.{operator_in, operators_offset, operators_in, operator_values, values_of, operator_entry}
 use Rattle.setup.specs.Faults.{first_fault, operator_faults}
-use Rattle.setup.proofs.FaultLaws.{EntriesLeft, none_left, first_clear, first_fails, at_counts}
+use Rattle.setup.proofs.FaultLaws.{none_left, first_clear, first_fails, at_counts}
 use borrow.Author.Rules.{rules}
 use Rattle.setup.proofs.fault.operator_faults.Goals as goal
 

@@ -6,7 +6,7 @@ use Rattle.rules.specs.declared.Counts.{Counts}
 use Rattle.rules.specs.Basics.{entries}
 use Rattle.rules.specs.Opening.{point_in, points_offset, accounts_in, points_in, point_values, values_of, point_entry}
 use Rattle.setup.specs.Faults.{first_fault, point_faults}
-use Rattle.setup.proofs.FaultLaws.{EntriesLeft, none_left, first_clear, first_fails, at_counts}
+use Rattle.setup.proofs.FaultLaws.{none_left, first_clear, first_fails, at_counts}
 use borrow.Author.Rules.{rules}
 use Rattle.setup.proofs.fault.point_faults.Goals as goal
 

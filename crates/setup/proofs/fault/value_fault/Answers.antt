@@ -1,6 +1,5 @@
 -- The first of the four lists that has a fault decides.
 use Rattle.setup.proofs.FaultLaws.{list_by_list}
-use borrow.Author.Rules.{rules}
 use Rattle.setup.proofs.fault.value_fault.Goals as goal
 
 pub returns : goal.returns

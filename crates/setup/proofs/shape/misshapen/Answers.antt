@@ -1,7 +1,6 @@
 -- Under 5 bytes there are no counts to read; else the tests are those of the definition.
 use borrow.Author.Tests.{lt-ltb, le-ltb}
 use Rattle.rules.specs.Opening.{misshapen}
-use borrow.Author.Rules.{rules}
 use Rattle.setup.proofs.shape.misshapen.Goals as goal
 
 pub returns-then-setup-lt-COUNTS_WIDTH : goal.returns-then-setup-lt-COUNTS_WIDTH

@@ -3,7 +3,6 @@ use mathlib.Core.Path.{sym}
 use native.Mathlib.Omega.{arith}
 use Rattle.rules.proofs.Setups.SetupEntries.{account_wide}
 use Rattle.setup.proofs.FaultLaws.{account_judged}
-use borrow.Author.Rules.{rules}
 use Rattle.setup.proofs.values.account_fault.Goals as goal
 
 pub get_u8-operator-requires : goal.get_u8-operator-requires

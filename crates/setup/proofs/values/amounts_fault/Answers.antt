@@ -1,6 +1,5 @@
 -- The two values are judged in the order of their offsets.
 use Rattle.setup.specs.Faults.{first_fault_from}
-use borrow.Author.Rules.{rules}
 use Rattle.setup.proofs.values.amounts_fault.Goals as goal
 
 pub returns : goal.returns

@@ -3,7 +3,6 @@ use mathlib.Core.Path.{◌∙◌, ap, sym}
 use native.Mathlib.Omega.{arith}
 use Rattle.rules.specs.Books.{Account}
 use Rattle.rules.proofs.Setups.SetupEntries.{account_at, account_wide, account_inside, account_numbered, no_account_zero, no_account_past}
-use borrow.Author.Rules.{rules}
 use Rattle.setup.proofs.values.kind_of.Goals as goal
 
 pub returns-then-number-lt1 : goal.returns-then-number-lt1

@@ -2,9 +2,8 @@
 use Prim.Native.Nat.{◌-◌}
 use mathlib.Core.Path.{refl}
 use native.Mathlib.Omega.{arith}
-use Rattle.rules.specs.Opening.{margin_in, margin_values, margin_width}
 use Rattle.setup.specs.Faults.{margin_faults}
-use Rattle.setup.proofs.FaultLaws.{EntriesLeft, none_left, first_clear, first_fails, no_margin_fault}
+use Rattle.setup.proofs.FaultLaws.{none_left, first_clear, first_fails, no_margin_fault}
 use borrow.Author.Rules.{rules}
 use Rattle.setup.proofs.values.margin_faults.Goals as goal
 

@@ -1,11 +1,7 @@
 -- Where all are in range none is at fault. Else a margin without a fault is passed over, and the first with one decides.
-use Prim.Native.Nat.{◌-◌}
-use mathlib.Core.Path.{refl}
-use native.Mathlib.Omega.{arith}
 use Rattle.rules.specs.Opening.{margin_in, margin_values, margin_width}
 use Rattle.setup.specs.Faults.{margin_faults}
-use Rattle.setup.proofs.FaultLaws.{EntriesLeft, none_left, first_clear, first_fails, no_margin_fault}
-use borrow.Author.Rules.{rules}
+use Rattle.setup.proofs.FaultLaws.{EntriesLeft}
 use Rattle.setup.proofs.values.margin_faults.Given as goal
 
 abbrev pub invariant-loop-left : goal.invariant-loop-left

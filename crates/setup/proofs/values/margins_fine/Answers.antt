@@ -2,8 +2,7 @@
 use Prim.Native.Nat.{◌-◌}
 use mathlib.Core.Path.{refl}
 use native.Mathlib.Omega.{arith}
-use Rattle.setup.specs.Faults.{margins_fine}
-use Rattle.setup.proofs.FaultLaws.{MarginsLeft, all_margins_left, no_margins_left, margin_tested}
+use Rattle.setup.proofs.FaultLaws.{all_margins_left, no_margins_left, margin_tested}
 use borrow.Author.Rules.{rules}
 use Rattle.setup.proofs.values.margins_fine.Goals as goal
 

@@ -1,10 +1,6 @@
 -- Those tested so far and those that are left come to what all come to.
-use Prim.Native.Nat.{◌-◌}
-use mathlib.Core.Path.{refl}
-use native.Mathlib.Omega.{arith}
 use Rattle.setup.specs.Faults.{margins_fine}
-use Rattle.setup.proofs.FaultLaws.{MarginsLeft, all_margins_left, no_margins_left, margin_tested}
-use borrow.Author.Rules.{rules}
+use Rattle.setup.proofs.FaultLaws.{MarginsLeft}
 use Rattle.setup.proofs.values.margins_fine.Given as goal
 
 abbrev pub invariant-loop-left : goal.invariant-loop-left

@@ -1,7 +1,6 @@
 -- The two values are judged in the order of their offsets.
 use Rattle.rules.specs.Opening.{operator_values}
 use Rattle.setup.specs.Faults.{first_fault_from}
-use borrow.Author.Rules.{rules}
 use Rattle.setup.proofs.values.operator_fault.Goals as goal
 
 pub returns : goal.returns

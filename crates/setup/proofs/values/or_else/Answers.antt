@@ -1,6 +1,5 @@
 -- It is the first where that fails, and otherwise the second.
 use Rattle.setup.specs.Faults.{or_else}
-use borrow.Author.Rules.{rules}
 use Rattle.setup.proofs.values.or_else.Goals as goal
 
 pub returns-in-Clear : goal.returns-in-Clear

@@ -1,6 +1,5 @@
 -- A value in range changes nothing; one out of range counts where nothing was found before it.
 use Rattle.setup.proofs.FaultLaws.{in_range_lem, out_of_range}
-use borrow.Author.Rules.{rules}
 use Rattle.setup.proofs.values.or_fault.Goals as goal
 
 pub returns-then-fine : goal.returns-then-fine

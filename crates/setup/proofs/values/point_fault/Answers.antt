@@ -5,7 +5,6 @@ use Rattle.rules.proofs.Setups.SetupEntries.{length_accounts}
 use native.Mathlib.Omega.{arith}
 use Rattle.rules.specs.Opening.{point_values}
 use Rattle.setup.specs.Faults.{first_fault_from}
-use borrow.Author.Rules.{rules}
 use Rattle.setup.proofs.values.point_fault.Goals as goal
 
 pub or_fault-account-requires : goal.or_fault-account-requires

@@ -1,19 +1,13 @@
 -- What a pass finds among all rows is what it finds among those that are left.
-use Prim.Native.Nat.{◌+◌, ◌-◌, ◌*◌, ◌≤◌}
-use mathlib.Core.Path.{◌≡◌, refl, sym, ap, ◌∙◌}
+use Prim.Native.Nat.{◌+◌, ◌*◌, ◌≤◌}
+use mathlib.Core.Path.{◌≡◌}
 use mathlib.Core.List.{map}
-use mathlib.Core.Option.{none, some}
-use native.Mathlib.Omega.{arith}
 use lib.ListN.{length}
 use Rattle.rules.specs.Basics.{Each}
-use Rattle.rules.specs.Verdicts.{first_to_apply, checked}
+use Rattle.rules.specs.Verdicts.{first_to_apply}
 use Rattle.rules.specs.Requests.{row_length}
-use Rattle.rules.proofs.Checks.Clearing.{checked-same}
 use Rattle.strip_rows.specs.Rows.{rows_from}
 use Rattle.strip_rows.specs.Passes.{row_check, PassWants}
-use Rattle.strip_rows.proofs.RowsFrom.{rows_split, row_length_lem, part_row}
-use Rattle.strip_rows.proofs.Passes.{pass_done, pass_here, pass_next}
-use borrow.Author.Rules.{rules}
 use Rattle.strip_rows.proofs.record.first_row_fault.Given as goal
 
 abbrev pub invariant-loop-left : goal.invariant-loop-left

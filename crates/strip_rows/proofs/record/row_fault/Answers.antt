@@ -1,6 +1,5 @@
 -- Each pass is its own check.
 use mathlib.Core.Path.{refl}
-use borrow.Author.Rules.{rules}
 use Rattle.strip_rows.proofs.record.row_fault.Goals as goal
 
 pub map_fault-requires : goal.map_fault-requires

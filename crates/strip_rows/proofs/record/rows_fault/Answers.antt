@@ -5,7 +5,6 @@ use Rattle.rules.specs.Verdicts.{checked}
 use Rattle.rules.proofs.Basics.Searches.{each_any}
 use Rattle.rules.proofs.Checks.Clearing.{checked-same}
 use Rattle.strip_rows.proofs.Passes.{found_2, found_3, found_4, rows_readable}
-use borrow.Author.Rules.{rules}
 use Rattle.strip_rows.proofs.record.rows_fault.Goals as goal
 
 pub first_row_fault-requires : goal.first_row_fault-requires

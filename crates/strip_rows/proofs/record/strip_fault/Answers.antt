@@ -10,7 +10,6 @@ use Rattle.rules.specs.Verdicts.{applies, checked}
 use Rattle.rules.specs.Requests.{kind_number, strip, head_length, row_length, strip_count, unreadable, map_check}
 use Rattle.rules.proofs.Checks.Clearing.{checked-same}
 use Rattle.strip_rows.proofs.StripLaws.{head_short, count_outside, fails_2, fails_4, fails_5, fails_21, rows_decide}
-use borrow.Author.Rules.{rules}
 use Rattle.strip_rows.proofs.record.strip_fault.Goals as goal
 
 pub returns-then-no_map : goal.returns-then-no_map

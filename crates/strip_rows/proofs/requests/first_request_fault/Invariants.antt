@@ -1,17 +1,11 @@
 -- What the check of all requests comes to is what that of the requests left comes to.
 use Prim.Native.Nat.{◌+◌, ◌-◌, ◌*◌, ◌≤◌}
-use mathlib.Core.Path.{◌≡◌, refl, sym, ap, ◌∙◌}
+use mathlib.Core.Path.{◌≡◌}
 use mathlib.Core.List.{map}
-use mathlib.Core.Option.{none, some}
-use native.Mathlib.Omega.{arith}
-use borrow.Author.Rules.{rules}
 use Rattle.rules.specs.Requests.{row_length}
-use Rattle.rules.specs.Verdicts.{first_to_apply, checked}
-use Rattle.rules.proofs.Checks.Clearing.{checked-same}
-use Rattle.records.proofs.ReadingLaws.{check_here, check_next}
+use Rattle.rules.specs.Verdicts.{first_to_apply}
 use Rattle.strip_rows.specs.Rows.{requests_from, RegisterRows}
 use Rattle.strip_rows.specs.Passes.{request_check}
-use Rattle.strip_rows.proofs.RowSteps.{register_kind, any_register, requests_step, requests_done}
 use Rattle.strip_rows.proofs.requests.first_request_fault.Given as goal
 
 abbrev pub invariant-loop-left : goal.invariant-loop-left

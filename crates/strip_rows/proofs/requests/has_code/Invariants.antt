@@ -1,13 +1,8 @@
 -- Whether one of all rows has the code is whether one of those left has it.
-use Prim.Native.Nat.{◌-◌}
-use mathlib.Core.Path.{◌≡◌, refl, sym, ◌∙◌}
-use native.Mathlib.Omega.{arith}
-use borrow.Author.Rules.{rules}
+use mathlib.Core.Path.{◌≡◌}
 use Rattle.rules.specs.Basics.{any_passes}
 use Rattle.rules.specs.Registration.{of_code}
-use Rattle.rules.proofs.Basics.Searches.{any_step}
 use Rattle.strip_rows.specs.Rows.{requests_from, RegisterRows}
-use Rattle.strip_rows.proofs.RowSteps.{first_register, other_registers, requests_step, requests_done}
 use Rattle.strip_rows.proofs.requests.has_code.Given as goal
 
 abbrev pub invariant-loop-left : goal.invariant-loop-left

@@ -1,10 +1,8 @@
 -- Whether two of all rows are alike is whether two of those left are, where no row passed has its code among those behind it.
 use Prim.Native.Nat.{◌-◌}
-use mathlib.Core.Path.{◌≡◌, refl, sym, ◌∙◌}
+use mathlib.Core.Path.{refl, sym, ◌∙◌}
 use native.Mathlib.Omega.{arith}
-use borrow.Author.Rules.{rules}
 use Rattle.rules.specs.Registration.{twins}
-use Rattle.strip_rows.specs.Rows.{requests_from, RegisterRows}
 use Rattle.strip_rows.proofs.RowSteps.{first_register, other_registers, requests_step, requests_done}
 use Rattle.strip_rows.proofs.RequestLaws.{twins_here, twins_next}
 use Rattle.strip_rows.proofs.requests.has_twins.Goals as goal

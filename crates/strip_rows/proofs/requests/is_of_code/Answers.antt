@@ -1,5 +1,4 @@
 -- The code decides where it differs, and else the counterparty.
-use borrow.Author.Rules.{rules}
 use Rattle.strip_rows.proofs.RequestLaws.{code_differs, code_agrees}
 use Rattle.strip_rows.proofs.requests.is_of_code.Goals as goal
 

@@ -1,6 +1,5 @@
 -- Each pass is its own check.
 use mathlib.Core.Path.{◌∙◌}
-use borrow.Author.Rules.{rules}
 use Rattle.rules.specs.declared.Refusal.TheVariants.{OutOfRange}
 use Rattle.rules.specs.Verdicts.{◌⇒↑◌, applies}
 use Rattle.rules.specs.Requests.{faulty_bit}

@@ -2,7 +2,6 @@
 use Prim.Native.Nat.{◌-◌}
 use mathlib.Core.Path.{◌≡◌, ap}
 use native.Mathlib.Omega.{arith}
-use borrow.Author.Rules.{rules}
 use Rattle.rules.specs.declared.Request.{Request}
 use Rattle.rules.specs.Requests.{head_length, first_of}
 use Rattle.strip_rows.specs.Rows.{requests_from}

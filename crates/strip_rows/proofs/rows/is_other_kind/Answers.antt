@@ -3,7 +3,6 @@ use mathlib.Core.Path.{sym, ◌∙◌}
 use Rattle.rules.specs.Requests.{map_of}
 use Rattle.rules.proofs.Records.Fields.{field_in_absent}
 use Rattle.records.proofs.ReadingLaws.{kind_there}
-use borrow.Author.Rules.{rules}
 use Rattle.strip_rows.proofs.rows.is_other_kind.Goals as goal
 
 pub returns-then-has_field : goal.returns-then-has_field

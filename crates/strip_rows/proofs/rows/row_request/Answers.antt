@@ -1,6 +1,5 @@
 -- With the map of a register each field stands at a fixed place.
 use Rattle.strip_rows.proofs.RowLaws.{register_says}
-use borrow.Author.Rules.{rules}
 use Rattle.strip_rows.proofs.rows.row_request.Goals as goal
 
 pub returns : goal.returns

@@ -1,6 +1,5 @@
 -- The exposure with the rows in is what stands and what the rows add, and it is tested as any exposure.
 use mathlib.Core.Path.{◌∙◌}
-use borrow.Author.Rules.{rules}
 use Rattle.wire.proofs.NumberLaws.{bytes_known}
 use Rattle.rules.specs.Basics.{nil}
 use Rattle.strips.proofs.ReadyLaws.{proposer_known}

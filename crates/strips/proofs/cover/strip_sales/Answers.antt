@@ -1,22 +1,12 @@
 -- The sum so far, and what the rows that are left add, make what all rows add.
-use Prim.Native.Nat.{◌+◌, ◌-◌, ◌*◌, ◌≤◌}
-use mathlib.Core.Path.{◌≡◌}
+use Prim.Native.Nat.{◌-◌}
 use native.Mathlib.Nat.{zero-add}
 use native.Mathlib.Omega.{arith}
-use borrow.Author.Rules.{rules}
 use Rattle.wire.proofs.NumberLaws.{bytes_known}
-use Rattle.rules.specs.Basics.{total, Each}
-use Rattle.rules.specs.Limits.{most_strip}
-use Rattle.rules.specs.Registration.{proposed}
-use Rattle.image.specs.Valid.{book_in}
-use Rattle.image.proofs.Sound.Soundness.{SoundRow}
-use Rattle.book.specs.Worth.{sale_worth, most_sale_worth}
 use Rattle.book.proofs.WorthParts.{sound_row_in_range}
-use Rattle.strip_rows.specs.Rows.{requests_from, RegisterRows}
 use Rattle.strip_rows.proofs.RowSteps.{first_register, other_registers}
-use Rattle.strips.specs.Ready.{proposed_rows}
 use Rattle.strips.proofs.ReadyLaws.{ready_sound}
-use Rattle.strips.proofs.LoopLaws.{proposed_from, first_has, sum_step, sum_done}
+use Rattle.strips.proofs.LoopLaws.{first_has, sum_step, sum_done}
 use Rattle.strips.proofs.cover.strip_sales.Goals as goal
 
 pub loop-left-init : goal.loop-left-init

@@ -1,16 +1,12 @@
 -- The search over all hours is that over the hours that are left, whatever pending rows the table has beside those of the book.
-use Prim.Native.Nat.{◌+◌, ◌-◌, ◌≤◌}
 use mathlib.Core.Path.{◌≡◌, ◌∙◌, sym, ap}
 use mathlib.Core.Bool.{true, not}
 use mathlib.Core.List.{List, ◌++◌}
 use native.Mathlib.Omega.{arith}
-use borrow.Author.Rules.{rules}
 use Rattle.rules.specs.declared.Counts.{Counts}
 use Rattle.rules.specs.declared.Row.{Row}
-use Rattle.rules.specs.Basics.{find, counting, Each}
-use Rattle.rules.specs.Limits.{most_hours}
-use Rattle.rules.specs.Books.{periods}
-use Rattle.rules.specs.Registration.{pending, broken_by}
+use Rattle.rules.specs.Basics.{Each}
+use Rattle.rules.specs.Registration.{pending}
 use Rattle.image.specs.Valid.{book_in}
 use Rattle.book.specs.Waits.{WaitsOf}
 use Rattle.book.proofs.StateLaws.{book_length}

@@ -1,11 +1,8 @@
 -- The search over all hours is that over the hours that are left, whatever pending rows the table has beside those of the book.
 use Prim.Native.Nat.{◌+◌, ◌-◌, ◌≤◌}
-use mathlib.Core.Path.{◌≡◌, ◌∙◌, sym, ap}
-use mathlib.Core.Bool.{true, not}
+use mathlib.Core.Path.{◌≡◌}
+use mathlib.Core.Bool.{true}
 use mathlib.Core.List.{List, ◌++◌}
-use native.Mathlib.Omega.{arith}
-use borrow.Author.Rules.{rules}
-use Rattle.rules.specs.declared.Counts.{Counts}
 use Rattle.rules.specs.declared.Row.{Row}
 use Rattle.rules.specs.Basics.{find, counting, Each}
 use Rattle.rules.specs.Limits.{most_hours}
@@ -13,11 +10,7 @@ use Rattle.rules.specs.Books.{periods}
 use Rattle.rules.specs.Registration.{pending, broken_by}
 use Rattle.image.specs.Valid.{book_in}
 use Rattle.book.specs.Waits.{WaitsOf}
-use Rattle.book.proofs.StateLaws.{book_length}
-use Rattle.book.proofs.BookRows.{setup_tabled, counts_in_lem, margins_read, accounts_read, hours_few}
-use Rattle.registration.specs.Margins.{broken}
-use Rattle.registration.proofs.SearchLaws.{find_done, find_here, find_next}
-use Rattle.registration.proofs.MarginLaws.{breaks_with, broken_by_hours, breaks_with_tested}
+use Rattle.registration.proofs.MarginLaws.{breaks_with}
 use Rattle.strips.proofs.margins.broken_with.Given as goal
 
 abbrev pub invariant-loop-hour : goal.invariant-loop-hour

@@ -1,15 +1,12 @@
 -- The rows appended so far, and those that are left appended after them, make all rows appended.
-use Prim.Native.Nat.{◌+◌, ◌-◌, ◌≤◌}
-use mathlib.Core.Path.{◌≡◌, refl}
-use native.Mathlib.Omega.{arith}
+use Prim.Native.Nat.{◌+◌, ◌≤◌}
+use mathlib.Core.Path.{◌≡◌}
 use lib.ListN.{length}
-use borrow.Author.Rules.{rules}
 use Rattle.rules.specs.Limits.{most_rows, book_size}
 use Rattle.registration.specs.Proposing.{rows_appended}
 use Rattle.strip_rows.specs.Rows.{RegisterRows}
-use Rattle.strip_rows.proofs.RowSteps.{first_register, other_registers}
 use Rattle.strips.specs.Ready.{proposed_rows}
-use Rattle.strips.proofs.LoopLaws.{proposed_from, append-step, append_done}
+use Rattle.strips.proofs.LoopLaws.{proposed_from}
 use Rattle.strips.proofs.rows.append_rows.Given as goal
 
 abbrev pub invariant-loop-left : goal.invariant-loop-left

@@ -1,7 +1,6 @@
 -- The first byte of a row is its proposer and the last its status; of a pending row of the account its counterparty and code decide.
 use mathlib.Core.Path.{◌∙◌, sym}
 use native.Mathlib.Omega.{arith}
-use borrow.Author.Rules.{rules}
 use Rattle.book.proofs.StateLaws.{book_length, row_count_high, numbered_row_stands}
 use Rattle.book.proofs.WaitLaws.{own_stands}
 use Rattle.strips.proofs.StandingLaws.{others_none, ended_none, own_among}

@@ -1,6 +1,5 @@
 -- The rows that are appended make the changed book, and there is a number for each.
 use native.Mathlib.Omega.{arith}
-use borrow.Author.Rules.{rules}
 use Rattle.wire.proofs.NumberLaws.{bytes_known}
 use Rattle.book.proofs.StateLaws.{book_length}
 use Rattle.strips.proofs.AcceptLaws.{room_for_all, strip-accepted}

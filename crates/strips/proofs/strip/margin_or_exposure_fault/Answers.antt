@@ -4,7 +4,6 @@ use Rattle.rules.specs.Registration.{broken_by}
 use Rattle.image.specs.Valid.{book_in}
 use Rattle.registration.specs.Margins.{broken}
 use Rattle.strips.specs.Ready.{strip_requests, proposed_rows, proposer}
-use borrow.Author.Rules.{rules}
 use Rattle.wire.proofs.NumberLaws.{bytes_known}
 use Rattle.strips.proofs.ReadyLaws.{proposer_known, proposed-pending}
 use Rattle.strips.proofs.DecidingLaws.{margin_decides, covered_decides, uncovered_decides}

@@ -1,26 +1,18 @@
 -- What the table holds, and the pending sums of the strip's rows that are left, make those of the book's rows and all rows of the strip.
 use Prim.Native.Nat.{◌+◌, ◌-◌, ◌*◌, ◌≤◌}
-use mathlib.Core.Path.{◌≡◌, refl, ap, ◌∙◌}
+use mathlib.Core.Path.{◌≡◌}
 use mathlib.Core.List.{◌++◌, map}
-use native.Mathlib.Omega.{arith}
-use lib.ListN.{length, length-append, length-map}
-use borrow.Author.Rules.{rules}
-use Rattle.wire.proofs.NumberLaws.{bytes_known}
-use Rattle.rules.specs.declared.Request.{Request}
+use lib.ListN.{length}
 use Rattle.rules.specs.Basics.{Each}
 use Rattle.rules.specs.Limits.{most_energy, most_rows, most_strip}
 use Rattle.rules.specs.Requests.{head_length, row_length}
 use Rattle.rules.specs.Registration.{proposed}
 use Rattle.image.specs.Valid.{book_in}
 use Rattle.book.specs.Waits.{waits_size}
-use Rattle.book.proofs.WaitLaws.{Waiting, length-no_waits, waits_with, waits_next, waits_all, added_own}
-use Rattle.book.proofs.StateLaws.{book_is_sound, row_count_high}
-use Rattle.book.proofs.BookRows.{sound_tabled}
+use Rattle.book.proofs.WaitLaws.{Waiting}
 use Rattle.strip_rows.specs.Rows.{requests_from, RegisterRows}
-use Rattle.strip_rows.proofs.RowSteps.{first_register, any_register, first_request, requests_step, requests_done}
-use Rattle.strips.specs.Ready.{proposer, proposed_rows, strip_requests}
-use Rattle.strips.proofs.ReadyLaws.{OwnRow, ready_rows, requests_length}
-use Rattle.strips.proofs.LoopLaws.{first_has}
+use Rattle.strips.specs.Ready.{proposer, proposed_rows}
+use Rattle.strips.proofs.ReadyLaws.{OwnRow}
 use Rattle.strips.proofs.waits.fill_all_waits.Given as goal
 
 abbrev pub invariant-loop-left : goal.invariant-loop-left

@@ -1,14 +1,11 @@
 -- After each hour, the sum so far and the exposure of the hours that are left together are that of all hours.
-use Prim.Native.Nat.{ℕ, ◌+◌, ◌-◌, ◌*◌, ◌≤◌}
-use mathlib.Core.Path.{◌≡◌, ◌∙◌, sym, ap}
+use Prim.Native.Nat.{ℕ, ◌+◌}
+use mathlib.Core.Path.{◌∙◌, sym, ap}
 use native.Mathlib.Omega.{arith}
 use borrow.Author.Rules.{rules}
 use Rattle.rules.specs.declared.Counts.{Counts}
-use Rattle.rules.specs.Basics.{total, counting}
-use Rattle.rules.specs.Opening.{counts_in}
 use Rattle.rules.proofs.Basics.CountingLaws.{sum_begins, sum_next, sum_done}
-use Rattle.tables.specs.Sums.{ForRowsSummedIn, most_hour_exposure}
-use Rattle.tables.proofs.ExposureLaws.{hour_exposure, hour_exposure_read, exposure_by_hour, estimate_small}
+use Rattle.tables.proofs.ExposureLaws.{hour_exposure_read, exposure_by_hour, estimate_small}
 use Rattle.tables.proofs.exposure.account_exposure.Goals as goal
 
 pub loop-hour-init : goal.loop-hour-init

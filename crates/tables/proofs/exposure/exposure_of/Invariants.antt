@@ -1,14 +1,9 @@
 -- After each account, the sum so far and what the accounts that are left add together are the operator's exposure.
-use Prim.Native.Nat.{ℕ, ◌+◌, ◌-◌, ◌*◌, ◌≤◌}
-use mathlib.Core.Path.{◌≡◌, ◌∙◌, sym, ap}
-use native.Mathlib.Omega.{arith}
-use borrow.Author.Rules.{rules}
-use Rattle.rules.specs.declared.Counts.{Counts}
+use Prim.Native.Nat.{◌+◌, ◌-◌, ◌*◌, ◌≤◌}
+use mathlib.Core.Path.{◌≡◌}
 use Rattle.rules.specs.Basics.{total, counting}
 use Rattle.rules.specs.Opening.{counts_in, setup_of}
-use Rattle.rules.proofs.Basics.CountingLaws.{sum_begins, sum_next, sum_done}
 use Rattle.tables.specs.Sums.{ForRowsSummedIn, exposure_share, most_account_exposure}
-use Rattle.tables.proofs.ExposureLaws.{exposure_by_account}
 use Rattle.tables.proofs.exposure.exposure_of.Given as goal
 
 abbrev pub invariant-loop-number : goal.invariant-loop-number

@@ -2,7 +2,6 @@
 use native.Mathlib.Omega.{arith}
 use Rattle.image.proofs.Tables.MoneyLaws.{price_bounded}
 use Rattle.tables.proofs.ExposureLaws.{price_joined}
-use borrow.Author.Rules.{rules}
 use Rattle.tables.proofs.exposure.hour_exposure.Goals as goal
 
 pub plus-requires : goal.plus-requires

@@ -1,15 +1,10 @@
 -- The first account that breaks a margin decides; where none was found, all keep them if those that are left do.
 use Prim.Native.Nat.{◌+◌, ◌-◌, ◌≤◌}
-use mathlib.Core.Path.{◌≡◌, ◌∙◌, sym, ap}
-use native.Mathlib.Omega.{arith}
-use borrow.Author.Rules.{rules}
-use Rattle.rules.specs.declared.Counts.{Counts}
+use mathlib.Core.Path.{◌≡◌}
 use Rattle.rules.specs.Basics.{every, counting}
 use Rattle.rules.specs.Opening.{counts_in, setup_of}
-use Rattle.rules.proofs.Basics.CountingLaws.{every_done, every_next, every_fails, every_same}
 use Rattle.image.specs.Valid.{account_keeps, margins_kept}
 use Rattle.tables.specs.Sums.{ForRowsSummedIn}
-use Rattle.tables.proofs.MarginLaws.{margins_by_account}
 use Rattle.tables.proofs.margins.margins_kept.Given as goal
 
 abbrev pub invariant-loop-number : goal.invariant-loop-number

@@ -1,6 +1,5 @@
 -- Each of the four sums is read from its own lane.
 use mathlib.Core.Path.{◌∙◌}
-use borrow.Author.Rules.{rules}
 use Rattle.tables.proofs.sums.account_hour.Goals as goal
 
 pub returns : goal.returns

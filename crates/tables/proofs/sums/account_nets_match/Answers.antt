@@ -1,11 +1,8 @@
 -- The first hour whose net position differs decides; where none was found, all agree if those that are left do.
-use Prim.Native.Nat.{◌+◌, ◌-◌, ◌≤◌}
-use mathlib.Core.Path.{◌≡◌, ◌∙◌, sym}
+use mathlib.Core.Path.{◌∙◌, sym}
 use native.Mathlib.Omega.{arith}
 use borrow.Author.Rules.{rules}
-use Rattle.rules.specs.Basics.{every, counting}
 use Rattle.rules.proofs.Basics.CountingLaws.{every_done, every_next, every_fails, every_same}
-use Rattle.tables.specs.Sums.{net_stored}
 use Rattle.tables.proofs.sums.account_nets_match.Goals as goal
 
 pub loop-hour-init : goal.loop-hour-init

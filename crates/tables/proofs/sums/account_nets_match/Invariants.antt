@@ -1,10 +1,7 @@
 -- The first hour whose net position differs decides; where none was found, all agree if those that are left do.
 use Prim.Native.Nat.{◌+◌, ◌-◌, ◌≤◌}
-use mathlib.Core.Path.{◌≡◌, ◌∙◌, sym}
-use native.Mathlib.Omega.{arith}
-use borrow.Author.Rules.{rules}
+use mathlib.Core.Path.{◌≡◌}
 use Rattle.rules.specs.Basics.{every, counting}
-use Rattle.rules.proofs.Basics.CountingLaws.{every_done, every_next, every_fails, every_same}
 use Rattle.tables.specs.Sums.{net_stored}
 use Rattle.tables.proofs.sums.account_nets_match.Given as goal
 

@@ -1,6 +1,5 @@
 -- The row's status says to which lanes it is added.
 use Rattle.tables.proofs.ShareLaws.{added_idle}
-use borrow.Author.Rules.{rules}
 use Rattle.tables.proofs.sums.add_row.Goals as goal
 
 pub returns-else-r-eq-PENDING : goal.returns-else-r-eq-PENDING

@@ -1,7 +1,6 @@
 -- The product is that of the slot, and the slot's cells are in the table.
 use native.Mathlib.Omega.{arith}
 use Rattle.image.proofs.Tables.SumLaws.{cell_fits}
-use borrow.Author.Rules.{rules}
 use Rattle.tables.proofs.sums.cell.Goals as goal
 
 pub overflow_mul-result-2 : goal.overflow_mul-result-2

@@ -1,11 +1,9 @@
 -- After i steps the first i cells hold nothing.
-use Prim.Native.Nat.{◌-◌, ◌≤◌}
-use mathlib.Core.Path.{◌≡◌}
 use native.Mathlib.Omega.{arith}
-use lib.ListN.{length, length-set}
+use lib.ListN.{length-set}
 use borrow.Author.Rules.{rules}
 use Rattle.rules.specs.Limits.{most_hours}
-use Rattle.tables.proofs.FillLaws.{ClearedTo, cleared_next, cleared_none}
+use Rattle.tables.proofs.FillLaws.{cleared_next, cleared_none}
 use Rattle.tables.proofs.sums.clear.Goals as goal
 
 pub loop-i-init : goal.loop-i-init

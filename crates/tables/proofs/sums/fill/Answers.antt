@@ -1,17 +1,11 @@
 -- After each row, what the table holds and the sums of the rows that are left together are the sums of all rows.
-use Prim.Native.Nat.{◌+◌, ◌-◌, ◌*◌, ◌≤◌}
-use mathlib.Core.Path.{◌≡◌}
+use Prim.Native.Nat.{◌-◌}
 use native.Mathlib.Omega.{arith}
-use lib.ListN.{length}
 use borrow.Author.Rules.{rules}
-use Rattle.rules.specs.Basics.{Each}
-use Rattle.rules.specs.Limits.{most_energy, most_rows}
 use Rattle.rules.proofs.Basics.Searches.{first_and_rest}
-use Rattle.image.specs.Cells.{rows_from}
 use Rattle.image.specs.Tables.{Tabled}
-use Rattle.image.specs.Layout.{row_width}
 use Rattle.image.proofs.Reading.RowsFrom.{rows_done, rows_step}
-use Rattle.tables.proofs.FillLaws.{Filling, filling_none, filling_room, filling_next, filling_done}
+use Rattle.tables.proofs.FillLaws.{filling_none, filling_room, filling_next, filling_done}
 use Rattle.tables.proofs.sums.fill.Goals as goal
 
 pub loop-left-init : goal.loop-left-init

@@ -1,6 +1,5 @@
 -- The three numbers are those of the definition.
 use Rattle.tables.specs.Sums.{net_stored}
-use borrow.Author.Rules.{rules}
 use Rattle.tables.proofs.sums.net_matches.Goals as goal
 
 pub returns : goal.returns

@@ -1,12 +1,9 @@
 -- The first account whose net positions differ decides; where none was found, all agree if those that are left do.
-use Prim.Native.Nat.{◌+◌, ◌-◌, ◌≤◌}
-use mathlib.Core.Path.{◌≡◌, ◌∙◌, sym, refl}
+use mathlib.Core.Path.{◌∙◌, sym, refl}
 use native.Mathlib.Omega.{arith}
 use borrow.Author.Rules.{rules}
-use Rattle.rules.specs.Basics.{every, counting, up_to}
-use Rattle.rules.specs.Limits.{most_accounts}
 use Rattle.rules.proofs.Basics.CountingLaws.{every_done, every_next, every_fails}
-use Rattle.tables.specs.Sums.{net_stored, nets_stored}
+use Rattle.tables.specs.Sums.{nets_stored}
 use Rattle.tables.proofs.sums.nets_match.Goals as goal
 
 pub loop-account-init : goal.loop-account-init

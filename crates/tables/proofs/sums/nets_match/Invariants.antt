@@ -1,11 +1,8 @@
 -- The first account whose net positions differ decides; where none was found, all agree if those that are left do.
 use Prim.Native.Nat.{◌+◌, ◌-◌, ◌≤◌}
-use mathlib.Core.Path.{◌≡◌, ◌∙◌, sym, refl}
-use native.Mathlib.Omega.{arith}
-use borrow.Author.Rules.{rules}
+use mathlib.Core.Path.{◌≡◌}
 use Rattle.rules.specs.Basics.{every, counting, up_to}
 use Rattle.rules.specs.Limits.{most_accounts}
-use Rattle.rules.proofs.Basics.CountingLaws.{every_done, every_next, every_fails}
 use Rattle.tables.specs.Sums.{net_stored, nets_stored}
 use Rattle.tables.proofs.sums.nets_match.Given as goal
 

@@ -1,7 +1,6 @@
 -- The product is that of the account, and its places are among those of all accounts.
 use native.Mathlib.Omega.{arith}
 use Rattle.image.proofs.Tables.SumLaws.{place_fits}
-use borrow.Author.Rules.{rules}
 use Rattle.tables.proofs.sums.place.Goals as goal
 
 pub overflow_mul-result : goal.overflow_mul-result

@@ -1,5 +1,4 @@
 -- It is the element at the cell of that account hour in that lane.
-use borrow.Author.Rules.{rules}
 use Rattle.tables.proofs.sums.sum_at.Goals as goal
 
 pub returns : goal.returns

@@ -1,6 +1,5 @@
 -- The side says which way the net position counts.
 use borrow.Author.Tests.{eq-eqb, ne_eqb}
-use borrow.Author.Rules.{rules}
 use Rattle.valuation.proofs.congruity.account_limit.Goals as goal
 
 pub returns-then-side-eq-INJECTS : goal.returns-then-side-eq-INJECTS

@@ -1,5 +1,4 @@
 -- The price of the number is the one that the schedule meets.
-use borrow.Author.Rules.{rules}
 use Rattle.valuation.proofs.congruity.is_taken.Goals as goal
 
 pub returns : goal.returns

@@ -1,5 +1,4 @@
 -- The limit is the point's on that side, and what is used up is read from the point's cell.
-use borrow.Author.Rules.{rules}
 use Rattle.valuation.proofs.congruity.over_point.Goals as goal
 
 pub returns : goal.returns

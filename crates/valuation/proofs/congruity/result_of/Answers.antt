@@ -3,7 +3,6 @@ use mathlib.Core.Path.{◌∙◌}
 use native.Mathlib.Omega.{arith}
 use Rattle.book.proofs.StateLaws.{book_length}
 use Rattle.valuation.proofs.CongruityLaws.{point_in_cells, price_stands, result_judged}
-use borrow.Author.Rules.{rules}
 use Rattle.valuation.proofs.congruity.result_of.Goals as goal
 
 pub counts-n-requires : goal.counts-n-requires

@@ -1,6 +1,5 @@
 -- The side says which of the two prices is to be the lower.
 use borrow.Author.Tests.{eq-eqb, ne_eqb}
-use borrow.Author.Rules.{rules}
 use Rattle.valuation.proofs.congruity.taken_at.Goals as goal
 
 pub returns-then-x-eq-INJECTS : goal.returns-then-x-eq-INJECTS

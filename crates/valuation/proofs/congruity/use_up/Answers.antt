@@ -1,7 +1,6 @@
 -- The cells of the schedule's point and of its account grow by what it uses up, and no other cell changes.
 use native.Mathlib.Omega.{arith}
 use Rattle.valuation.proofs.CellLaws.{room_here, room_next, used-next}
-use borrow.Author.Rules.{rules}
 use Rattle.valuation.proofs.congruity.use_up.Goals as goal
 
 pub add_to-requires : goal.add_to-requires

@@ -1,6 +1,5 @@
 -- The number is its low half and, past that, its high half.
 use Rattle.wire.proofs.NumberLaws.{number_at_join}
-use Rattle.std.proofs.Common.{rules}
 use Rattle.wire.proofs.numbers.get_u32.Goals as goal
 
 pub returns : goal.returns

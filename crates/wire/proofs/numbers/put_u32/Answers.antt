@@ -1,5 +1,4 @@
 -- The bytes of the number are copied in.
-use Rattle.std.proofs.Common.{rules}
 use Rattle.wire.proofs.numbers.put_u32.Goals as goal
 
 pub returns : goal.returns

@@ -1,5 +1,5 @@
 -- The bytes are those of the number, by nested division.
-use Rattle.std.proofs.Common.{refl, rules}
+use Rattle.std.proofs.Common.{refl}
 use Rattle.wire.specs.Numbers.{le}
 use Rattle.wire.proofs.numbers.u64_bytes.Goals as goal
 

@@ -1,6 +1,5 @@
 -- What was seen so far and what is left are together the whole answer.
-use Rattle.std.proofs.Common.{◌≡◌, ◌+◌, ◌-◌, ◌≤◌, ◌&&◌, length, sym, refl, ◌∙◌, arith, rules}
-use Rattle.wire.specs.Regions.{zeros_from}
+use Rattle.std.proofs.Common.{◌-◌, sym, refl, ◌∙◌, arith, rules}
 use Rattle.wire.proofs.RegionLaws.{zeros-so_far, zeros_all}
 use Rattle.wire.proofs.regions.all_zero.Goals as goal
 

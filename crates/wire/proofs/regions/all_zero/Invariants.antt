@@ -1,7 +1,6 @@
 -- What was seen so far and what is left are together the whole answer.
-use Rattle.std.proofs.Common.{◌≡◌, ◌+◌, ◌-◌, ◌≤◌, ◌&&◌, length, sym, refl, ◌∙◌, arith, rules}
+use Rattle.std.proofs.Common.{◌≡◌, ◌+◌, ◌≤◌, ◌&&◌, length}
 use Rattle.wire.specs.Regions.{zeros_from}
-use Rattle.wire.proofs.RegionLaws.{zeros-so_far, zeros_all}
 use Rattle.wire.proofs.regions.all_zero.Given as goal
 
 abbrev pub invariant-loop-left : goal.invariant-loop-left

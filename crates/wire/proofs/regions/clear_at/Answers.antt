@@ -1,7 +1,5 @@
 -- After i steps the first i bytes of the region are zero.
-use Rattle.std.proofs.Common.{◌≡◌, ◌-◌, ◌≤◌, length, ◌∙◌, arith, length-set, rules}
-use Rattle.wire.specs.Regions.{pasted}
-use Rattle.wire.specs.Parts.{zeros}
+use Rattle.std.proofs.Common.{◌∙◌, arith, length-set, rules}
 use Rattle.wire.proofs.RegionLaws.{pasted_none}
 use Rattle.wire.proofs.ZeroLaws.{cleared_more, cleared_all}
 use Rattle.wire.proofs.regions.clear_at.Goals as goal

@@ -1,9 +1,7 @@
 -- After i steps the first i bytes of the region are zero.
-use Rattle.std.proofs.Common.{◌≡◌, ◌-◌, ◌≤◌, length, ◌∙◌, arith, length-set, rules}
+use Rattle.std.proofs.Common.{◌≡◌, ◌-◌, ◌≤◌, length}
 use Rattle.wire.specs.Regions.{pasted}
 use Rattle.wire.specs.Parts.{zeros}
-use Rattle.wire.proofs.RegionLaws.{pasted_none}
-use Rattle.wire.proofs.ZeroLaws.{cleared_more, cleared_all}
 use Rattle.wire.proofs.regions.clear_at.Given as goal
 
 abbrev pub invariant-loop-i : goal.invariant-loop-i

@@ -1,6 +1,5 @@
 -- After i steps the first i bytes of `src` are in their place.
-use Rattle.std.proofs.Common.{◌≡◌, ◌-◌, ◌≤◌, length, ◌∙◌, arith, length-set, rules}
-use Rattle.wire.specs.Regions.{pasted}
+use Rattle.std.proofs.Common.{◌∙◌, arith, length-set, rules}
 use Rattle.wire.proofs.RegionLaws.{pasted_none, pasted-more, pasted_all}
 use Rattle.wire.proofs.regions.copy_in.Goals as goal
 

@@ -1,7 +1,6 @@
 -- After i steps the first i bytes of `src` are in their place.
-use Rattle.std.proofs.Common.{◌≡◌, ◌-◌, ◌≤◌, length, ◌∙◌, arith, length-set, rules}
+use Rattle.std.proofs.Common.{◌≡◌, ◌-◌, ◌≤◌, length}
 use Rattle.wire.specs.Regions.{pasted}
-use Rattle.wire.proofs.RegionLaws.{pasted_none, pasted-more, pasted_all}
 use Rattle.wire.proofs.regions.copy_in.Given as goal
 
 abbrev pub invariant-loop-i : goal.invariant-loop-i

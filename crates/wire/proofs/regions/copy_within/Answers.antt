@@ -1,6 +1,5 @@
 -- After i steps the first i bytes of the region are in their place, and what is still to be read is untouched, since the regions are apart.
-use Rattle.std.proofs.Common.{◌≡◌, ◌-◌, ◌≤◌, length, drop, ◌∙◌, arith, length-set, rules}
-use Rattle.wire.specs.Regions.{pasted}
+use Rattle.std.proofs.Common.{◌∙◌, arith, length-set, rules}
 use Rattle.wire.proofs.RegionLaws.{pasted_none, pasted-same, within_more}
 use Rattle.wire.proofs.regions.copy_within.Goals as goal
 

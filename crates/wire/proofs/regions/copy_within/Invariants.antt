@@ -1,7 +1,6 @@
 -- After i steps the first i bytes of the region are in their place, and what is still to be read is untouched, since the regions are apart.
-use Rattle.std.proofs.Common.{◌≡◌, ◌-◌, ◌≤◌, length, drop, ◌∙◌, arith, length-set, rules}
+use Rattle.std.proofs.Common.{◌≡◌, ◌-◌, ◌≤◌, length, drop}
 use Rattle.wire.specs.Regions.{pasted}
-use Rattle.wire.proofs.RegionLaws.{pasted_none, pasted-same, within_more}
 use Rattle.wire.proofs.regions.copy_within.Given as goal
 
 abbrev pub invariant-loop-i : goal.invariant-loop-i
