@@ -6,6 +6,7 @@ use mathlib.Core.List.{List}
 use mathlib.Core.Bool.{Bool, true, false, ◌&&◌}
 use native.Mathlib.Nat.{mul_comm}
 use native.Mathlib.Omega.{arith}
+use lib.ListN.{get_or}
 use lib.Dec.{eqb}
 use borrow.Author.Tests.{eq-eqb, ne_eqb}
 use Rattle.units.specs.declared.CentsPerMwh.{CentsPerMwh}
@@ -15,7 +16,8 @@ use Rattle.rules.specs.Books.{Setup, estimate_at, operator_of, account_count}
 use Rattle.rules.specs.Registration.{pending, includes_hour, counted, pending_of, waiting, net_of, pending_sales, account_hour, exposed, of_operator, hourly_exposure_of, hourly_exposure}
 use Rattle.rules.proofs.Rows.Operators.{operator_cong, operator_add, operator_none, operator_one}
 use Rattle.image.specs.Valid.{is_sound, book_in}
-use Rattle.book.specs.Worth.{short_of}
+use Rattle.book.specs.Members.{IsAccount}
+use Rattle.book.specs.Worth.{short_of, OperatorInputs}
 use Rattle.book.specs.Hourly.{account_short_in_hour, operator_short_in_hour, sale_in_hour}
 use Rattle.book.proofs.WorthLaws.{Known}
 use Rattle.book.proofs.WorthParts.{rows_known}
@@ -79,6 +81,15 @@ short_of_own u rows o h a x r e d f = rw (eq-eqb (operator_of u a) o (sym e ∙ 
 pub short_of_others : (u : Setup) (rows : List Row) (o h a x : ℕ) → x ≡ operator_of u a → (x ≡ o → ⊥) → account_short_in_hour u rows o h a ≡ 0
 unfolding account_short_in_hour
 short_of_others u rows o h a x e d = rw (ne_eqb (operator_of u a) o (λ f. d (e ∙ f)))
+
+-- the same with the operators of the book's accounts in a list
+pub short_listed : (s operators : List ℕ) (o h a r : ℕ) → OperatorInputs s operators → IsAccount (book_in s) a → get_or operators a 0 ≡ o
+    → r ≡ short_of (net_of (book_in s).part.rows a h) → r ≡ account_short_in_hour (book_in s).setup (book_in s).part.rows o h a
+short_listed s operators o h a r t i d f = short_of_own _ _ o h a (get_or operators a 0) r (t.account_operators.operator a i.0 i.1) d f
+
+pub none_listed : (s operators : List ℕ) (o h a : ℕ) → OperatorInputs s operators → IsAccount (book_in s) a → (get_or operators a 0 ≡ o → ⊥)
+    → 0 ≡ account_short_in_hour (book_in s).setup (book_in s).part.rows o h a
+none_listed s operators o h a t i d = sym (short_of_others _ _ o h a (get_or operators a 0) (t.account_operators.operator a i.0 i.1) d)
 
 pub shorts_by_account : (u : Setup) (rows : List Row) (o h : ℕ) → operator_short_in_hour u rows o h ≡ total (account_short_in_hour u rows o h) (counting (account_count u) 1)
 unfolding operator_short_in_hour account_short_in_hour of_operator

@@ -198,3 +198,14 @@ pub tabled_netted : (s : List ℕ) → is_sound s ≡ true → (rows : List Row)
     → tabled_hour rows table a h ≡ netted_hour rows a h
 tabled_netted s b rows a h table w i =
     rw (w.waits_at 1 h (side_hour s b 1 h (omega arith) (omega arith) i), w.waits_at 2 h (side_hour s b 2 h (omega arith) (omega arith) i))
+
+-- ---- by the place of the row's bytes
+
+-- a row of another account, by its first byte
+pub others_wait : (s table : List ℕ) (n at x a : ℕ) → is_sound s ≡ true → IsRow (book_in s) n → at ≡ present_offset + row_offset (n - 1)
+    → x ≡ number_at s at 1 → (x ≡ a → ⊥) → WaitAdded table table (numbered_row (book_in s) n) a
+others_wait s table n at x a k i e f d = added_of_others table _ a x (f ∙ (own_stands s k n at i e).0) d
+
+pub others_told : (s : List ℕ) (n at x a counterparty code : ℕ) → is_sound s ≡ true → IsRow (book_in s) n → at ≡ present_offset + row_offset (n - 1)
+    → x ≡ number_at s at 1 → (x ≡ a → ⊥) → false ≡ alike a counterparty code (numbered_row (book_in s) n)
+others_told s n at x a counterparty code k i e f d = others_unlike _ a counterparty code x (f ∙ (own_stands s k n at i e).0) d

@@ -20,6 +20,7 @@ use wire::numbers::get_u8;
 // ---- net positions below zero
 
 // What of an account's net position in the hour lies below zero: nothing where it is another operator's.
+#[tactic(auto, using(crate::proofs::HourlyLaws::short_listed, crate::proofs::HourlyLaws::none_listed))]
 fn short_of_account(book: &[u8], operators: &[u8], operator: u8, hour: u8, account: u8) -> Kwh
     requires { let b = book_in book.now in OperatorInputs book.now operators.now × IsHour b hour × IsAccount b account }
     ensures meaning { let b = book_in book.now in result.0 ≡ account_short_in_hour b.setup b.part.rows operator hour account }

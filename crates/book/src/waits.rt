@@ -43,6 +43,7 @@ pub fn add_waiting(table: &mut [u32], r: Row)
 
 // Adds the row of that number to the table if it is pending and the account proposed it. Answers whether it is such a row and also has this
 // counterparty and code. Most rows have another proposer, so that is tested first.
+#[tactic(auto, using(crate::proofs::WaitLaws::others_wait, crate::proofs::WaitLaws::others_told))]
 fn add_own(
     table: &mut [u32],
     book: &[u8],

@@ -1,10 +1,11 @@
 -- The first byte of a row is its proposer and the last its status, so that these two say whether the row is added.
-use mathlib.Core.Path.{◌∙◌, sym}
+use mathlib.Core.Path.{◌≡◌, ◌∙◌, sym}
 use native.Mathlib.Omega.{arith}
+use Rattle.image.specs.Valid.{book_in}
+use Rattle.book.specs.Members.{numbered_row}
 use Rattle.book.proofs.StateLaws.{book_length, row_count_high, numbered_row_stands}
 use Rattle.book.proofs.BookRows.{numbered_sound, numbered_tabled}
-use Rattle.book.proofs.WaitLaws.{own_stands, added_own, added_of_others, added_of_ended, others_unlike, ended_unlike, own_alike}
-use borrow.Author.Rules.{rules}
+use Rattle.book.proofs.WaitLaws.{own_stands, added_own, added_of_ended, ended_unlike, own_alike}
 use Rattle.book.proofs.waits.add_own.Goals as goal
 
 pub row_offset-at-requires : goal.row_offset-at-requires
@@ -13,12 +14,6 @@ row_offset-at-requires c = omega (arith, c.requires.2, row_count_high _ c.requir
 pub get_u8-requires : goal.get_u8-requires
 get_u8-requires c =
     omega (arith, c.requires.2, c.row_offset-at.ensures, row_count_high _ c.requires.1, book_length _ c.requires.1)
-
-pub returns-then-get_u8-account : goal.returns-then-get_u8-account
-returns-then-get_u8-account c =
-    let stands = own_stands _ c.requires.1 c.args.number _ c.requires.2 c.row_offset-at.ensures in
-    let proposer = c.get_u8.ensures ∙ stands.0 in
-    record { waits = added_of_others _ _ _ _ proposer c.if-get_u8-account.true; tells = others_unlike _ _ c.args.counterparty c.args.code _ proposer c.if-get_u8-account.true }
 
 pub get_u8-requires-2 : goal.get_u8-requires-2
 get_u8-requires-2 c =
@@ -47,5 +42,5 @@ returns c =
     let stands = own_stands _ c.requires.1 c.args.number _ c.requires.2 c.row_offset-at.ensures in
     let sound = numbered_sound _ c.requires.1 c.args.number c.requires.2 in
     let waits = sym (c.get_u8-2.ensures ∙ stands.1) ∙ c.if-get_u8-ne-PENDING.false in
-    let own = sym (c.get_u8.ensures ∙ stands.0) ∙ c.if-get_u8-account.false in
+    let own : (numbered_row (book_in c.args.book.now) c.args.number).proposer ≡ c.args.account = omega (arith, stands.0) in
     record { waits = added_own _ _ _ _ (numbered_tabled _ c.requires.1 c.args.number c.requires.2) sound.side_low sound.side_high waits own (rw same at c.add_waiting.ensures); tells = rw same (own_alike _ _ c.args.counterparty c.args.code waits own) }
