@@ -87,6 +87,15 @@ setup_known s l t =
     let k = sound_setup (setup_of (take setup_room s)) (holds_at 0 (setup_valid_tests s) t) in
     sound_known s l (rw (setup_in_front s k) at k)
 
+-- a set-up that stands has room: one that its counts make longer does not stand
+pub too_long : (s : List ℕ) (n : Counts) (size : ℕ) → length s ≡ book_size → n ≡ counts_in s → size ≡ setup_length n → setup_room < size
+    → false ≡ setup_valid s
+unfolding setup_valid
+too_long s n size l d e h =
+    sym (fails_with (setup_valid s) (λ t.
+    let k = setup_short s (sound_setup (setup_of (take setup_room s)) (holds_at 0 (setup_valid_tests s) t)) in
+    le-leb size setup_room (omega (arith, ap setup_length d))) (lt-leb size setup_room h))
+
 -- ---- by what opening would say of its bytes
 
 module _ (s : List ℕ) (b : Bytes s) (l : length s ≡ book_size) (size : ℕ) (e : size ≡ setup_length (counts_in s)) where
@@ -102,11 +111,7 @@ module _ (s : List ℕ) (b : Bytes s) (l : length s ≡ book_size) (size : ℕ) 
 
   -- a set-up that stands has room
   pub long_setup : setup_room < size → false ≡ setup_valid s
-  unfolding setup_valid
-  long_setup h =
-      sym (fails_with (setup_valid s) (λ t.
-      let k = setup_short s (sound_setup (setup_of (take setup_room s)) (holds_at 0 (setup_valid_tests s) t)) in
-      le-leb size setup_room (omega arith)) (lt-leb size setup_room h))
+  long_setup h = too_long s (counts_in s) size l refl e h
 
   pub accepted_setup : {lodged zero : Bool} → not (is_some (setup_refusal (take size s))) ≡ true
       → lodged ≡ no_guarantees s (operators_offset (counts_in s)) (counts_in s).operators → zero ≡ zeros_from s size (setup_room - size)

@@ -54,6 +54,7 @@ fn no_guarantees(s: &[u8], at: usize, n: usize) -> bool
 }
 
 // The set-up in the book is one that opening would accept, with no guarantee in it and zeros behind it.
+#[tactic(auto, using(crate::proofs::ValidityLaws::too_long))]
 fn setup_valid(book: &[u8]) -> bool
     requires { length book.now ≡ book_size }
     ensures { result ≡ setup_valid book.now }

@@ -3,17 +3,10 @@
 use mathlib.Core.Path.{sym, ap, ◌∙◌}
 use native.Mathlib.Omega.{arith}
 use lib.Seq.{length-take-le}
-use borrow.Author.Tests.{not-true, not-false}
 use Rattle.wire.proofs.NumberLaws.{bytes_known}
 use Rattle.rules.specs.Opening.{setup_length}
-use Rattle.audit.proofs.ValidityLaws.{long_setup, refused_setup, accepted_setup}
-use borrow.Author.Rules.{rules}
+use Rattle.audit.proofs.ValidityLaws.{refused_setup, accepted_setup}
 use Rattle.audit.proofs.whole.setup_valid.Goals as goal
-
-pub returns-then-size-gt-SETUP_ROOM : goal.returns-then-size-gt-SETUP_ROOM
-returns-then-size-gt-SETUP_ROOM c =
-    long_setup _ (bytes_known _ c.type_inv.book) c.requires _ (c.length_of-size.ensures ∙ ap setup_length c.counts-n.ensures)
-    c.if-size-gt-SETUP_ROOM.true
 
 pub slice_bounds-is_accepted-end : goal.slice_bounds-is_accepted-end
 slice_bounds-is_accepted-end c =
