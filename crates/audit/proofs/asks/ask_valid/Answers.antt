@@ -1,7 +1,6 @@
 -- A status of 0 is that of no ask, and zeros decide; else the row does, by the counts of the set-up.
 use mathlib.Core.Path.{sym, ap, ◌∙◌}
 use native.Mathlib.Omega.{arith}
-use borrow.Author.Rules.{rules}
 use Rattle.rules.specs.declared.Counts.{Counts}
 use Rattle.rules.specs.Opening.{setup_of}
 use Rattle.rules.proofs.Setups.SetupEntries.{counts_of_setup}

@@ -1,15 +1,11 @@
 -- Zeros are places without an ask. Else the first place that is not valid decides; where none was found, all are valid if those that are
 -- left are.
 use Prim.Native.Nat.{◌+◌, ◌-◌, ◌≤◌}
-use mathlib.Core.Path.{◌≡◌, ◌∙◌, refl, sym}
-use native.Mathlib.Omega.{arith}
-use borrow.Author.Rules.{rules}
+use mathlib.Core.Path.{◌≡◌}
 use Rattle.rules.specs.Basics.{every, counting}
 use Rattle.rules.specs.Limits.{most_accounts, most_hours}
-use Rattle.rules.proofs.Basics.CountingLaws.{every_done, every_next, every_fails}
 use Rattle.image.specs.Layout.{ask_offset}
 use Rattle.audit.specs.Validity.{ask_valid, asks_valid}
-use Rattle.audit.proofs.AskTests.{zero_asks}
 use Rattle.audit.proofs.asks.asks_valid.Given as goal
 
 abbrev pub invariant-loop-number : goal.invariant-loop-number

@@ -1,19 +1,16 @@
 -- After each guarantee, what was tested so far and the test of those that are left together are the test of all.
-use Prim.Native.Nat.{◌+◌, ◌-◌, ◌*◌, ◌≤◌}
-use mathlib.Core.Path.{refl, ap}
+use Prim.Native.Nat.{◌+◌, ◌*◌, ◌≤◌}
 use mathlib.Core.Bool.{Bool}
-use native.Mathlib.Omega.{arith}
 use lib.ListN.{length}
 use lib.Dec.{leb}
-use borrow.Author.Rules.{rules}
-use Rattle.wire.specs.Numbers.{number, number_at}
+use Rattle.wire.specs.Numbers.{number}
 use Rattle.units.specs.Units.{cents}
 use Rattle.units.specs.declared.Cents.{Cents}
 use Rattle.rules.specs.Basics.{every}
 use Rattle.rules.specs.Limits.{most_guarantee}
 use Rattle.rules.specs.Opening.{guarantee_width}
 use Rattle.image.specs.Cells.{guarantees_from}
-use Rattle.audit.proofs.CheckLaws.{TestsLeft, tested_next, tested_all}
+use Rattle.audit.proofs.CheckLaws.{TestsLeft}
 use Rattle.audit.proofs.checks.guarantees_ok.Given as goal
 
 abbrev pub small : Cents → Bool

@@ -1,18 +1,14 @@
 -- No row is pending where each is not; after each row, what was tested so far and the test of the rows that are left together are the test
 -- of all.
-use Prim.Native.Nat.{◌+◌, ◌-◌, ◌*◌, ◌≤◌}
-use mathlib.Core.Path.{refl}
+use Prim.Native.Nat.{◌+◌, ◌*◌, ◌≤◌}
 use mathlib.Core.Bool.{not}
-use native.Mathlib.Omega.{arith}
 use lib.ListN.{length}
-use borrow.Author.Rules.{rules}
 use Rattle.rules.specs.Basics.{any_passes}
 use Rattle.rules.specs.Registration.{pending}
 use Rattle.image.specs.Image.{row_in}
 use Rattle.image.specs.Cells.{rows_from}
 use Rattle.image.specs.Layout.{row_width}
-use Rattle.image.proofs.Reading.RowsFrom.{not_any}
-use Rattle.audit.proofs.CheckLaws.{TestsLeft, tested_next, tested_all}
+use Rattle.audit.proofs.CheckLaws.{TestsLeft}
 use Rattle.audit.proofs.checks.none_pending.Given as goal
 
 abbrev pub invariant-loop-left : goal.invariant-loop-left

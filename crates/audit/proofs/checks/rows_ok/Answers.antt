@@ -1,16 +1,10 @@
 -- After each row, what was tested so far and the test of the rows that are left together are the test of all.
-use Prim.Native.Nat.{◌+◌, ◌-◌, ◌*◌, ◌≤◌}
-use mathlib.Core.Path.{◌≡◌, refl}
+use Prim.Native.Nat.{◌-◌}
+use mathlib.Core.Path.{refl}
 use native.Mathlib.Omega.{arith}
-use lib.ListN.{length}
 use borrow.Author.Rules.{rules}
-use Rattle.rules.specs.Basics.{every}
-use Rattle.rules.specs.Books.{Setup, account_count, periods}
-use Rattle.image.specs.Image.{row_in}
-use Rattle.image.specs.Valid.{row_ok}
 use Rattle.image.specs.Cells.{rows_from}
-use Rattle.image.specs.Layout.{row_width}
-use Rattle.audit.proofs.CheckLaws.{TestsLeft, tested_next, tested_all}
+use Rattle.audit.proofs.CheckLaws.{tested_next, tested_all}
 use Rattle.audit.proofs.checks.rows_ok.Goals as goal
 
 pub loop-left-init : goal.loop-left-init

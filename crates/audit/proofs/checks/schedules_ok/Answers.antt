@@ -1,16 +1,10 @@
 -- After each schedule, what was tested so far and the test of those that are left together are the test of all.
-use Prim.Native.Nat.{◌+◌, ◌-◌, ◌*◌, ◌≤◌}
-use mathlib.Core.Path.{◌≡◌, refl}
+use Prim.Native.Nat.{◌-◌}
+use mathlib.Core.Path.{refl}
 use native.Mathlib.Omega.{arith}
-use lib.ListN.{length}
 use borrow.Author.Rules.{rules}
-use Rattle.rules.specs.Basics.{every}
-use Rattle.rules.specs.Books.{Setup, point_count, periods}
-use Rattle.image.specs.Image.{schedule_in}
-use Rattle.image.specs.Valid.{schedule_ok}
 use Rattle.image.specs.Cells.{schedules_from}
-use Rattle.image.specs.Layout.{schedule_width}
-use Rattle.audit.proofs.CheckLaws.{TestsLeft, tested_next, tested_all}
+use Rattle.audit.proofs.CheckLaws.{tested_next, tested_all}
 use Rattle.audit.proofs.checks.schedules_ok.Goals as goal
 
 pub loop-left-init : goal.loop-left-init

@@ -1,6 +1,5 @@
 -- The two tests are those of the definition.
 use mathlib.Core.List.{[], ◌∷◌}
-use borrow.Author.Rules.{rules}
 use Rattle.rules.proofs.Basics.Tests.{chained_all}
 use Rattle.audit.specs.Validity.{guarantees_valid}
 use Rattle.audit.proofs.part.guarantees_valid.Goals as goal

@@ -1,7 +1,6 @@
 -- The exposure is that of the rows, and what is available is that of the guarantee and the maintenance that were read.
 use mathlib.Core.Path.{◌∙◌, ap}
 use native.Mathlib.Omega.{arith}
-use borrow.Author.Rules.{rules}
 use Rattle.rules.specs.declared.Operator.{Operator}
 use Rattle.audit.proofs.CoverLaws.{guarantee_small, maintenance_small, covered_read}
 use Rattle.audit.proofs.part.operator_covered.Goals as goal

@@ -1,14 +1,9 @@
 -- The first operator that is not covered decides; where none was found, all are covered if those that are left are.
 use Prim.Native.Nat.{◌+◌, ◌-◌, ◌≤◌}
-use mathlib.Core.Path.{◌≡◌, ◌∙◌, sym, ap}
-use native.Mathlib.Omega.{arith}
-use borrow.Author.Rules.{rules}
-use Rattle.rules.specs.declared.Counts.{Counts}
+use mathlib.Core.Path.{◌≡◌}
 use Rattle.rules.specs.Basics.{every, counting}
 use Rattle.rules.specs.Opening.{counts_in, setup_of}
 use Rattle.rules.specs.Registration.{covered}
-use Rattle.rules.proofs.Setups.SetupEntries.{counts_of_setup}
-use Rattle.rules.proofs.Basics.CountingLaws.{every_done, every_next, every_fails, every_same}
 use Rattle.image.specs.Valid.{operators_covered}
 use Rattle.tables.specs.Sums.{ForRowsSummedIn}
 use Rattle.audit.specs.Validity.{part_with}

@@ -1,7 +1,6 @@
 -- A part that has too many rows or fails a test is not valid; otherwise the last tests, by the sums of its rows, decide.
 use mathlib.Core.Path.{sym, ap, ◌∙◌}
 use native.Mathlib.Omega.{arith}
-use borrow.Author.Tests.{not-true, not-false}
 use Rattle.rules.specs.declared.Counts.{Counts}
 use Rattle.audit.proofs.PartValidity.{too_many_rows, guarantees_fail, rows_fail, sums_decide, rows_tabled, guarantees_small}
 use Rattle.audit.proofs.ValidityLaws.{not_passed}

@@ -1,7 +1,6 @@
 -- The three tests are those of the definition, by the counts of the set-up.
 use mathlib.Core.Path.{◌∙◌, sym, ap}
 use mathlib.Core.List.{[], ◌∷◌}
-use borrow.Author.Rules.{rules}
 use Rattle.rules.specs.declared.Counts.{Counts}
 use Rattle.rules.specs.Opening.{setup_of}
 use Rattle.rules.proofs.Basics.Tests.{chained_all}

@@ -1,6 +1,5 @@
 -- The table is filled with the sums of the rows, so that each test by the table is the test of the rows.
 use Rattle.audit.proofs.PartValidity.{sums_valid_lem}
-use borrow.Author.Rules.{rules}
 use Rattle.audit.proofs.part.sums_valid.Goals as goal
 
 pub returns : goal.returns

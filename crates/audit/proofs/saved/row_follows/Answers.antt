@@ -1,5 +1,4 @@
 -- The terms are compared by `same_terms`, and the status rule is the definition's.
-use borrow.Author.Rules.{rules}
 use Rattle.audit.proofs.saved.row_follows.Goals as goal
 
 pub returns : goal.returns

@@ -1,13 +1,10 @@
 -- After each row, what was compared so far and the comparison of the rows that are left together compare all rows.
-use Prim.Native.Nat.{◌+◌, ◌-◌, ◌*◌, ◌≤◌}
+use Prim.Native.Nat.{◌+◌, ◌-◌}
 use mathlib.Core.Path.{◌≡◌, sym, ◌∙◌}
-use mathlib.Core.Bool.{◌&&◌}
 use native.Mathlib.Omega.{arith}
-use lib.ListN.{length, take, drop}
+use lib.ListN.{take, drop}
 use borrow.Author.Rules.{rules}
 use Rattle.image.specs.Image.{row_in}
-use Rattle.image.specs.Valid.{follows}
-use Rattle.image.specs.Cells.{rows_from}
 use Rattle.image.specs.Layout.{row_width}
 use Rattle.audit.proofs.FollowLaws.{row_follows, follows_short, follows_done, follows-step}
 use Rattle.audit.proofs.saved.rows_follow.Goals as goal

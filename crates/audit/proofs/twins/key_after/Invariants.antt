@@ -1,12 +1,8 @@
 -- After each key, a key that was found so far or is among those left is among all.
 use Prim.Native.Nat.{◌+◌, ◌-◌, ◌≤◌}
-use mathlib.Core.Path.{◌≡◌, refl, sym, ◌∙◌}
+use mathlib.Core.Path.{◌≡◌}
 use mathlib.Core.Bool.{◌||◌}
-use native.Mathlib.Omega.{arith}
-use lib.ListN.{get_or}
-use borrow.Author.Rules.{rules}
 use Rattle.audit.specs.Twins.{key_among}
-use Rattle.audit.proofs.TwinLaws.{among_done, among_step}
 use Rattle.audit.proofs.twins.key_after.Given as goal
 
 abbrev pub invariant-loop-k : goal.invariant-loop-k

@@ -1,6 +1,5 @@
 -- Where nothing was seen at its mark the key does not repeat, by what is required; otherwise it is searched for.
 use mathlib.Core.Path.{sym}
-use borrow.Author.Rules.{rules}
 use Rattle.audit.proofs.twins.key_again.Goals as goal
 
 pub returns-then-seen-eq0 : goal.returns-then-seen-eq0

@@ -1,13 +1,11 @@
 -- The keys passed so far, from the last one back, all differ, and each has left a 1 at its mark.
-use Prim.Native.Nat.{◌+◌, ◌-◌, ◌≤◌}
+use Prim.Native.Nat.{◌+◌, ◌-◌}
 use mathlib.Core.Path.{◌≡◌, sym, ◌∙◌}
-use mathlib.Core.Bool.{true}
 use native.Mathlib.Nat.{zero-add, sub-zero}
 use native.Mathlib.Omega.{arith}
-use lib.ListN.{length, length-set}
+use lib.ListN.{length-set}
 use borrow.Author.Rules.{rules}
-use Rattle.audit.specs.Twins.{keys_apart, marks}
-use Rattle.audit.proofs.TwinLaws.{Marked, none_marked, mark-more, unmarked, apart_done, apart_found, apart_next, apart_before}
+use Rattle.audit.proofs.TwinLaws.{none_marked, mark-more, unmarked, apart_done, apart_found, apart_next, apart_before}
 use Rattle.audit.proofs.twins.keys_apart.Goals as goal
 
 pub loop-left-init : goal.loop-left-init

@@ -1,13 +1,10 @@
 -- The keys passed so far, from the last one back, all differ, and each has left a 1 at its mark.
-use Prim.Native.Nat.{◌+◌, ◌-◌, ◌≤◌}
-use mathlib.Core.Path.{◌≡◌, sym, ◌∙◌}
+use Prim.Native.Nat.{◌-◌, ◌≤◌}
+use mathlib.Core.Path.{◌≡◌}
 use mathlib.Core.Bool.{true}
-use native.Mathlib.Nat.{zero-add, sub-zero}
-use native.Mathlib.Omega.{arith}
-use lib.ListN.{length, length-set}
-use borrow.Author.Rules.{rules}
+use lib.ListN.{length}
 use Rattle.audit.specs.Twins.{keys_apart, marks}
-use Rattle.audit.proofs.TwinLaws.{Marked, none_marked, mark-more, unmarked, apart_done, apart_found, apart_next, apart_before}
+use Rattle.audit.proofs.TwinLaws.{Marked}
 use Rattle.audit.proofs.twins.keys_apart.Given as goal
 
 abbrev pub invariant-loop-left : goal.invariant-loop-left

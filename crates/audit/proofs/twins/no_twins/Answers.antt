@@ -1,6 +1,5 @@
 -- Two rows have the same key only where both are pending and alike, so no key repeats exactly where no two pending rows are alike.
 use mathlib.Core.Path.{◌∙◌}
-use borrow.Author.Rules.{rules}
 use Rattle.wire.proofs.NumberLaws.{bytes_known}
 use Rattle.audit.proofs.TwinLaws.{keys_apart_rows}
 use Rattle.audit.proofs.twins.no_twins.Goals as goal

@@ -1,6 +1,5 @@
 -- The row's status says which of the two numbers it is.
 use native.Mathlib.Omega.{arith}
-use borrow.Author.Rules.{rules}
 use Rattle.audit.proofs.TwinLaws.{pair_pending, pair_other}
 use Rattle.audit.proofs.twins.pair_of.Goals as goal
 

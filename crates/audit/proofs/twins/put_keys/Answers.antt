@@ -1,12 +1,10 @@
 -- After `i` rows the first `i` keys are those of the rows.
-use Prim.Native.Nat.{◌-◌, ◌≤◌}
 use mathlib.Core.Path.{◌≡◌, ap, ◌∙◌}
 use native.Mathlib.Omega.{arith}
-use lib.ListN.{length, length-set}
+use lib.ListN.{length-set}
 use borrow.Author.Rules.{rules}
 use Rattle.rules.specs.declared.Row.{Row}
-use Rattle.rules.specs.Limits.{most_rows}
-use Rattle.audit.specs.Twins.{pair_of, Keyed}
+use Rattle.audit.specs.Twins.{pair_of}
 use Rattle.audit.proofs.TwinLaws.{no_keys, keys_more}
 use Rattle.audit.proofs.twins.put_keys.Goals as goal
 

@@ -2,7 +2,6 @@
 use mathlib.Core.Path.{sym, ap, ◌∙◌}
 use mathlib.Core.Bool.{not}
 use mathlib.Core.Option.{Option, none, some}
-use borrow.Author.Rules.{rules}
 use Rattle.rules.specs.declared.Refusal.{Refusal}
 use Rattle.rules.specs.Basics.{is_some}
 use Rattle.rules.specs.Opening.{setup_refusal}

@@ -1,7 +1,6 @@
 -- A section that is not valid makes the bytes no sound book; where the set-up and both parts are valid, the other tests decide.
 use mathlib.Core.Path.{sym, ◌∙◌}
 use native.Mathlib.Omega.{arith}
-use borrow.Author.Tests.{not-true, not-false}
 use Rattle.wire.proofs.NumberLaws.{bytes_known}
 use Rattle.audit.proofs.PartValidity.{few_rows}
 use Rattle.audit.proofs.ValidityLaws.{not_passed, setup_known}

@@ -1,12 +1,8 @@
 -- After each operator, what was tested so far and the test of those that are left together are the test of all.
-use Prim.Native.Nat.{◌+◌, ◌-◌, ◌*◌, ◌≤◌}
-use mathlib.Core.Path.{◌≡◌, refl, sym, ◌∙◌}
-use mathlib.Core.Bool.{◌&&◌}
+use Prim.Native.Nat.{◌-◌}
+use mathlib.Core.Path.{refl, sym, ◌∙◌}
 use native.Mathlib.Omega.{arith}
-use lib.ListN.{length}
 use borrow.Author.Rules.{rules}
-use Rattle.rules.specs.Opening.{operator_entry}
-use Rattle.audit.specs.Exact.{no_guarantees}
 use Rattle.audit.proofs.ValidityLaws.{no_guarantees_done, no_guarantees-step}
 use Rattle.audit.proofs.whole.no_guarantees.Goals as goal
 

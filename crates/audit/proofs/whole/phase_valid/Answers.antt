@@ -2,7 +2,6 @@
 use mathlib.Core.List.{[], ◌∷◌}
 use Rattle.rules.proofs.Basics.Tests.{chained_all}
 use Rattle.audit.specs.Validity.{phase_valid}
-use borrow.Author.Rules.{rules}
 use Rattle.audit.proofs.whole.phase_valid.Goals as goal
 
 pub returns : goal.returns

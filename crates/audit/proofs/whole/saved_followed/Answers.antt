@@ -2,7 +2,6 @@
 use mathlib.Core.Path.{sym, ◌∙◌}
 use native.Mathlib.Omega.{arith}
 use Rattle.audit.proofs.BookValidity.{followed_without, followed_with}
-use borrow.Author.Rules.{rules}
 use Rattle.audit.proofs.whole.saved_followed.Goals as goal
 
 pub returns-then-book-eq0 : goal.returns-then-book-eq0

@@ -1,7 +1,6 @@
 -- Without a batch there are zeros; with one the part decides, and the table is cleared.
 use mathlib.Core.Path.{sym, ◌∙◌}
 use Rattle.audit.proofs.BookValidity.{part_without, part_with_lem}
-use borrow.Author.Rules.{rules}
 use Rattle.audit.proofs.whole.saved_part_valid.Goals as goal
 
 pub returns-then-book-eq0 : goal.returns-then-book-eq0

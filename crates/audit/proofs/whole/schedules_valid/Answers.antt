@@ -5,7 +5,6 @@ use Rattle.rules.specs.declared.Counts.{Counts}
 use Rattle.rules.specs.Opening.{setup_of}
 use Rattle.rules.proofs.Setups.SetupEntries.{counts_of_setup}
 use Rattle.audit.proofs.BookValidity.{too_many_schedules, schedules_by_tests}
-use borrow.Author.Rules.{rules}
 use Rattle.audit.proofs.whole.schedules_valid.Goals as goal
 
 pub returns-then-n-gt-MOST_SCHEDULES : goal.returns-then-n-gt-MOST_SCHEDULES

@@ -1,5 +1,4 @@
 -- The two parts together, at the estimate of the hour.
-use borrow.Author.Rules.{rules}
 use Rattle.book.proofs.HourlyLaws.{hour_joined}
 use Rattle.book.proofs.hourly.hourly_exposure.Goals as goal
 

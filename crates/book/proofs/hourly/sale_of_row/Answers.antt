@@ -1,7 +1,6 @@
 -- A row whose proposer has another operator adds nothing, and any other row is read whole.
 use mathlib.Core.Path.{sym, ◌∙◌}
 use native.Mathlib.Omega.{arith}
-use borrow.Author.Rules.{rules}
 use Rattle.book.proofs.StateLaws.{book_length, row_count_high, numbered_row_stands}
 use Rattle.book.proofs.BookRows.{numbered_sound}
 use Rattle.book.proofs.WaitLaws.{own_stands}

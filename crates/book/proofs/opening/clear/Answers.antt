@@ -1,10 +1,8 @@
 -- The bytes before i are zeros, and i reaches the end.
-use Prim.Native.Nat.{◌-◌, ◌≤◌}
-use mathlib.Core.Path.{◌≡◌, sym}
-use lib.ListN.{length, take, length-set}
+use mathlib.Core.Path.{sym}
+use lib.ListN.{length-set}
 use native.Mathlib.Omega.{arith}
 use borrow.Author.Rules.{rules}
-use Rattle.wire.specs.Parts.{zeros}
 use Rattle.wire.proofs.ZeroLaws.{zeros_none}
 use Rattle.book.proofs.OpeningLaws.{cleared_more, cleared_all}
 use Rattle.book.proofs.opening.clear.Goals as goal

@@ -1,11 +1,8 @@
 -- Clearing the guarantees that are left, after those cleared so far, comes to clearing all of them.
-use Prim.Native.Nat.{◌+◌, ◌-◌, ◌*◌, ◌≤◌}
-use mathlib.Core.Path.{◌≡◌, refl, sym, ◌∙◌}
-use lib.ListN.{length}
+use Prim.Native.Nat.{◌-◌}
+use mathlib.Core.Path.{refl, sym, ◌∙◌}
 use native.Mathlib.Omega.{arith}
 use borrow.Author.Rules.{rules}
-use Rattle.rules.specs.Opening.{operator_entry}
-use Rattle.book.specs.Fresh.{guarantees_cleared}
 use Rattle.book.proofs.OpeningLaws.{guarantees_cleared_done, guarantees_cleared_step}
 use Rattle.book.proofs.opening.clear_guarantees.Goals as goal
 

@@ -3,7 +3,6 @@ use mathlib.Core.Path.{refl}
 use native.Mathlib.Omega.{arith}
 use Rattle.wire.proofs.NumberLaws.{bytes_known}
 use Rattle.book.proofs.OpeningLaws.{openable, written_fresh}
-use borrow.Author.Rules.{rules}
 use Rattle.book.proofs.opening.fill.Goals as goal
 
 pub counts-n-requires : goal.counts-n-requires

@@ -3,7 +3,6 @@ use mathlib.Core.Path.{sym, ◌∙◌}
 use mathlib.Core.Option.{none, some}
 use Rattle.rules.proofs.Checks.Clearing.{checked-same}
 use Rattle.book.proofs.OpeningLaws.{other_size, setup_decides, refused_unchanged, accepted_fresh}
-use borrow.Author.Rules.{rules}
 use Rattle.book.proofs.opening.open.Goals as goal
 
 pub returns-then-book-ne-BOOK_SIZE : goal.returns-then-book-ne-BOOK_SIZE

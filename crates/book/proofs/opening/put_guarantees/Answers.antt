@@ -1,11 +1,9 @@
 -- Copying the guarantees that are left, after those copied so far, comes to copying all of them.
-use Prim.Native.Nat.{◌+◌, ◌-◌, ◌*◌, ◌≤◌}
-use mathlib.Core.Path.{◌≡◌, refl, sym, ◌∙◌}
-use lib.ListN.{length, length-take, length-drop}
+use Prim.Native.Nat.{◌+◌, ◌-◌}
+use mathlib.Core.Path.{refl, sym, ◌∙◌}
+use lib.ListN.{length-take, length-drop}
 use native.Mathlib.Omega.{arith}
 use borrow.Author.Rules.{rules}
-use Rattle.rules.specs.Opening.{guarantee_width, operator_entry}
-use Rattle.book.specs.Fresh.{guarantees_put}
 use Rattle.book.proofs.OpeningLaws.{guarantees_put_done, guarantees_put_step}
 use Rattle.book.proofs.opening.put_guarantees.Goals as goal
 

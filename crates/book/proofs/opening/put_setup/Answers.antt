@@ -1,5 +1,4 @@
 -- The buffer is cleared, the set-up is copied to its front, and the guarantees in it are cleared.
-use borrow.Author.Rules.{rules}
 use Rattle.book.proofs.opening.put_setup.Goals as goal
 
 pub returns : goal.returns

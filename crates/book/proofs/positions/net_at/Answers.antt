@@ -1,7 +1,6 @@
 -- In a book no margin is broken, so that a net position is nearer to zero than 2^31: below that its 4 bytes say what was bought beyond what
 -- was sold, and from there on the reverse.
 use native.Mathlib.Omega.{arith}
-use borrow.Author.Rules.{rules}
 use Rattle.book.proofs.ReadingLaws.{net_has_place}
 use Rattle.book.proofs.NettedLaws.{net_bought, net_sold}
 use Rattle.book.proofs.positions.net_at.Goals as goal

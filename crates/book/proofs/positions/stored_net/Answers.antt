@@ -1,6 +1,5 @@
 -- The 4 bytes of an account and an hour lie within the bytes of a book.
 use native.Mathlib.Omega.{arith}
-use borrow.Author.Rules.{rules}
 use Rattle.book.proofs.StateLaws.{book_length}
 use Rattle.book.proofs.positions.stored_net.Goals as goal
 

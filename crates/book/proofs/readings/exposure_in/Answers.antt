@@ -1,7 +1,6 @@
 -- With nothing added the exposure worked out is the operator's.
 use mathlib.Core.Path.{sym, ◌∙◌}
 use native.Mathlib.Omega.{arith}
-use borrow.Author.Rules.{rules}
 use Rattle.rules.specs.Basics.{nil}
 use Rattle.book.proofs.StateLaws.{book_length}
 use Rattle.book.proofs.ReadingLaws.{exposure-no_operator, exposure_stands}

@@ -1,7 +1,6 @@
 -- The hour is tested before the operator.
 use mathlib.Core.Path.{sym, ◌∙◌}
 use native.Mathlib.Omega.{arith}
-use borrow.Author.Rules.{rules}
 use Rattle.book.proofs.StateLaws.{book_length}
 use Rattle.book.proofs.ReadingLaws.{hourly_no_hour, hourly_hour_inside, hourly-no_operator, hourly_stands}
 use Rattle.book.proofs.readings.hourly_exposure_in.Goals as goal

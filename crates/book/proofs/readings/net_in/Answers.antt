@@ -1,7 +1,6 @@
 -- In a book no margin is broken, so that the 4 bytes of a net say its position; the account is tested before the hour.
 use mathlib.Core.Path.{sym, ap, ◌∙◌}
 use native.Mathlib.Omega.{arith}
-use borrow.Author.Rules.{rules}
 use Rattle.rules.specs.declared.NetReading.{NetReading}
 use Rattle.book.proofs.StateLaws.{book_length}
 use Rattle.book.proofs.ReadingLaws.{net_no_account, net_no_hour, net_in_table, net_stands}

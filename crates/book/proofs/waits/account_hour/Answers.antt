@@ -1,7 +1,6 @@
 -- The net position is that of the book, and each of the two cells is read.
 use native.Mathlib.Omega.{arith}
 use Rattle.book.proofs.WaitLaws.{side_hour}
-use borrow.Author.Rules.{rules}
 use Rattle.book.proofs.waits.account_hour.Goals as goal
 
 pub wait_at-requires : goal.wait_at-requires

@@ -1,17 +1,10 @@
 -- What the table holds, and the pending sums of the rows that are left, make the pending sums of all rows; and a twin found so far or
 -- among the rows that are left is a twin among all.
-use Prim.Native.Nat.{◌+◌, ◌-◌, ◌*◌, ◌≤◌}
-use mathlib.Core.Path.{◌≡◌, refl}
-use mathlib.Core.Bool.{◌||◌}
+use Prim.Native.Nat.{◌-◌}
+use mathlib.Core.Path.{refl}
 use native.Mathlib.Omega.{arith}
-use lib.ListN.{length, drop}
 use borrow.Author.Rules.{rules}
-use Rattle.rules.specs.Basics.{any_passes}
-use Rattle.rules.specs.Limits.{most_energy, most_rows}
-use Rattle.rules.specs.Registration.{alike}
-use Rattle.image.specs.Valid.{book_in}
-use Rattle.book.specs.Waits.{waits_size}
-use Rattle.book.proofs.WaitLaws.{Waiting, length-no_waits, waiting_first, waiting-next, waiting_last, told_next, told_last}
+use Rattle.book.proofs.WaitLaws.{length-no_waits, waiting_first, waiting-next, waiting_last, told_next, told_last}
 use Rattle.book.proofs.waits.fill_waits.Goals as goal
 
 pub loop-number-init : goal.loop-number-init

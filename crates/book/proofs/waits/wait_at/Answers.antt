@@ -1,5 +1,4 @@
 -- The cell lies within the table.
-use borrow.Author.Rules.{rules}
 use Rattle.book.proofs.waits.wait_at.Goals as goal
 
 pub returns : goal.returns

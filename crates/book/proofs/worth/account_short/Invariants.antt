@@ -1,18 +1,12 @@
 -- The sum so far, and what the hours that are left add, make what all hours add.
-use Prim.Native.Nat.{ℕ, ◌+◌, ◌-◌, ◌*◌, ◌≤◌}
-use mathlib.Core.Path.{◌≡◌, sym, ap, ◌∙◌}
-use native.Mathlib.Omega.{arith}
-use borrow.Author.Rules.{rules}
-use Rattle.rules.specs.declared.Counts.{Counts}
+use Prim.Native.Nat.{◌+◌, ◌-◌, ◌*◌, ◌≤◌}
+use mathlib.Core.Path.{◌≡◌}
 use Rattle.rules.specs.Basics.{total, counting}
 use Rattle.rules.specs.Limits.{most_price, most_hours}
 use Rattle.rules.specs.Books.{periods}
-use Rattle.rules.proofs.Basics.CountingLaws.{sum_begins, sum_next, sum_done}
 use Rattle.image.specs.Valid.{book_in}
 use Rattle.book.specs.Worth.{nets_with, most_short}
-use Rattle.book.proofs.StateLaws.{book_length, book_is_sound}
-use Rattle.book.proofs.WorthParts.{hours_in}
-use Rattle.book.proofs.ShortLaws.{hour_short, hour_short_read, short_most, short_by_hour}
+use Rattle.book.proofs.ShortLaws.{hour_short}
 use Rattle.book.proofs.worth.account_short.Given as goal
 
 abbrev pub invariant-loop-hour : goal.invariant-loop-hour

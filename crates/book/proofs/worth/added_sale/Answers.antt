@@ -1,6 +1,5 @@
 -- Where nothing is added no sale is, and the sum over one row is what that row adds.
 use native.Mathlib.Omega.{arith}
-use borrow.Author.Rules.{rules}
 use Rattle.rules.specs.Basics.{total}
 use Rattle.rules.specs.Books.{no_row}
 use Rattle.rules.proofs.Basics.Searches.{each_at}

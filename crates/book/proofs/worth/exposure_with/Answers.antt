@@ -1,6 +1,5 @@
 -- An exposure is what lies below zero, the pending sales of the rows, and those of what is added.
 use native.Mathlib.Omega.{arith}
-use borrow.Author.Rules.{rules}
 use Rattle.book.specs.Worth.{added_rows}
 use Rattle.book.proofs.WorthParts.{exposure_joined, trade_quantity}
 use Rattle.book.proofs.worth.exposure_with.Goals as goal

@@ -1,15 +1,9 @@
 -- The entries before that of the account are the operators of the accounts before it.
-use Prim.Native.Nat.{◌+◌, ◌-◌, ◌≤◌}
-use mathlib.Core.Path.{◌≡◌, ap, ◌∙◌}
+use mathlib.Core.Path.{ap, ◌∙◌}
 use native.Mathlib.Omega.{arith}
-use borrow.Author.Rules.{rules}
 use Rattle.rules.specs.declared.Counts.{Counts}
-use Rattle.rules.specs.Limits.{most_accounts}
-use Rattle.rules.specs.Books.{account_count, operator_of}
-use Rattle.image.specs.Valid.{book_in}
-use Rattle.book.specs.Worth.{operators_size}
 use Rattle.book.proofs.StateLaws.{book_length, book_is_sound}
-use Rattle.book.proofs.WorthParts.{Listed, listed_first, listed_next, operators_listed, accounts_in_lem}
+use Rattle.book.proofs.WorthParts.{listed_first, listed_next, operators_listed, accounts_in_lem}
 use Rattle.book.proofs.worth.fill_operators.Goals as goal
 
 pub counts-n-requires : goal.counts-n-requires

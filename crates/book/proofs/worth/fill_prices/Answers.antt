@@ -1,16 +1,13 @@
 -- The entries before that of the hour are the sums of the prices up to them.
-use Prim.Native.Nat.{ℕ, ◌+◌, ◌-◌, ◌≤◌}
-use mathlib.Core.Path.{◌≡◌, ap, ◌∙◌}
+use Prim.Native.Nat.{ℕ, ◌+◌, ◌-◌}
+use mathlib.Core.Path.{ap, ◌∙◌}
 use native.Mathlib.Omega.{arith}
 use lib.ListN.{get_or}
-use borrow.Author.Rules.{rules}
 use Rattle.units.specs.declared.CentsPerMwh.{CentsPerMwh}
 use Rattle.rules.specs.declared.Counts.{Counts}
-use Rattle.rules.specs.Limits.{most_hours}
-use Rattle.rules.specs.Books.{periods}
 use Rattle.image.specs.Valid.{book_in}
 use Rattle.book.proofs.StateLaws.{book_length, book_is_sound}
-use Rattle.book.proofs.WorthParts.{SummedTo, summed_first, summed_next, summed_done, hours_in, prices_most, cheap_in}
+use Rattle.book.proofs.WorthParts.{summed_first, summed_next, summed_done, hours_in, prices_most, cheap_in}
 use Rattle.book.proofs.worth.fill_prices.Goals as goal
 
 pub counts-n-requires : goal.counts-n-requires

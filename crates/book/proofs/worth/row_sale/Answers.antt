@@ -6,7 +6,6 @@ use Rattle.book.proofs.StateLaws.{book_length, row_count_high, numbered_row_stan
 use Rattle.book.proofs.BookRows.{numbered_sound}
 use Rattle.book.proofs.WaitLaws.{own_stands}
 use Rattle.book.proofs.WorthParts.{operator_listed, sale_of_others, sound_row_in_range}
-use borrow.Author.Rules.{rules}
 use Rattle.book.proofs.worth.row_sale.Goals as goal
 
 pub row_offset-at-requires : goal.row_offset-at-requires

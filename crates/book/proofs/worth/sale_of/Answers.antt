@@ -2,7 +2,6 @@
 use mathlib.Core.Path.{sym}
 use native.Mathlib.Omega.{arith}
 use Rattle.book.proofs.WorthParts.{operator_listed, spanned, sale_waits, sale_skipped, sale_of_others, sale_priced}
-use borrow.Author.Rules.{rules}
 use Rattle.book.proofs.worth.sale_of.Goals as goal
 
 pub returns-then-r : goal.returns-then-r

@@ -1,14 +1,7 @@
 -- The sum so far, and what the rows that are left add, make what all rows add.
-use Prim.Native.Nat.{◌+◌, ◌-◌, ◌*◌, ◌≤◌}
-use mathlib.Core.Path.{◌≡◌}
+use Prim.Native.Nat.{◌-◌}
 use native.Mathlib.Nat.{zero-add}
 use native.Mathlib.Omega.{arith}
-use lib.ListN.{length, drop}
-use borrow.Author.Rules.{rules}
-use Rattle.rules.specs.Basics.{total}
-use Rattle.rules.specs.Limits.{most_rows}
-use Rattle.image.specs.Valid.{book_in}
-use Rattle.book.specs.Worth.{sale_worth, most_sale_worth}
 use Rattle.book.proofs.WorthParts.{rows_next, rows_done}
 use Rattle.book.proofs.worth.sales_worth.Goals as goal
 

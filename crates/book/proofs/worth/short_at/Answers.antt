@@ -1,6 +1,5 @@
 -- The net position that is read differs from the two sums by the same on both sides, with the trade taken or not.
 use native.Mathlib.Omega.{arith}
-use borrow.Author.Rules.{rules}
 use Rattle.rules.specs.Books.{no_row}
 use Rattle.rules.proofs.Basics.Searches.{each_at}
 use Rattle.book.proofs.ShortLaws.{net_small, short_alone, short_one}

@@ -1,7 +1,6 @@
 -- A trade that is not confirmed, or that has other parties, leaves the net position as it is; any other is taken as the definition says.
 use Prim.Native.Nat.{◌-◌}
 use mathlib.Core.Path.{ap, ◌∙◌}
-use borrow.Author.Rules.{rules}
 use Rattle.rules.specs.declared.AccountHour.{AccountHour}
 use Rattle.book.specs.Worth.{short_after}
 use Rattle.book.proofs.ShortLaws.{short_still}

@@ -1,18 +1,11 @@
 -- The sum so far, and what the accounts that are left add, make what all accounts of the operator add.
-use Prim.Native.Nat.{ℕ, ◌+◌, ◌-◌, ◌*◌, ◌≤◌}
-use mathlib.Core.Path.{◌≡◌, sym, ap, ◌∙◌}
-use native.Mathlib.Omega.{arith}
-use borrow.Author.Rules.{rules}
-use Rattle.rules.specs.declared.Counts.{Counts}
+use Prim.Native.Nat.{◌+◌, ◌-◌, ◌*◌, ◌≤◌}
+use mathlib.Core.Path.{◌≡◌}
 use Rattle.rules.specs.Basics.{total, counting}
 use Rattle.rules.specs.Limits.{most_accounts}
 use Rattle.rules.specs.Books.{account_count}
-use Rattle.rules.proofs.Basics.CountingLaws.{sum_begins, sum_next, sum_done}
 use Rattle.image.specs.Valid.{book_in}
 use Rattle.book.specs.Worth.{short_share, nets_with, most_short_worth}
-use Rattle.book.proofs.StateLaws.{book_length, book_is_sound}
-use Rattle.book.proofs.WorthParts.{accounts_in_lem}
-use Rattle.book.proofs.ShortLaws.{short_by_account}
 use Rattle.book.proofs.worth.short_worth.Given as goal
 
 abbrev pub invariant-loop-account : goal.invariant-loop-account

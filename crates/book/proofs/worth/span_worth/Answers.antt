@@ -2,7 +2,6 @@
 use Prim.Native.Nat.{◌-◌}
 use native.Mathlib.Omega.{arith}
 use lib.ListN.{get_or}
-use borrow.Author.Rules.{rules}
 use Rattle.book.proofs.WorthParts.{span_most}
 use Rattle.book.proofs.worth.span_worth.Goals as goal
 
