@@ -73,6 +73,11 @@ no_lower_covers s h o g held own e more =
     let room = mul-le-mul_right (thousand - maintenance_at u o) (rw e at more) in
     sym (le-leb (exposure u (book_in s).part.rows o) (g * (thousand - maintenance_at u o)) (omega arith))
 
+-- the same, of the number of cents alone
+pub raised_covers : (s : List ℕ) → is_sound s ≡ true → (o g : ℕ) → IsOperator (book_in s) o
+    → (guarantee_at (book_in s).part.guarantees o).0 ≤ g → true ≡ covered_under (book_in s) g o
+raised_covers s h o g own more = no_lower_covers s h o g _ own refl more
+
 -- ---- what is written
 
 pub guarantee_answered : (s t : List ℕ) (h : is_sound s ≡ true) (q : Request) (at : ℕ) → Ready guarantee (book_in s) q

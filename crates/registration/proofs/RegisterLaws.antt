@@ -1,13 +1,14 @@
 -- A row proposed: the tests of register in the order of their numbers, each on the book as it would be, and the row's 18 bytes with the
 -- count as all that is written.
-use Rattle.std.proofs.Common.{◌≡◌, ℕ, ◌+◌, ◌<◌, ◌≤◌, Bool, true, false, List, [], ◌∷◌, length, refl, ap, ◌∙◌, arith}
+use Rattle.std.proofs.Common.{◌≡◌, ℕ, ◌+◌, ◌<◌, ◌≤◌, Bool, true, false, List, [], ◌∷◌, length, refl, sym, ap, ◌∙◌, arith}
 use mathlib.Core.Option.{none, some}
 use Rattle.rules.specs.declared.Row.{Row}
 use Rattle.rules.specs.declared.Request.{Request}
+use Rattle.rules.specs.declared.Checked.TheVariants.{Fails}
 use Rattle.rules.specs.declared.Refusal.TheVariants.{AlreadyPending, RowsFull, MarginBroken, Uncovered}
 use Rattle.rules.specs.Basics.{any_passes, nil, cons}
 use Rattle.rules.specs.Limits.{most_hours, most_rows, book_size}
-use Rattle.rules.specs.Verdicts.{accepted}
+use Rattle.rules.specs.Verdicts.{accepted, checked}
 use Rattle.rules.specs.Books.{Book, operator_of}
 use Rattle.rules.specs.Requests.{Kind, register, kind_number, wanted_map}
 use Rattle.rules.specs.Registration.{alike, has_twin, twins, proposed, broken_by}
@@ -73,6 +74,11 @@ module _ (b : Book) (q : Request) (first : b.phase ≡ 1) where
       → decided register b q ≡ some RowsFull
   unfolding decided
   no_number_left alone h = Adding.no_numbers_left b (q ∷ []) first (one_standing b.part.rows q false alone) (one_alone q) (omega arith)
+
+  -- which is what register answers then
+  pub rows_full : any_passes (alike q.account q.other q.code) b.part.rows ≡ false → most_rows ≤ length b.part.rows
+      → Fails RowsFull ≡ checked (decided register b q)
+  rows_full alone h = ap checked (sym (no_number_left alone h))
 
 module _ (b : Book) (q : Request) (p : Proposing b q) where
   -- refusal 18: the row breaks a margin

@@ -20,6 +20,7 @@ use wire::numbers::put_u64;
 
 // Whether the operator's exposure is covered by the guarantee. One that is no lower than the guarantee in force covers it: in a book every
 // exposure is at most what is available.
+#[tactic(auto, using(crate::proofs::GuaranteeLaws::raised_covers))]
 fn covered_under(book: &[u8], guarantee: Cents, number: u8) -> bool
     requires { (is_sound book.now ≡ true) × (guarantee.0 ≤ most_guarantee) × IsOperator (book_in book.now) number }
     ensures { result ≡ covered_under (book_in book.now) guarantee.0 number }

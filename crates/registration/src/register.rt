@@ -77,6 +77,7 @@ fn margin_or_exposure_fault(book: &[u8], waits: &[u32], request: Request) -> Che
 }
 
 // What register is refused for.
+#[tactic(auto, using(crate::proofs::RegisterLaws::rows_full))]
 pub fn register_fault(book: &[u8], request: Request) -> Checked
     requires book_value { is_sound book.now ≡ true }
     requires proposes_row { ProposesRow (book_in book.now) request }

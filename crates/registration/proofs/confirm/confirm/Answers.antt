@@ -1,5 +1,5 @@
 -- What was checked is what the state decides, and what is written is the book with the row confirmed.
-use Rattle.std.proofs.Common.{sym, ◌∙◌, arith, rules}
+use Rattle.std.proofs.Common.{sym, ◌∙◌, arith}
 use mathlib.Core.Option.{none, some}
 use Rattle.rules.specs.Requests.{confirm}
 use Rattle.rules.proofs.Checks.Clearing.{checked-same}

@@ -1,5 +1,5 @@
 -- The tests of confirm are made in the order of their numbers, so that the first that fails is the refusal.
-use Rattle.std.proofs.Common.{sym, ap, ◌∙◌, arith, rules}
+use Rattle.std.proofs.Common.{sym, ap, ◌∙◌, arith}
 use Rattle.rules.specs.Requests.{confirm}
 use Rattle.rules.specs.Verdicts.{checked}
 use Rattle.image.specs.Valid.{book_in}

@@ -1,5 +1,5 @@
 -- The row that confirm names is the pending one with the caller as its counterparty.
-use Rattle.std.proofs.Common.{◌∙◌, rules}
+use Rattle.std.proofs.Common.{◌∙◌}
 use Rattle.image.specs.Valid.{book_in}
 use Rattle.registration.proofs.ConfirmLaws.{confirmed_found}
 use Rattle.registration.proofs.confirm.confirmed_number.Goals as goal

@@ -1,5 +1,5 @@
 -- The margins are tested first and then the exposure, both as they are once the row is confirmed, as the refusals are ranked.
-use Rattle.std.proofs.Common.{sym, ap, ◌∙◌, rules}
+use Rattle.std.proofs.Common.{sym, ap, ◌∙◌}
 use Rattle.rules.specs.Verdicts.{checked}
 use Rattle.registration.proofs.ConfirmLaws.{named_waits, caller_in_book, account-trade, trade_breaks, trade_uncovered, covered_with_trade_lem}
 use Rattle.registration.proofs.confirm.margin_or_exposure_fault.Goals as goal

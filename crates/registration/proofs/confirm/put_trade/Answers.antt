@@ -1,5 +1,5 @@
 -- The row's status is written, and then the nets are moved.
-use Rattle.std.proofs.Common.{◌∙◌, rules}
+use Rattle.std.proofs.Common.{◌∙◌}
 use Rattle.registration.proofs.confirm.put_trade.Goals as goal
 
 pub returns : goal.returns

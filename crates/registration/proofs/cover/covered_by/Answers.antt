@@ -1,5 +1,5 @@
 -- The maintenance that is read is that of the book's set-up, and the test is the definition's.
-use Rattle.std.proofs.Common.{ℕ, ◌-◌, ◌*◌, ap, ◌∙◌, arith, rules}
+use Rattle.std.proofs.Common.{ℕ, ◌-◌, ◌*◌, ap, ◌∙◌, arith}
 use Rattle.rules.specs.Limits.{thousand}
 use Rattle.book.proofs.BookRows.{setup_tabled}
 use Rattle.registration.proofs.CoverLaws.{operators_read, maintenance_read, maintenance_high}

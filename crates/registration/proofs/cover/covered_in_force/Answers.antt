@@ -1,5 +1,5 @@
 -- The guarantee in force is read, and the test is made with it.
-use Rattle.std.proofs.Common.{◌∙◌, rules}
+use Rattle.std.proofs.Common.{◌∙◌}
 use Rattle.registration.proofs.cover.covered_in_force.Goals as goal
 
 pub returns : goal.returns

@@ -1,5 +1,5 @@
 -- The bytes are the book's image, which has the guarantee in force in these 8 bytes.
-use Rattle.std.proofs.Common.{refl, ap, ◌∙◌, arith, rules}
+use Rattle.std.proofs.Common.{refl, ap, ◌∙◌, arith}
 use Rattle.units.specs.Units.{cents}
 use Rattle.book.proofs.StateLaws.{book_length}
 use Rattle.registration.proofs.CoverLaws.{guarantee_stands}

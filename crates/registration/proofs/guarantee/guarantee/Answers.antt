@@ -1,5 +1,5 @@
 -- What was checked is what the state decides, and what is written is the book with the guarantee replaced.
-use Rattle.std.proofs.Common.{sym, refl, ◌∙◌, arith, rules}
+use Rattle.std.proofs.Common.{sym, refl, ◌∙◌, arith}
 use mathlib.Core.Option.{none, some}
 use Rattle.rules.specs.Requests.{guarantee}
 use Rattle.rules.proofs.Checks.Clearing.{checked-same}

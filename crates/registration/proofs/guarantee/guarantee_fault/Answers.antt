@@ -1,5 +1,5 @@
 -- The tests of guarantee are made in the order of their numbers, so that the first that fails is the refusal.
-use Rattle.std.proofs.Common.{sym, ap, ◌∙◌, arith, rules}
+use Rattle.std.proofs.Common.{sym, ap, ◌∙◌, arith}
 use Rattle.rules.specs.Requests.{guarantee}
 use Rattle.rules.specs.Verdicts.{checked}
 use Rattle.book.proofs.StateLaws.{book_is_sound}

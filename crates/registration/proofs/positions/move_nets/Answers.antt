@@ -1,5 +1,5 @@
 -- The seller's nets are written first and then the buyer's; to raise by 2^32 less the quantity is to lower by the quantity.
-use Rattle.std.proofs.Common.{arith, rules}
+use Rattle.std.proofs.Common.{arith}
 use Rattle.image.proofs.Tables.TabledLaws.{first_hour_lem, seller_in, buyer_in}
 use Rattle.registration.proofs.PositionLaws.{nets_moved_lem}
 use Rattle.registration.proofs.positions.move_nets.Goals as goal

@@ -1,5 +1,5 @@
 -- What is written is the remainder of the sum by 2^32.
-use Rattle.std.proofs.Common.{sym, ◌∙◌, arith, rules}
+use Rattle.std.proofs.Common.{sym, ◌∙◌, arith}
 use Rattle.image.proofs.Writing.Loops.{raised-step}
 use Rattle.registration.proofs.positions.raise_net.Goals as goal
 

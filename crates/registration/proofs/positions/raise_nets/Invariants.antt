@@ -1,9 +1,8 @@
 -- To raise the nets that are left, after those raised so far, is to raise all.
-use Rattle.std.proofs.Common.{◌≡◌, ◌+◌, ◌-◌, ◌*◌, ◌≤◌, length, sym, refl, ◌∙◌, arith, rules}
+use Rattle.std.proofs.Common.{◌≡◌, ◌+◌, ◌*◌, ◌≤◌, length}
 use Rattle.wire.specs.Parts.{sweep}
 use Rattle.image.specs.Changes.{raised}
 use Rattle.image.specs.Layout.{net_width}
-use Rattle.image.proofs.Writing.Loops.{sweep_on, sweep_done}
 use Rattle.registration.proofs.positions.raise_nets.Given as goal
 
 abbrev pub invariant-loop-left : goal.invariant-loop-left

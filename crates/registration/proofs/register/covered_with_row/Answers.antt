@@ -1,5 +1,5 @@
 -- A pending purchase adds nothing to an exposure, so that it stays covered. With a sale the exposure is worked out and tested.
-use Rattle.std.proofs.Common.{◌∙◌, rules}
+use Rattle.std.proofs.Common.{◌∙◌}
 use Rattle.rules.specs.Basics.{nil, cons}
 use Rattle.image.proofs.Keeping.Easing.{purchase_exposes_none}
 use Rattle.registration.proofs.CoverLaws.{still_covered}

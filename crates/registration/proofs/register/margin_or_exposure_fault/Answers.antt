@@ -1,5 +1,5 @@
 -- The margins are tested first and then the exposure, both with the row added, as the refusals are ranked.
-use Rattle.std.proofs.Common.{sym, ap, ◌∙◌, rules}
+use Rattle.std.proofs.Common.{sym, ap, ◌∙◌}
 use Rattle.rules.specs.Verdicts.{checked}
 use Rattle.registration.proofs.MarginLaws.{sound_account_trade, found_hour, found_nowhere}
 use Rattle.book.proofs.WorthParts.{sound_row_in_range}

@@ -1,9 +1,9 @@
 -- The tests of register are made in the order of their numbers, so that the first that fails is the refusal.
-use Rattle.std.proofs.Common.{sym, ap, ◌∙◌, arith, rules}
+use Rattle.std.proofs.Common.{sym, ap, ◌∙◌, arith}
 use Rattle.rules.specs.Requests.{register}
 use Rattle.rules.specs.Verdicts.{checked}
 use Rattle.book.proofs.Answers.{in_wrong_phase}
-use Rattle.registration.proofs.RegisterLaws.{twin_pending, no_number_left}
+use Rattle.registration.proofs.RegisterLaws.{twin_pending}
 use Rattle.registration.proofs.register.register_fault.Goals as goal
 
 pub returns-then-phase-ne-REGISTRATION : goal.returns-then-phase-ne-REGISTRATION
@@ -12,11 +12,6 @@ returns-then-phase-ne-REGISTRATION c = ap checked (sym (in_wrong_phase _ _ regis
 pub returns-then-fill_waits : goal.returns-then-fill_waits
 returns-then-fill_waits c =
     ap checked (sym (twin_pending _ _ (sym c.phase.ensures ∙ c.if-phase-ne-REGISTRATION.false) (sym c.fill_waits.ensures.tells ∙ c.if-fill_waits.true)))
-
-pub returns-then-row_count-ge-MOST_ROWS : goal.returns-then-row_count-ge-MOST_ROWS
-returns-then-row_count-ge-MOST_ROWS c =
-    let alone = sym c.fill_waits.ensures.tells ∙ c.if-fill_waits.false in
-    ap checked (sym (no_number_left _ _ (sym c.phase.ensures ∙ c.if-phase-ne-REGISTRATION.false) alone (omega (arith, c.row_count.ensures.meaning))))
 
 pub margin_or_exposure_fault-requires : goal.margin_or_exposure_fault-requires
 margin_or_exposure_fault-requires c =

@@ -1,6 +1,5 @@
 -- The tests are the definition's, on the bytes of the row: the code first, and the rest where the code agrees.
 use Rattle.registration.proofs.PendingLaws.{another_code, rest_decides}
-use Rattle.std.proofs.Common.{rules}
 use Rattle.registration.proofs.search.alike_at.Goals as goal
 
 pub returns-then-get_u64-code : goal.returns-then-get_u64-code

@@ -1,11 +1,6 @@
 -- The number found among all rows is that found among the rows that are left, counted on from those that were passed.
-use Rattle.std.proofs.Common.{◌≡◌, ◌+◌, ◌-◌, ◌*◌, ◌≤◌, length, sym, ◌∙◌, arith, rules}
-use Rattle.rules.specs.Basics.{index_of}
-use Rattle.rules.specs.Registration.{alike}
-use Rattle.rules.specs.Calls.{number_from}
-use Rattle.image.specs.Cells.{rows_from}
-use Rattle.image.specs.Layout.{row_width}
-use Rattle.registration.proofs.PendingLaws.{numbered, none_passed, number_none, number_here, number-next}
+use Rattle.std.proofs.Common.{◌+◌, ◌-◌, sym, ◌∙◌, arith, rules}
+use Rattle.registration.proofs.PendingLaws.{none_passed, number_none, number_here, number-next}
 use Rattle.registration.proofs.search.number_among.Goals as goal
 
 pub loop-passed-init : goal.loop-passed-init

@@ -1,5 +1,5 @@
 -- The rows of a book lie side by side, and a number found is that of one of them.
-use Rattle.std.proofs.Common.{◌≡◌, ◌≤◌, List, length, sym, ap, ◌∙◌, arith, rules}
+use Rattle.std.proofs.Common.{◌≡◌, ◌≤◌, List, length, sym, ap, ◌∙◌, arith}
 use Rattle.rules.specs.declared.Row.{Row}
 use Rattle.rules.specs.Basics.{index_of}
 use Rattle.rules.specs.Registration.{alike}

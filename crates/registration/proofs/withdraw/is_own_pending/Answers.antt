@@ -1,5 +1,5 @@
 -- Past the last number there is no row; up to it the row's bytes say its status and its proposer.
-use Rattle.std.proofs.Common.{sym, arith, rules}
+use Rattle.std.proofs.Common.{sym, arith}
 use Rattle.book.proofs.StateLaws.{book_length}
 use Rattle.registration.proofs.Withdrawals.{no_such_number, own_pending}
 use Rattle.registration.proofs.withdraw.is_own_pending.Goals as goal

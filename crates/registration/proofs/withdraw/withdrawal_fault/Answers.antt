@@ -1,5 +1,5 @@
 -- The tests of withdraw are made in the order of their numbers, so that the first that fails is the refusal.
-use Rattle.std.proofs.Common.{sym, ap, ◌∙◌, rules}
+use Rattle.std.proofs.Common.{sym, ap, ◌∙◌}
 use Rattle.rules.specs.Requests.{withdraw}
 use Rattle.rules.specs.Verdicts.{checked}
 use Rattle.book.proofs.Answers.{in_wrong_phase}
