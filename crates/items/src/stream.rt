@@ -43,6 +43,7 @@ pub fn past_found(found: Found, at: usize) -> usize
 }
 
 // How many bytes of an item are its record; the rest are prices.
+#[tactic(auto, using(crate::proofs::StreamLaws::record_settle, crate::proofs::StreamLaws::record_whole))]
 pub fn record_length(item: &[u8]) -> usize
     ensures { result ≡ record_length item.now }
 {
