@@ -1,14 +1,15 @@
 -- What the state refuses a schedule for, test by test: the checks of other kinds vanish, and the first that is left and holds decides.
 use Prim.Native.Nat.{◌≤◌, ◌<◌}
-use mathlib.Core.Path.{◌≡◌}
+use mathlib.Core.Path.{◌≡◌, sym, ap}
 use mathlib.Core.List.{[], ◌∷◌}
 use mathlib.Core.Option.{none, some}
 use lib.ListN.{length}
 use borrow.Author.Tests.{eq-eqb, le-leb, lt-leb}
 use Rattle.rules.specs.declared.Request.{Request}
+use Rattle.rules.specs.declared.Checked.TheVariants.{Fails}
 use Rattle.rules.specs.declared.Refusal.TheVariants.{SchedulesFull}
 use Rattle.rules.specs.Limits.{most_schedules}
-use Rattle.rules.specs.Verdicts.{first_to_apply}
+use Rattle.rules.specs.Verdicts.{first_to_apply, checked}
 use Rattle.rules.specs.Books.{Book}
 use Rattle.rules.specs.Requests.{schedule}
 use Rattle.rules.specs.Calls.{state_checks}
@@ -21,6 +22,10 @@ module _ (b : Book) (q : Request) (second : b.phase ≡ 2) where
   pub no_place_left : most_schedules ≤ length b.schedules → decided schedule b q ≡ some SchedulesFull
   unfolding decided state_checks first_to_apply
   no_place_left h = rw (eq-eqb _ 2 second, le-leb most_schedules (length b.schedules) h)
+
+  -- which is what schedule answers then
+  pub places_full : most_schedules ≤ length b.schedules → Fails SchedulesFull ≡ checked (decided schedule b q)
+  places_full h = ap checked (sym (no_place_left h))
 
   pub place_left : length b.schedules < most_schedules → decided schedule b q ≡ none
   unfolding decided state_checks first_to_apply

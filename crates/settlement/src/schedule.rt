@@ -34,6 +34,7 @@ fn handed_in(request: Request) -> Schedule
 }
 
 // What schedule is refused for.
+#[tactic(auto, using(crate::proofs::Decisions::places_full))]
 fn schedule_fault(book: &[u8]) -> Checked
     requires { is_sound book.now ≡ true }
     ensures { (q : Request) → result ≡ checked (decided schedule (book_in book.now) q) }

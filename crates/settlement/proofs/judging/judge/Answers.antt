@@ -1,6 +1,5 @@
 -- The result is the rules' after the schedules before it, and the tables are brought up to date by that result.
 use mathlib.Core.Path.{sym, ap}
-use borrow.Author.Rules.{rules}
 use Rattle.rules.specs.declared.Point.{Point}
 use Rattle.valuation.proofs.CongruityLaws.{on_point, point_stands, point_in_cells, account_read_in_cells}
 use Rattle.valuation.proofs.ScheduleLaws.{in_lanes, carried_fits, carried-next}

@@ -1,5 +1,4 @@
 -- Nothing is used up at first.
-use borrow.Author.Rules.{rules}
 use Rattle.settlement.proofs.judging.judge_all.Goals as goal
 
 pub judge_each-requires : goal.judge_each-requires

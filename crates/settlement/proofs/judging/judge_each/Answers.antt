@@ -1,14 +1,12 @@
 -- After `k` schedules the tables are those of the first `k` in order of priority, judged one after the other.
-use Prim.Native.Nat.{◌-◌, ◌≤◌, ◌<◌}
+use Prim.Native.Nat.{◌<◌}
 use mathlib.Core.Path.{◌≡◌, sym, ◌∙◌}
 use native.Mathlib.Omega.{arith}
 use lib.ListN.{length}
 use borrow.Author.Rules.{rules}
 use Rattle.image.specs.Valid.{book_in}
-use Rattle.rules.specs.Limits.{most_schedules}
 use Rattle.book.proofs.StateLaws.{schedule_count_high}
-use Rattle.settlement.specs.Judging.{TablesIn}
-use Rattle.settlement.proofs.TurnLaws.{judged_in, length_unused, length_unregistered, length_unjudged, in_turn, tables_begin, tables_end, in_place, next-room, tables_follow}
+use Rattle.settlement.proofs.TurnLaws.{length_unused, length_unregistered, length_unjudged, in_turn, tables_begin, tables_end, in_place, next-room, tables_follow}
 use Rattle.settlement.proofs.judging.judge_each.Goals as goal
 
 pub loop-k-init : goal.loop-k-init

@@ -1,12 +1,11 @@
 -- After `k` schedules the first `k` have their places.
-use Prim.Native.Nat.{◌-◌, ◌≤◌, ◌<◌}
+use Prim.Native.Nat.{◌<◌}
 use mathlib.Core.Path.{◌≡◌, refl, ◌∙◌}
 use native.Mathlib.Omega.{arith}
-use lib.ListN.{length, length-set, take}
+use lib.ListN.{length, length-set}
 use lib.Seq.{take_all}
 use borrow.Author.Rules.{rules}
 use Rattle.rules.specs.Settlement.{placed}
-use Rattle.rules.specs.Limits.{most_schedules}
 use Rattle.image.specs.Valid.{book_in}
 use Rattle.book.proofs.StateLaws.{book_length, schedule_count_high}
 use Rattle.settlement.proofs.PlacingLaws.{schedule_stands, length-placed, none_placed, placed-next}

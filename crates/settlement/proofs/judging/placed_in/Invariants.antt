@@ -1,15 +1,10 @@
 -- After `k` schedules the first `k` have their places.
-use Prim.Native.Nat.{◌-◌, ◌≤◌, ◌<◌}
-use mathlib.Core.Path.{◌≡◌, refl, ◌∙◌}
-use native.Mathlib.Omega.{arith}
-use lib.ListN.{length, length-set, take}
-use lib.Seq.{take_all}
-use borrow.Author.Rules.{rules}
+use Prim.Native.Nat.{◌-◌, ◌≤◌}
+use mathlib.Core.Path.{◌≡◌}
+use lib.ListN.{length, take}
 use Rattle.rules.specs.Settlement.{placed}
 use Rattle.rules.specs.Limits.{most_schedules}
 use Rattle.image.specs.Valid.{book_in}
-use Rattle.book.proofs.StateLaws.{book_length, schedule_count_high}
-use Rattle.settlement.proofs.PlacingLaws.{schedule_stands, length-placed, none_placed, placed-next}
 use Rattle.settlement.proofs.judging.placed_in.Given as goal
 
 abbrev pub invariant-loop-k : goal.invariant-loop-k

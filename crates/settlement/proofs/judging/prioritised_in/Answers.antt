@@ -1,7 +1,6 @@
 -- All schedules of the book are placed, and then put in order of priority.
 use mathlib.Core.Path.{ap, ◌∙◌}
 use native.Mathlib.Omega.{arith}
-use borrow.Author.Rules.{rules}
 use Rattle.rules.specs.Settlement.{prioritised}
 use Rattle.book.proofs.StateLaws.{schedule_count_high}
 use Rattle.settlement.proofs.judging.prioritised_in.Goals as goal

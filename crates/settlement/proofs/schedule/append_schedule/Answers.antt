@@ -1,6 +1,5 @@
 -- The schedule's bytes are written after the last one, and then the count that includes it.
 use mathlib.Core.Path.{◌∙◌}
-use borrow.Author.Rules.{rules}
 use Rattle.settlement.proofs.schedule.append_schedule.Goals as goal
 
 pub returns : goal.returns

@@ -9,7 +9,6 @@ use Rattle.book.proofs.StateLaws.{book_length}
 use Rattle.book.proofs.Answers.{refused_answered}
 use Rattle.settlement.proofs.Decisions.{few_schedules}
 use Rattle.settlement.proofs.SchedulingLaws.{scheduled_answered}
-use borrow.Author.Rules.{rules}
 use Rattle.settlement.proofs.schedule.schedule.Goals as goal
 
 pub returns-in-Fails : goal.returns-in-Fails
