@@ -1,13 +1,12 @@
 -- A request in 34 bytes (document 01, "Requests"): all thirteen fields in bit order, each in its full width, with no map. A field that the
 -- kind has not is 0 when it is read, and is not looked at when it is written.
-use Rattle.std.specs.Prelude.{ℕ, List, length, eqb}
+use Rattle.std.specs.Prelude.{ℕ, List, length, eqb, if◌then◌else◌}
 use Rattle.wire.specs.Numbers.{number_at}
 use Rattle.wire.specs.Parts.{pack}
 use Rattle.units.specs.Units.{kwh, cents, cents_per_mwh}
 use Rattle.rules.specs.declared.Outcome.{Outcome}
 use Rattle.rules.specs.declared.Request.{Request}
 use Rattle.rules.specs.declared.Refusal.TheVariants.{WrongLength}
-use Rattle.rules.specs.Basics.{if◌then◌else◌}
 use Rattle.rules.specs.Verdicts.{refused}
 use Rattle.rules.specs.Requests.{widths, fields_of, write_outcome, written}
 

@@ -1,4 +1,5 @@
 -- Bytes are those of a sound book exactly where each section stands: the tests of such a book and of its image, gathered by section.
+use Rattle.std.specs.Prelude.{if◌then◌else◌}
 use Prim.Native.Nat.{ℕ, zero, suc, ◌+◌, ◌-◌, ◌*◌, ◌≤◌, ◌<◌}
 use mathlib.Core.Path.{◌≡◌, refl, sym, ap, ◌∙◌}
 use mathlib.Core.List.{List, [], ◌∷◌, map}
@@ -12,7 +13,7 @@ use Rattle.wire.specs.Regions.{zeros_from}
 use Rattle.wire.specs.Parts.{chunks}
 use Rattle.wire.proofs.SlotLaws.{length-chunks, chunks_front}
 use Rattle.rules.specs.declared.Row.{Row}
-use Rattle.rules.specs.Basics.{if◌then◌else◌, any_passes, every, all_of, is_some}
+use Rattle.rules.specs.Basics.{any_passes, every, all_of, is_some}
 use Rattle.rules.specs.Limits.{most_hours, most_operators, most_schedules, book_size}
 use Rattle.rules.specs.Books.{Setup, Part, Book}
 use Rattle.rules.specs.Opening.{counts_in, setup_of}

@@ -1,10 +1,10 @@
 -- A book section by section, as code tests it in its bytes: the set-up first, then what is read by it. Each test looks at its own places.
 -- `top` is the most periods that a day can have, 25 hours today.
-use Rattle.std.specs.Prelude.{ℕ, ◌+◌, ◌-◌, ◌*◌, ◌≤◌, ◌≡◌, List, [], ◌∷◌, Bool, not, ◌&&◌, ◌||◌, length, get_or, take, drop, eqb, leb}
+use Rattle.std.specs.Prelude.{ℕ, ◌+◌, ◌-◌, ◌*◌, ◌≤◌, ◌≡◌, List, [], ◌∷◌, Bool, not, ◌&&◌, ◌||◌, length, get_or, take, drop, eqb, leb, if◌then◌else◌}
 use Rattle.wire.specs.Numbers.{number_at}
 use Rattle.wire.specs.Regions.{zeros_from}
 use Rattle.rules.specs.declared.Row.{Row}
-use Rattle.rules.specs.Basics.{if◌then◌else◌, any_passes, every, all_of, up_to, within, Each}
+use Rattle.rules.specs.Basics.{any_passes, every, all_of, up_to, within, Each}
 use Rattle.rules.specs.Limits.{most_guarantee, thousand, most_operators, most_accounts, most_rows, most_schedules, most_hours, book_size}
 use Rattle.rules.specs.Books.{Part, registration_phase, settled_phase}
 use Rattle.rules.specs.Opening.{counts_in, operators_offset, setup_length, setup_of, guarantee_width}

@@ -1,12 +1,11 @@
 -- What kinds 5 to 8 are refused for, and what opening and ending a batch writes (document 01, "Registration"; docs/LAYOUT.md).
-use Rattle.std.specs.Prelude.{ℕ, ◌≡◌, List, Bool, true, false}
+use Rattle.std.specs.Prelude.{ℕ, ◌≡◌, List, Bool, true, false, if◌then◌else◌}
 use Rattle.wire.specs.Numbers.{le}
 use Rattle.wire.specs.Regions.{splice}
 use Rattle.rules.specs.declared.Request.{Request}
 use Rattle.rules.specs.declared.Outcome.{Outcome}
 use Rattle.rules.specs.declared.Checked.{Checked}
 use Rattle.rules.specs.declared.Checked.TheVariants.{Clear, Fails}
-use Rattle.rules.specs.Basics.{if◌then◌else◌}
 use Rattle.rules.specs.Limits.{most_hours}
 use Rattle.rules.specs.Verdicts.{accepted, refused, checked}
 use Rattle.rules.specs.Books.{Book}

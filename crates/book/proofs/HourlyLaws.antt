@@ -1,5 +1,6 @@
 -- The hourly exposure of an operator: the sum of what lies below zero of its accounts' net positions, and of what each row adds as a pending
 -- sale, at the hour's price.
+use Rattle.std.specs.Prelude.{if◌then◌else◌}
 use Prim.Native.Nat.{ℕ, ◌+◌, ◌*◌}
 use mathlib.Core.Path.{◌≡◌, refl, sym, ap, ◌∙◌}
 use mathlib.Core.List.{List}
@@ -11,7 +12,7 @@ use lib.Dec.{eqb}
 use borrow.Author.Tests.{eq-eqb, ne_eqb}
 use Rattle.units.specs.declared.CentsPerMwh.{CentsPerMwh}
 use Rattle.rules.specs.declared.Row.{Row}
-use Rattle.rules.specs.Basics.{if◌then◌else◌, total, counting, Each, nil, cons}
+use Rattle.rules.specs.Basics.{total, counting, Each, nil, cons}
 use Rattle.rules.specs.Books.{Setup, estimate_at, operator_of, account_count}
 use Rattle.rules.specs.Registration.{pending, includes_hour, counted, pending_of, waiting, net_of, pending_sales, account_hour, exposed, of_operator, hourly_exposure_of, hourly_exposure}
 use Rattle.rules.proofs.Rows.Operators.{operator_cong, operator_add, operator_none, operator_one}

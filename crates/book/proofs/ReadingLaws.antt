@@ -1,5 +1,6 @@
 -- What the readings answer, by the tests that code makes: the lowest bit that is out of range, else the figure. A net within the margins is
 -- read from its 4 bytes, as it is nearer to zero than 2^31.
+use Rattle.std.specs.Prelude.{if◌then◌else◌}
 use Prim.Native.Nat.{ℕ, ◌+◌, ◌-◌, ◌*◌, ◌%◌, ◌^◌, ◌≤◌}
 use mathlib.Core.Path.{◌≡◌, refl, sym, ap, ◌∙◌}
 use mathlib.Core.List.{List, [], ◌∷◌}
@@ -20,7 +21,7 @@ use Rattle.rules.specs.declared.Position.{Position}
 use Rattle.rules.specs.declared.Position.TheVariants.{Long, Short}
 use Rattle.rules.specs.declared.Refusal.{Refusal}
 use Rattle.rules.specs.declared.Refusal.TheVariants.{OutOfRange}
-use Rattle.rules.specs.Basics.{if◌then◌else◌, within}
+use Rattle.rules.specs.Basics.{within}
 use Rattle.rules.specs.Limits.{most_energy, most_hours, book_size}
 use Rattle.rules.specs.Books.{Setup, margins_at, operator_count, account_count, periods}
 use Rattle.rules.specs.Opening.{counts_in, setup_of}

@@ -1,4 +1,5 @@
 -- What of the net positions lies below zero: in an hour, from the bytes of a book; then for an account and for an operator.
+use Rattle.std.specs.Prelude.{if◌then◌else◌}
 use Prim.Native.Nat.{ℕ, ◌*◌, ◌≤◌}
 use mathlib.Core.Path.{◌≡◌, refl, sym, ap, ◌∙◌}
 use mathlib.Core.List.{List, [], ◌∷◌}
@@ -10,7 +11,7 @@ use borrow.Author.Tests.{eq-eqb, ne_eqb}
 use Rattle.units.specs.declared.CentsPerMwh.{CentsPerMwh}
 use Rattle.rules.specs.declared.Row.{Row}
 use Rattle.rules.specs.declared.Net.{Net}
-use Rattle.rules.specs.Basics.{if◌then◌else◌, total, counting}
+use Rattle.rules.specs.Basics.{total, counting}
 use Rattle.rules.specs.Limits.{most_energy, most_price}
 use Rattle.rules.specs.Books.{Setup, estimate_at, operator_of, account_count, periods}
 use Rattle.rules.specs.Registration.{confirmed, includes_hour, seller, net_of, after_trade, of_operator}

@@ -1,4 +1,5 @@
 -- The pending rows of one account, row by row: what the table holds and the pending sums of the rows that are left make those of all rows.
+use Rattle.std.specs.Prelude.{if◌then◌else◌}
 use Prim.Native.Nat.{ℕ, zero, suc, ◌+◌, ◌-◌, ◌*◌, ◌≤◌}
 use mathlib.Core.Path.{◌≡◌, refl, sym, ap, ◌∙◌}
 use mathlib.Core.List.{List, [], ◌∷◌, ◌++◌}
@@ -12,7 +13,7 @@ use lib.Dec.{eqb}
 use borrow.Author.Tests.{eq-eqb, ne_eqb}
 use Rattle.wire.specs.Numbers.{number_at}
 use Rattle.rules.specs.declared.Row.{Row}
-use Rattle.rules.specs.Basics.{if◌then◌else◌, total, any_passes, nth}
+use Rattle.rules.specs.Basics.{total, any_passes, nth}
 use Rattle.rules.specs.Limits.{most_energy, most_hours}
 use Rattle.rules.specs.Books.{no_row}
 use Rattle.rules.specs.Registration.{pending, includes_hour, alike, waiting}

@@ -1,5 +1,6 @@
 -- An exposure is the sum of two parts: what of the operator's net positions lies below zero, and what each pending sale of its accounts adds.
 -- So it is with rows that are to be added, and once a pending row is confirmed.
+use Rattle.std.specs.Prelude.{if◌then◌else◌}
 use Prim.Native.Nat.{ℕ, ◌+◌, ◌-◌, ◌*◌, ◌≤◌}
 use mathlib.Core.Path.{◌≡◌, refl, sym, ap, ◌∙◌}
 use mathlib.Core.List.{List, [], ◌∷◌, ◌++◌}
@@ -10,7 +11,7 @@ use lib.ListN.{length}
 use lib.Dec.{eqb}
 use Rattle.rules.specs.declared.Row.{Row}
 use Rattle.rules.specs.declared.Net.{Net}
-use Rattle.rules.specs.Basics.{if◌then◌else◌, total, nth, up_to, Each, nil, cons}
+use Rattle.rules.specs.Basics.{total, nth, up_to, Each, nil, cons}
 use Rattle.rules.specs.Books.{Setup, no_row, estimate_at, account_count, periods}
 use Rattle.rules.specs.Registration.{pending, includes_hour, buyer, seller, counted, pending_of, waiting, with_status, mark, bought, sold, net_of, pending_sales, account_hour, after_trade, exposed, of_operator, exposure_of, exposure, exposure_with}
 use Rattle.rules.proofs.Basics.Totals.{total_zero, total_append, total_add, total_times, total_cong}

@@ -1,4 +1,5 @@
 -- The two parts of an exposure as loops work them out: sums of estimated prices, hour by hour, and pending sales, row by row.
+use Rattle.std.specs.Prelude.{if◌then◌else◌}
 use Prim.Native.Nat.{ℕ, zero, suc, ◌+◌, ◌-◌, ◌*◌, ◌≤◌, ◌<◌}
 use mathlib.Core.Path.{◌≡◌, refl, sym, ap, ◌∙◌}
 use mathlib.Core.List.{List, [], ◌∷◌}
@@ -14,7 +15,7 @@ use Rattle.units.specs.declared.CentsPerMwh.{CentsPerMwh}
 use Rattle.units.specs.Units.{cents_per_mwh}
 use Rattle.rules.specs.declared.Counts.{Counts}
 use Rattle.rules.specs.declared.Row.{Row}
-use Rattle.rules.specs.Basics.{if◌then◌else◌, total, nth, counting, up_to, within, Each}
+use Rattle.rules.specs.Basics.{total, nth, counting, up_to, within, Each}
 use Rattle.rules.specs.Limits.{most_energy, most_price, most_hours}
 use Rattle.rules.specs.Books.{Setup, no_row, estimate_at, operator_of, account_count, periods}
 use Rattle.rules.specs.Opening.{counts_in, estimates_in, setup_of}

@@ -1,9 +1,8 @@
 -- What opening and the readings answer, on any bytes (document 01, "Opening", "Registration"; document 02, note 5).
-use Rattle.std.specs.Prelude.{ℕ, List}
+use Rattle.std.specs.Prelude.{ℕ, List, if◌then◌else◌}
 use Rattle.rules.specs.declared.NetReading.{NetReading}
 use Rattle.rules.specs.declared.ExposureReading.{ExposureReading}
 use Rattle.rules.specs.declared.Refusal.TheVariants.{NotABook}
-use Rattle.rules.specs.Basics.{if◌then◌else◌}
 use Rattle.rules.specs.Opening.{open_refusal, opened}
 use Rattle.rules.specs.Requests.{unless_refused}
 use Rattle.rules.specs.Readings.{net_reading, exposure_reading, hourly_exposure_reading}

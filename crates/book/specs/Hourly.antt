@@ -1,8 +1,7 @@
 -- The hourly exposure of an operator (document 02, note 5) in two parts, in kWh: what of the net positions lies below zero, account by
 -- account, and the pending sales, row by row.
-use Rattle.std.specs.Prelude.{ℕ, ◌*◌, List, eqb}
+use Rattle.std.specs.Prelude.{ℕ, ◌*◌, List, eqb, if◌then◌else◌}
 use Rattle.rules.specs.declared.Row.{Row}
-use Rattle.rules.specs.Basics.{if◌then◌else◌}
 use Rattle.rules.specs.Limits.{most_energy, most_accounts, most_rows}
 use Rattle.rules.specs.Books.{Setup, operator_of, selling_side}
 use Rattle.rules.specs.Registration.{counted, pending_of, net_of, of_operator}

@@ -1,9 +1,9 @@
 -- Exposure in two parts (document 01, "Registration"): what of the net positions lies below zero, and the pending sales, row by row.
-use Rattle.std.specs.Prelude.{ℕ, ◌+◌, ◌-◌, ◌*◌, ◌≤◌, ◌≡◌, List, [], ◌∷◌, true, ◌&&◌, length, get_or, eqb}
+use Rattle.std.specs.Prelude.{ℕ, ◌+◌, ◌-◌, ◌*◌, ◌≤◌, ◌≡◌, List, [], ◌∷◌, true, ◌&&◌, length, get_or, eqb, if◌then◌else◌}
 use Rattle.units.specs.Units.{kwh}
 use Rattle.rules.specs.declared.Row.{Row}
 use Rattle.rules.specs.declared.Net.{Net}
-use Rattle.rules.specs.Basics.{if◌then◌else◌, total, up_to, Each}
+use Rattle.rules.specs.Basics.{total, up_to, Each}
 use Rattle.rules.specs.Limits.{most_energy, most_price, most_hours, most_accounts}
 use Rattle.rules.specs.Books.{Setup, Book, estimate_at, operator_of, account_count, periods, selling_side}
 use Rattle.rules.specs.Registration.{pending, includes_hour, account_hour, after_trade, after_trades, of_operator}

@@ -1,8 +1,8 @@
 // The readings: a net position, an exposure and an hourly exposure, of a sound book.
-ghost use Rattle.std.specs.Prelude.{◌≡◌, true, not, ◌-◌, ◌^◌, ltb};
+ghost use Rattle.std.specs.Prelude.{◌≡◌, true, not, ◌-◌, ◌^◌, ltb, if◌then◌else◌};
 ghost use Rattle.units.specs.Units.{kwh};
 ghost use Rattle.rules.specs.declared.Position.TheVariants.{Long, Short};
-ghost use Rattle.rules.specs.Basics.{if◌then◌else◌, within};
+ghost use Rattle.rules.specs.Basics.{within};
 ghost use Rattle.rules.specs.Readings.{net_reading, exposure_reading, hourly_exposure_reading};
 ghost use Rattle.image.specs.Valid.{is_sound, book_in};
 

@@ -1,4 +1,5 @@
 -- The checks of a call by their numbers, in rank; none of them is 1: no call on a plain book is refused with it.
+use Rattle.std.specs.Prelude.{if◌then◌else◌}
 use Prim.Native.Nat.{ℕ, ◌<◌}
 use mathlib.Core.Path.{◌≡◌, refl, ◌∙◌}
 use mathlib.Core.List.{List, [], ◌∷◌, map}
@@ -9,7 +10,7 @@ use lib.Dec.{ltb}
 use borrow.Author.Tests.{ltb-true}
 use Rattle.rules.specs.declared.Refusal.{Refusal}
 use Rattle.rules.specs.declared.Request.{Request}
-use Rattle.rules.specs.Basics.{if◌then◌else◌, every, Each, nil, cons}
+use Rattle.rules.specs.Basics.{every, Each, nil, cons}
 use Rattle.rules.specs.Verdicts.{Check, ◌⇒◌, ◌⇒↑◌, applies, first_to_apply, refusal_numbers, numbers}
 use Rattle.rules.specs.Books.{Book}
 use Rattle.rules.specs.Requests.{Kind, read_checks, is_strip, strip_rows, row_checks, strip_checks}

@@ -1,5 +1,6 @@
 -- What a request is answered on a book before asks are cleared, whatever record says it: 6 and 7 first, then by its kind. Every single kind
 -- but settle looks at nothing that a call is lent beside its record.
+use Rattle.std.specs.Prelude.{if◌then◌else◌}
 use Prim.Native.Nat.{ℕ, ◌^◌, ◌≤◌, ◌<◌}
 use mathlib.Core.Path.{◌≡◌, refl, sym, ap, ◌∙◌}
 use mathlib.Core.List.{List, [], ◌∷◌}
@@ -16,7 +17,6 @@ use Rattle.rules.specs.declared.Outcome.{Outcome}
 use Rattle.rules.specs.declared.Refusal.{Refusal}
 use Rattle.rules.specs.declared.Refusal.TheVariants.{WrongLength, OutOfRange, SameAccount, BufferShort}
 use Rattle.rules.specs.declared.Reading.TheVariants.{Read, Unread}
-use Rattle.rules.specs.Basics.{if◌then◌else◌}
 use Rattle.rules.specs.Limits.{most_hours, book_size}
 use Rattle.rules.specs.Verdicts.{◌⇒◌, ◌⇒↑◌, first_to_apply, checked, refused}
 use Rattle.rules.specs.Books.{Book, counts_of}

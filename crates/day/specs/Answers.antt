@@ -1,8 +1,7 @@
 -- What a call answers, on any bytes (document 01, "Verdicts"): the paper's answer on the book that the bytes say, and 1 where they are
 -- no book. A refusal changes no lent byte.
-use Rattle.std.specs.Prelude.{ℕ, List}
+use Rattle.std.specs.Prelude.{ℕ, List, if◌then◌else◌}
 use Rattle.rules.specs.declared.Refusal.TheVariants.{NotABook}
-use Rattle.rules.specs.Basics.{if◌then◌else◌}
 use Rattle.rules.specs.Calls.{Call, Answer, carried, refused_on, step, uncleared}
 use Rattle.image.specs.Valid.{is_book, book_bytes, book_in}
 

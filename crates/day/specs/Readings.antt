@@ -1,9 +1,9 @@
 -- The readings that the promise compares with those of a book: what the ledger would read out, in the paper's numbers.
-use Rattle.std.specs.Prelude.{ℕ, ℤ}
+use Rattle.std.specs.Prelude.{ℕ, ℤ, if◌then◌else◌}
 use Rattle.std.proofs.Math.Option.{none}
 use Rattle.units.specs.declared.MilliCents.{MilliCents}
 use Rattle.units.specs.Units.{milli_cents}
-use Rattle.rules.specs.Basics.{if◌then◌else◌, within}
+use Rattle.rules.specs.Basics.{within}
 use Rattle.rules.specs.Verdicts.{ReadOut, read_out}
 use Rattle.rules.specs.Books.{account_count, operator_count, periods}
 use Rattle.rules.specs.Registration.{figure}

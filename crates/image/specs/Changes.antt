@@ -1,8 +1,7 @@
 -- What a loop over a book's cells puts to each of them.
-use Rattle.std.specs.Prelude.{ℕ, ◌+◌, List, get_or, eqb}
+use Rattle.std.specs.Prelude.{ℕ, ◌+◌, List, get_or, eqb, if◌then◌else◌}
 use Rattle.wire.specs.Numbers.{number, le}
 use Rattle.wire.specs.Regions.{splice}
-use Rattle.rules.specs.Basics.{if◌then◌else◌}
 use Rattle.rules.specs.Books.{pending_status, withdrawn_status}
 use Rattle.image.specs.Layout.{status_offset}
 

@@ -1,12 +1,12 @@
 -- The image of a plain book in bytes (document 01, "Opening"; document 02, note 4), and the plain book that bytes say.
-use Rattle.std.specs.Prelude.{ℕ, zero, suc, ◌-◌, List, [], ◌∷◌, length, get_or, replicate, eqb}
+use Rattle.std.specs.Prelude.{ℕ, zero, suc, ◌-◌, List, [], ◌∷◌, length, get_or, replicate, eqb, if◌then◌else◌}
 use Rattle.std.proofs.Math.Option.{Option, none, some}
 use Rattle.wire.specs.Numbers.{number, number_at, le, signed}
 use Rattle.wire.specs.Parts.{zeros, flat, cut, pack, slots, padded}
 use Rattle.units.specs.Units.{kwh, cents, cents_per_mwh}
 use Rattle.rules.specs.declared.Row.{Row}
 use Rattle.rules.specs.declared.Schedule.{Schedule}
-use Rattle.rules.specs.Basics.{if◌then◌else◌, up_to, entries, joined}
+use Rattle.rules.specs.Basics.{up_to, entries, joined}
 use Rattle.rules.specs.Limits.{most_operators, most_accounts, most_rows, most_schedules}
 use Rattle.rules.specs.Books.{Setup, Part, Book, operator_count}
 use Rattle.rules.specs.Opening.{setup_bytes, setup_of, guarantee_width}

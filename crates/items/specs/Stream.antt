@@ -1,8 +1,7 @@
 -- The stream read item by item (document 01, "Replay"). What an offset comes to in the list of all items is said by the laws of
 -- proofs/StreamLaws.antt.
-use Rattle.std.specs.Prelude.{ℕ, ◌+◌, List, length, get_or, eqb, leb}
+use Rattle.std.specs.Prelude.{ℕ, ◌+◌, List, length, get_or, eqb, leb, if◌then◌else◌}
 use Rattle.wire.specs.Numbers.{number_at}
-use Rattle.rules.specs.Basics.{if◌then◌else◌}
 use Rattle.items.specs.declared.Found.{Found}
 use Rattle.items.specs.declared.Found.TheVariants.{Whole, Cut, End}
 
@@ -10,8 +9,8 @@ use Rattle.items.specs.declared.Found.TheVariants.{Whole, Cut, End}
 unfoldable pub found_at : List ℕ → ℕ → Found
 found_at s at =
     if leb (length s) at then End
-    else if leb (at + 2 + number_at s at 2) (length s) then Whole (at + 2) (at + 2 + number_at s at 2)
-    else Cut
+    else (if leb (at + 2 + number_at s at 2) (length s) then Whole (at + 2) (at + 2 + number_at s at 2)
+    else Cut)
 
 -- where the next item begins: behind a whole item, else at the same offset
 unfoldable pub past_found : Found → ℕ → ℕ

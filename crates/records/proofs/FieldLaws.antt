@@ -1,4 +1,5 @@
 -- How wide the fields of a record are, and a list of fields filled one after the other.
+use Rattle.std.specs.Prelude.{if◌then◌else◌}
 use Prim.Native.Nat.{ℕ, zero, suc, ◌+◌, ◌≤◌, max}
 use mathlib.Core.Path.{◌≡◌}
 use mathlib.Core.List.{List, [], ◌∷◌}
@@ -6,7 +7,7 @@ use mathlib.Core.Bool.{Bool, true, false}
 use native.Mathlib.Numerals.{add-one}
 use native.Mathlib.Omega.{arith}
 use lib.ListN.{get_or, set}
-use Rattle.rules.specs.Basics.{if◌then◌else◌, bit}
+use Rattle.rules.specs.Basics.{bit}
 use Rattle.rules.specs.Requests.{widths, width_of, room}
 
 -- ---- rooms

@@ -1,4 +1,5 @@
 -- The bits of a map: how many stand in one map and not in another, as the machine counts them and as the definition does.
+use Rattle.std.specs.Prelude.{if◌then◌else◌}
 use Prim.Native.Nat.{ℕ, zero, suc, ◌+◌, ◌-◌, ◌*◌, ◌/◌, ◌%◌, ◌^◌, ◌<◌, min}
 use mathlib.Core.Path.{◌≡◌, refl, ◌∙◌, sym, ap, ap₂}
 use mathlib.Core.Bool.{not, ◌&&◌}
@@ -8,7 +9,7 @@ use lib.Arith.{lt-one}
 use lib.Bits.{bit_and, and_step, and_zero_l}
 use lib.Count.{ones, ones_step}
 use lib.Dec.{eqb}
-use Rattle.rules.specs.Basics.{if◌then◌else◌, total, counting, bit}
+use Rattle.rules.specs.Basics.{total, counting, bit}
 use Rattle.rules.specs.Requests.{bits, more}
 
 -- 1 where bit k stands in one map and not in the other

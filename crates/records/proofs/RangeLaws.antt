@@ -1,4 +1,5 @@
 -- The checks of a request's fields, bit by bit.
+use Rattle.std.specs.Prelude.{if◌then◌else◌}
 use Prim.Native.Nat.{ℕ, ◌<◌}
 use mathlib.Core.Path.{◌≡◌, refl, ◌∙◌, ap}
 use mathlib.Core.List.{List, [], ◌∷◌}
@@ -12,7 +13,7 @@ use Rattle.rules.specs.declared.Request.{Request}
 use Rattle.rules.specs.declared.Checked.{Checked}
 use Rattle.rules.specs.declared.Checked.TheVariants.{Clear, Fails}
 use Rattle.rules.specs.declared.Refusal.TheVariants.{OutOfRange, SameAccount}
-use Rattle.rules.specs.Basics.{if◌then◌else◌, find, counting, bit}
+use Rattle.rules.specs.Basics.{find, counting, bit}
 use Rattle.rules.specs.Verdicts.{Check, applies, ◌⇒◌, ◌⇒↑◌, first_to_apply, checked, or_else}
 use Rattle.rules.specs.Requests.{wanted_map, is_kind, bits, in_range, faulty_field, faulty_bit, same_accounts, range_checks}
 use Rattle.records.proofs.KindLaws.{wanted_kind}

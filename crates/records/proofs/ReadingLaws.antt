@@ -1,4 +1,5 @@
 -- Each way out of the reader is what the record reads as: the first check that applies decides.
+use Rattle.std.specs.Prelude.{if◌then◌else◌}
 use Prim.Native.Nat.{ℕ, ◌<◌}
 use mathlib.Core.Path.{◌≡◌, refl, ◌∙◌}
 use mathlib.Core.List.{List, [], ◌∷◌}
@@ -13,7 +14,7 @@ use Rattle.wire.proofs.NumberLaws.{number_at_one}
 use Rattle.rules.specs.declared.Reading.TheVariants.{Unread}
 use Rattle.rules.specs.declared.Refusal.{Refusal}
 use Rattle.rules.specs.declared.Refusal.TheVariants.{Unreadable, UnknownKind, WrongMap, WrongLength}
-use Rattle.rules.specs.Basics.{if◌then◌else◌, total, counting, bit}
+use Rattle.rules.specs.Basics.{total, counting, bit}
 use Rattle.rules.specs.Verdicts.{Check, ◌⇒◌, applies, first_to_apply}
 use Rattle.rules.specs.Requests.{is_single, wanted_map, wanted_length, map_of, offset, field_in, more, unreadable, map_check, read_checks, reading}
 use Rattle.rules.proofs.Checks.Clearing.{spared}

@@ -1,6 +1,5 @@
 // The fields of a request compared with a book's counts: which is out of range, and whether both accounts are the same.
-ghost use Rattle.std.specs.Prelude.{◌≡◌, not};
-ghost use Rattle.rules.specs.Basics.{if◌then◌else◌};
+ghost use Rattle.std.specs.Prelude.{◌≡◌, not, if◌then◌else◌};
 ghost use Rattle.rules.specs.declared.Checked.TheVariants.{Clear, Fails};
 ghost use Rattle.rules.specs.declared.Refusal.TheVariants.{OutOfRange, SameAccount};
 ghost use Rattle.rules.specs.Verdicts.{◌⇒↑◌, applies, first_to_apply, checked, or_else};

@@ -1,4 +1,5 @@
 -- Gathered lines: what a step prints is put behind the lines in the buffer, and is the front of the text that was to come.
+use Rattle.std.specs.Prelude.{if◌then◌else◌}
 use Prim.Native.Nat.{ℕ, zero, suc, ◌+◌, ◌-◌, ◌≤◌, ◌<◌}
 use mathlib.Core.Path.{◌≡◌, refl, sym, ap, ◌∙◌}
 use mathlib.Core.Logic.{◌⊎◌, ⊎_elim}
@@ -16,7 +17,7 @@ use Rattle.wire.specs.Regions.{splice}
 use Rattle.wire.proofs.NumberLaws.{bytes_take, bytes_drop}
 use Rattle.wire.proofs.RegionLaws.{splice_take_drop, splice_right}
 use Rattle.rules.specs.declared.Refusal.{Refusal}
-use Rattle.rules.specs.Basics.{if◌then◌else◌, is_some}
+use Rattle.rules.specs.Basics.{is_some}
 use Rattle.rules.specs.Limits.{most_hours, book_size, longest_stream}
 use Rattle.rules.specs.Books.{Book}
 use Rattle.rules.specs.Opening.{setup_refusal}

@@ -1,8 +1,7 @@
 -- Lines that are gathered in one buffer: what each item leaves in the book and in the buffer. The lines in the buffer and the text that
 -- is still to come make the whole.
-use Rattle.std.specs.Prelude.{ℕ, zero, suc, ◌+◌, ◌-◌, ◌≤◌, ◌≡◌, List, [], ◌++◌, Bool, true, ◌&&◌, length, take, leb}
+use Rattle.std.specs.Prelude.{ℕ, zero, suc, ◌+◌, ◌-◌, ◌≤◌, ◌≡◌, List, [], ◌++◌, Bool, true, ◌&&◌, length, take, leb, if◌then◌else◌}
 use Rattle.wire.specs.Regions.{splice}
-use Rattle.rules.specs.Basics.{if◌then◌else◌}
 use Rattle.rules.specs.Replay.{text}
 use Rattle.image.specs.Valid.{is_book, book_in}
 use Rattle.replaying.specs.declared.Gathered.{Gathered}

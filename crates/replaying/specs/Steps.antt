@@ -1,9 +1,8 @@
 -- The stream replayed item by item (document 01, "Replay"): what the beginning prints and what each later item prints, and with what the
 -- replay then goes on. That the steps strung together are the replay is said by the laws of proofs/ReplayLaws.antt.
-use Rattle.std.specs.Prelude.{ℕ, ◌-◌, List, [], ◌∷◌, length, take, drop, ltb}
+use Rattle.std.specs.Prelude.{ℕ, ◌-◌, List, [], ◌∷◌, length, take, drop, ltb, if◌then◌else◌}
 use Rattle.std.proofs.Math.Option.{Option, none, some}
 use Rattle.rules.specs.declared.Refusal.{Refusal}
-use Rattle.rules.specs.Basics.{if◌then◌else◌}
 use Rattle.rules.specs.Limits.{longest_stream}
 use Rattle.rules.specs.Verdicts.{numbers, refused, accepted}
 use Rattle.rules.specs.Books.{Book}

@@ -1,6 +1,6 @@
 -- The calls (document 01, "Registration", "Schedules and settlement", "Verdicts"; document 02, notes 3 and 4): what each is refused
 -- for, in rank, and what an accepted one gives and makes of the book and of the buffers that it was lent.
-use Rattle.std.specs.Prelude.{ℕ, suc, ◌-◌, ◌*◌, ◌≡◌, List, [], ◌∷◌, ◌++◌, map, Bool, true, false, not, ◌&&◌, ◌||◌, length, eqb, leb, ltb}
+use Rattle.std.specs.Prelude.{ℕ, suc, ◌-◌, ◌*◌, ◌≡◌, List, [], ◌∷◌, ◌++◌, map, Bool, true, false, not, ◌&&◌, ◌||◌, length, eqb, leb, ltb, if◌then◌else◌}
 use Rattle.std.proofs.Math.Option.{Option, none, some}
 use Rattle.units.specs.declared.Cents.{Cents}
 use Rattle.rules.specs.declared.Row.{Row}
@@ -10,7 +10,7 @@ use Rattle.rules.specs.declared.Request.{Request}
 use Rattle.rules.specs.declared.Outcome.{Outcome}
 use Rattle.rules.specs.declared.Refusal.{Refusal}
 use Rattle.rules.specs.declared.Refusal.TheVariants.{WrongLength, OutOfRange, SameAccount, BufferShort, WrongPhase, BatchOpen, NoBatch, AlreadyPending, RowsFull, NoSuchRow, NotMirrored, MarginBroken, Uncovered, SchedulesFull, StripTwins, NoStandingAsk}
-use Rattle.rules.specs.Basics.{if◌then◌else◌, any_passes, is_some, nth, put}
+use Rattle.rules.specs.Basics.{any_passes, is_some, nth, put}
 use Rattle.rules.specs.Limits.{most_price, most_schedules}
 use Rattle.rules.specs.Verdicts.{Check, ◌⇒◌, ◌⇒↑◌, first_to_apply, accepted, refused}
 use Rattle.rules.specs.Books.{Setup, Part, Book, with_phase, with_part, with_schedules, with_saved, with_asks, with_guarantees, with_rows, no_row, ask_at, no_asks, operator_of, operator_count, counts_of, confirmed_status, withdrawn_status, registration_phase, schedules_phase, settled_phase}

@@ -1,6 +1,6 @@
 -- The ledger (document 01, "What demand 3 compares"; document 02, notes 3 to 5): fed only the set-up's bytes, each record and whether it
 -- was accepted.
-use Rattle.std.specs.Prelude.{ℕ, suc, List, [], ◌∷◌, ◌++◌, Bool, true, false, ◌&&◌, eqb}
+use Rattle.std.specs.Prelude.{ℕ, suc, List, [], ◌∷◌, ◌++◌, Bool, true, false, ◌&&◌, eqb, if◌then◌else◌}
 use Rattle.units.specs.declared.Kwh.{Kwh}
 use Rattle.units.specs.declared.Cents.{Cents}
 use Rattle.units.specs.declared.CentsPerMwh.{CentsPerMwh}
@@ -10,7 +10,7 @@ use Rattle.rules.specs.declared.Net.{Net}
 use Rattle.rules.specs.declared.AccountHour.{AccountHour}
 use Rattle.rules.specs.declared.Schedule.{Schedule}
 use Rattle.rules.specs.declared.Request.{Request}
-use Rattle.rules.specs.Basics.{if◌then◌else◌, total, put, within}
+use Rattle.rules.specs.Basics.{total, put, within}
 use Rattle.rules.specs.Books.{Setup, estimate_at, guarantee_at, selling_side, buying_side}
 use Rattle.rules.specs.Opening.{setup_of, guarantees_of}
 use Rattle.rules.specs.Requests.{Kind, register, confirm, withdraw, guarantee, open_batch, undo, keep, close_gate, schedule, settle, strip, ask, commit, kind_of, requests_of}

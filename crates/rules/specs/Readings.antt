@@ -1,6 +1,6 @@
 -- Readings, of any book in any phase: a net position by account and hour, an exposure by operator (document 01, "Registration"), an
 -- hourly exposure by operator and hour (document 02, note 5).
-use Rattle.std.specs.Prelude.{ℕ, ◌-◌, List, [], ◌∷◌, not, ltb, ℤ, pos, neg_ℤ}
+use Rattle.std.specs.Prelude.{ℕ, ◌-◌, List, [], ◌∷◌, not, ltb, ℤ, pos, neg_ℤ, if◌then◌else◌}
 use Rattle.std.proofs.Math.Option.{Option, none, some}
 use Rattle.units.specs.declared.MilliCents.{MilliCents}
 use Rattle.units.specs.Units.{kwh, milli_cents}
@@ -11,7 +11,7 @@ use Rattle.rules.specs.declared.NetReading.{NetReading}
 use Rattle.rules.specs.declared.ExposureReading.{ExposureReading}
 use Rattle.rules.specs.declared.Refusal.{Refusal}
 use Rattle.rules.specs.declared.Refusal.TheVariants.{OutOfRange}
-use Rattle.rules.specs.Basics.{if◌then◌else◌, within}
+use Rattle.rules.specs.Basics.{within}
 use Rattle.rules.specs.Verdicts.{ReadOut, read_out, not_read, Check, ◌⇒◌, first_to_apply}
 use Rattle.rules.specs.Books.{Book, account_count, operator_count, periods}
 use Rattle.rules.specs.Registration.{net_of, exposure, hourly_exposure}

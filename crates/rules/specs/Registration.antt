@@ -1,6 +1,6 @@
 -- Registration (document 01, "Registration"): rows, what an account holds in an hour, margins, exposure and what is available.
 -- Sums are natural numbers: a net position is what was bought and what was sold, each by itself.
-use Rattle.std.specs.Prelude.{ℕ, ◌+◌, ◌-◌, ◌*◌, Bool, false, not, ◌&&◌, ◌||◌, length, eqb, leb, ℤ, pos, ◌+ℤ◌, ◌-ℤ◌}
+use Rattle.std.specs.Prelude.{ℕ, ◌+◌, ◌-◌, ◌*◌, Bool, false, not, ◌&&◌, ◌||◌, length, eqb, leb, ℤ, pos, ◌+ℤ◌, ◌-ℤ◌, if◌then◌else◌}
 use mathlib.Core.List.{List, [], ◌∷◌, map, flat_map}
 use Rattle.std.proofs.Math.Option.{Option, none, some}
 use Rattle.std.proofs.Math.IntN.{sub_ℕ}
@@ -11,7 +11,7 @@ use Rattle.rules.specs.declared.Row.{Row}
 use Rattle.rules.specs.declared.Net.{Net}
 use Rattle.rules.specs.declared.AccountHour.{AccountHour}
 use Rattle.rules.specs.declared.Request.{Request}
-use Rattle.rules.specs.Basics.{if◌then◌else◌, total, any_passes, find, those, index_of, nth, put, up_to, within}
+use Rattle.rules.specs.Basics.{total, any_passes, find, those, index_of, nth, put, up_to, within}
 use Rattle.rules.specs.Limits.{thousand, most_rows}
 use Rattle.rules.specs.Requests.{register, kind_number}
 use Rattle.rules.specs.Books.{Setup, Part, periods, margins_at, estimate_at, maintenance_at, guarantee_at, operator_of, account_count, no_row, pending_status, confirmed_status, withdrawn_status, selling_side, buying_side}

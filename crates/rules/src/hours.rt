@@ -1,6 +1,5 @@
 // What an account holds in an hour, after one trade more.
-ghost use Rattle.std.specs.Prelude.{◌≡◌, ◌&&◌, ◌+◌, ◌-◌, ◌≤◌, eqb};
-ghost use Rattle.rules.specs.Basics.{if◌then◌else◌};
+ghost use Rattle.std.specs.Prelude.{◌≡◌, ◌&&◌, ◌+◌, ◌-◌, ◌≤◌, eqb, if◌then◌else◌};
 ghost use Rattle.rules.specs.Registration.{confirmed, includes_hour, buyer, seller, counted, moves, pending_of, after_trade, keeps_margins};
 ghost use Rattle.rules.specs.Widths.{NetFits, HourFits};
 

@@ -1,4 +1,5 @@
 -- The schedules of a book with their places: each stands in its bytes, its place is its own, and the order of priority keeps both.
+use Rattle.std.specs.Prelude.{if◌then◌else◌}
 use Prim.Native.Nat.{ℕ, zero, suc, ◌+◌, ◌*◌, ◌≤◌, ◌<◌}
 use mathlib.Core.Path.{◌≡◌, refl, ap, ◌∙◌}
 use mathlib.Core.Logic.{inl, inr}
@@ -13,7 +14,7 @@ use lib.Dec.{eqb}
 use borrow.Author.Tests.{eqb-true, eq-eqb, ne_eqb}
 use Rattle.rules.specs.declared.Schedule.{Schedule}
 use Rattle.rules.specs.declared.Placed.{Placed}
-use Rattle.rules.specs.Basics.{if◌then◌else◌, total, Each, nil, cons}
+use Rattle.rules.specs.Basics.{total, Each, nil, cons}
 use Rattle.rules.specs.Limits.{most_hours, most_schedules, book_size}
 use Rattle.rules.specs.Books.{Book}
 use Rattle.rules.specs.Settlement.{placed, insert, prioritised}

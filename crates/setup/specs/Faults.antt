@@ -1,5 +1,5 @@
 -- What a row of values comes to (document 01, "Verdicts", 9), value by value; bytes that hold the entries that their counts say.
-use Rattle.std.specs.Prelude.{ℕ, ◌+◌, ◌≤◌, ◌^◌, ◌≡◌, Bool, List, [], ◌∷◌, length, drop, eqb, leb}
+use Rattle.std.specs.Prelude.{ℕ, ◌+◌, ◌≤◌, ◌^◌, ◌≡◌, Bool, List, [], ◌∷◌, length, drop, eqb, leb, if◌then◌else◌}
 use Rattle.units.specs.Units.{cents}
 use Rattle.rules.specs.declared.Counts.{Counts}
 use Rattle.rules.specs.declared.Operator.{Operator}
@@ -7,7 +7,7 @@ use Rattle.rules.specs.declared.Point.{Point}
 use Rattle.rules.specs.declared.Checked.{Checked}
 use Rattle.rules.specs.declared.Checked.TheVariants.{Clear, Fails}
 use Rattle.rules.specs.declared.Refusal.TheVariants.{SetupValue}
-use Rattle.rules.specs.Basics.{if◌then◌else◌, every, entries}
+use Rattle.rules.specs.Basics.{every, entries}
 use Rattle.rules.specs.Limits.{most_energy}
 use Rattle.rules.specs.Opening.{Value, values_of, estimate_values, operator_values, margin_values, account_values, point_values, margin_in, counts_in, setup_length, estimates_offset, operators_offset, accounts_offset, points_offset, estimates_in, operators_in, accounts_in, points_in, price_width, operator_entry, margin_width, account_entry, point_entry}
 use Rattle.rules.specs.Books.{injection_kind, withdrawal_kind}

@@ -1,4 +1,5 @@
 -- What one row adds to each lane: by cases on the lane, with the row's status and side known.
+use Rattle.std.specs.Prelude.{if◌then◌else◌}
 use Prim.Native.Nat.{ℕ, zero, suc, ◌+◌, ◌*◌, ◌≤◌, ◌<◌}
 use mathlib.Core.Path.{◌≡◌, sym, ap, ◌∙◌}
 use mathlib.Core.List.{List, [], ◌∷◌}
@@ -9,7 +10,7 @@ use native.Mathlib.Omega.{arith}
 use lib.ListN.{get_or}
 use borrow.Author.Tests.{ne_eqb}
 use Rattle.rules.specs.declared.Row.{Row}
-use Rattle.rules.specs.Basics.{if◌then◌else◌, total}
+use Rattle.rules.specs.Basics.{total}
 use Rattle.rules.specs.Limits.{most_accounts}
 use Rattle.rules.specs.Registration.{moved, waiting, buyer, seller}
 use Rattle.rules.proofs.Basics.Differences.{lt_or_ge}

@@ -1,9 +1,9 @@
 -- The sums of all account hours in one table of four lanes: bought, sold, pending sales, pending purchases, by account and then hour.
 -- `top` is the most periods that a day can have, 25 hours today.
-use Rattle.std.specs.Prelude.{ℕ, zero, suc, ◌+◌, ◌-◌, ◌*◌, ◌%◌, ◌^◌, ◌≤◌, ◌<◌, ◌≡◌, List, [], ◌∷◌, Bool, length, get_or, eqb}
+use Rattle.std.specs.Prelude.{ℕ, zero, suc, ◌+◌, ◌-◌, ◌*◌, ◌%◌, ◌^◌, ◌≤◌, ◌<◌, ◌≡◌, List, [], ◌∷◌, Bool, length, get_or, eqb, if◌then◌else◌}
 use Rattle.wire.specs.Numbers.{number_at}
 use Rattle.rules.specs.declared.Row.{Row}
-use Rattle.rules.specs.Basics.{if◌then◌else◌, total, every, up_to, Each}
+use Rattle.rules.specs.Basics.{total, every, up_to, Each}
 use Rattle.rules.specs.Limits.{most_accounts, most_price, most_rows}
 use Rattle.rules.specs.Books.{Setup, estimate_at, operator_of, periods}
 use Rattle.rules.specs.Registration.{bought, sold, pending_sales, pending_purchases, account_hour, exposed_amount}

@@ -1,5 +1,6 @@
 -- The table of what is used up: owners, hours and sides in range have each a cell of their own, so that what falls to the cell of a schedule
 -- is what those of its owner, hour and side use up; the table of no schedule, that of one more, and its room.
+use Rattle.std.specs.Prelude.{if◌then◌else◌}
 use Prim.Native.Nat.{ℕ, ◌+◌, ◌-◌, ◌*◌, ◌^◌, ◌≤◌, ◌<◌}
 use mathlib.Core.Path.{◌≡◌, refl, sym, ap, ◌∙◌}
 use mathlib.Core.List.{List, [], ◌∷◌}
@@ -13,7 +14,7 @@ use borrow.Author.Tests.{eqb-true, eqb-false, eq-eqb}
 use Rattle.units.specs.declared.CentsPerMwh.{CentsPerMwh}
 use Rattle.rules.specs.declared.Net.{Net}
 use Rattle.rules.specs.declared.Schedule.{Schedule}
-use Rattle.rules.specs.Basics.{if◌then◌else◌, total, Each, nil, cons}
+use Rattle.rules.specs.Basics.{total, Each, nil, cons}
 use Rattle.rules.specs.Limits.{most_energy, most_schedules, most_points, most_accounts}
 use Rattle.rules.specs.Books.{Setup}
 use Rattle.rules.specs.Settlement.{Judged, congruous, used, account_of}

@@ -1,5 +1,6 @@
 -- The result of a schedule in a book, by what the table says is used up: its point, its account and the price that it meets are the book's,
 -- and the three tests are the definition's.
+use Rattle.std.specs.Prelude.{if◌then◌else◌}
 use Prim.Native.Nat.{ℕ, ◌+◌, ◌*◌, ◌≤◌}
 use mathlib.Core.Path.{◌≡◌, refl, sym, ap, ◌∙◌}
 use mathlib.Core.List.{List}
@@ -14,7 +15,7 @@ use Rattle.rules.specs.declared.Counts.{Counts}
 use Rattle.rules.specs.declared.Net.{Net}
 use Rattle.rules.specs.declared.Point.{Point}
 use Rattle.rules.specs.declared.Schedule.{Schedule}
-use Rattle.rules.specs.Basics.{if◌then◌else◌, nth, Each}
+use Rattle.rules.specs.Basics.{nth, Each}
 use Rattle.rules.specs.Limits.{most_points, most_accounts}
 use Rattle.rules.specs.Books.{Setup, no_point, account_count, point_at, periods}
 use Rattle.rules.specs.Opening.{counts_in, points_in, setup_of, price_width}

@@ -1,10 +1,9 @@
 -- What a schedule is compared with, in the values that code has at hand: the cells of the table of what is used up, the limits, the price.
-use Rattle.std.specs.Prelude.{ℕ, ◌+◌, ◌-◌, ◌*◌, ◌≤◌, ◌≡◌, List, ◌∷◌, Bool, ◌||◌, get_or, replicate, eqb, leb, ltb}
+use Rattle.std.specs.Prelude.{ℕ, ◌+◌, ◌-◌, ◌*◌, ◌≤◌, ◌≡◌, List, ◌∷◌, Bool, ◌||◌, get_or, replicate, eqb, leb, ltb, if◌then◌else◌}
 use Rattle.units.specs.declared.CentsPerMwh.{CentsPerMwh}
 use Rattle.rules.specs.declared.Net.{Net}
 use Rattle.rules.specs.declared.Point.{Point}
 use Rattle.rules.specs.declared.Schedule.{Schedule}
-use Rattle.rules.specs.Basics.{if◌then◌else◌}
 use Rattle.rules.specs.Limits.{most_hours}
 use Rattle.rules.specs.Books.{Setup, injecting_side, mixed_kind}
 use Rattle.rules.specs.Settlement.{Judged, account_of}
@@ -50,7 +49,7 @@ taken_at x met = if eqb x.side injecting_side then leb x.price.0 met.0 else leb 
 
 -- the result, by the three tests
 abbrev pub result_by : Bool → Bool → Bool → ℕ
-result_by over-point over-account taken = if over-point then 1 else if over-account then 2 else if taken then 0 else 3
+result_by over-point over-account taken = if over-point then 1 else (if over-account then 2 else (if taken then 0 else 3))
 
 -- the result is what the rules say, after any schedules in range that used up what the table holds
 abbrev pub ResultIn : List ℕ → List ℕ → List ℕ → Schedule → ℕ → Type 0

@@ -1,6 +1,5 @@
 // The result of a schedule at settlement, and the table of what is used up of the limits of points and accounts.
-ghost use Rattle.std.specs.Prelude.{◌≡◌, true, ◌||◌, ◌+◌, ◌-◌, ◌*◌, ◌^◌, ◌≤◌, ◌<◌, eqb, ltb, length, get_or, set};
-ghost use Rattle.rules.specs.Basics.{if◌then◌else◌};
+ghost use Rattle.std.specs.Prelude.{◌≡◌, true, ◌||◌, ◌+◌, ◌-◌, ◌*◌, ◌^◌, ◌≤◌, ◌<◌, eqb, ltb, length, get_or, set, if◌then◌else◌};
 ghost use Rattle.rules.specs.Limits.{most_points, most_accounts};
 ghost use Rattle.rules.specs.Opening.{price_width};
 ghost use Rattle.image.specs.Valid.{is_sound};

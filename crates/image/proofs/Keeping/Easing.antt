@@ -1,6 +1,7 @@
 -- What eases account hours. A confirm eases every account but its caller, for what the proposer has pending turns into net; rows added
 -- every account but their proposer; a withdrawal and the close of the gate all. A purchase that waits and a sale that is confirmed expose
 -- no operator more.
+use Rattle.std.specs.Prelude.{if◌then◌else◌}
 use Prim.Native.Nat.{ℕ, ◌≤◌}
 use mathlib.Core.Path.{◌≡◌, refl, sym, ap, ◌∙◌}
 use mathlib.Core.Logic.{◌⊎◌, inl, inr, ⊎_elim}
@@ -12,7 +13,7 @@ use lib.Dec.{eqb}
 use lib.Signed.{◌≤ℤ◌}
 use borrow.Author.Tests.{eqb-true, eqb-false, eq-eqb, ne_eqb}
 use Rattle.rules.specs.declared.Row.{Row}
-use Rattle.rules.specs.Basics.{if◌then◌else◌, nth, Each}
+use Rattle.rules.specs.Basics.{nth, Each}
 use Rattle.rules.specs.Books.{Setup, no_row, estimate_at, operator_of}
 use Rattle.rules.specs.Registration.{pending, includes_hour, seller, buyer, mark, closed, bought, sold, account_hour, after_trade, low, high, exposed, exposure, exposure_with}
 use Rattle.rules.proofs.Basics.Searches.{each_map}

@@ -1,5 +1,6 @@
 -- What one row more, a row marked, and the close of the gate do to the tests on rows: a row that ends is like no other, and a row
 -- that was pending may end in a batch.
+use Rattle.std.specs.Prelude.{if◌then◌else◌}
 use Prim.Native.Nat.{ℕ, zero, suc, ◌≤◌}
 use mathlib.Core.Path.{◌≡◌, refl, sym, ◌∙◌}
 use mathlib.Core.Logic.{◌↔◌}
@@ -11,7 +12,7 @@ use lib.Dec.{eqb}
 use borrow.Author.Tests.{eqb-true, eq-eqb, not-true}
 use Rattle.rules.specs.declared.Row.{Row}
 use Rattle.rules.specs.declared.Request.{Request}
-use Rattle.rules.specs.Basics.{if◌then◌else◌, any_passes, nth, Each, nil, cons}
+use Rattle.rules.specs.Basics.{any_passes, nth, Each, nil, cons}
 use Rattle.rules.specs.Books.{Setup, no_row}
 use Rattle.rules.specs.Registration.{pending, proposed, same_terms, alike, has_twin, twins, with_status, mark, closed}
 use Rattle.rules.proofs.Basics.Tests.{and_both}

@@ -1,4 +1,5 @@
 -- The book that an accepted set-up opens is valid: with no rows there is nothing to break a margin or to be covered.
+use Rattle.std.specs.Prelude.{if◌then◌else◌}
 use Prim.Native.Nat.{ℕ, ◌+◌, ◌*◌, ◌≤◌}
 use mathlib.Core.Path.{◌≡◌, refl, sym, ◌∙◌}
 use mathlib.Core.List.{List, [], map}
@@ -10,7 +11,7 @@ use lib.ListN.{length-map}
 use lib.Dec.{eqb}
 use borrow.Author.Tests.{le-leb}
 use Rattle.rules.specs.declared.Operator.{Operator}
-use Rattle.rules.specs.Basics.{if◌then◌else◌, total, any_passes, up_to, Each, nil, cons}
+use Rattle.rules.specs.Basics.{total, any_passes, up_to, Each, nil, cons}
 use Rattle.rules.specs.Limits.{most_guarantee}
 use Rattle.rules.specs.Books.{Setup, estimate_at, operator_of, account_count, periods, lower_at, upper_at}
 use Rattle.rules.specs.Opening.{operators_in, setup_of, guarantees_of, setup_refusal, opened}

@@ -1,4 +1,5 @@
 -- The values of a set-up are in range exactly where none is found at fault: entry by entry, whatever their offsets.
+use Rattle.std.specs.Prelude.{if◌then◌else◌}
 use Prim.Native.Nat.{ℕ, ◌+◌, ◌≤◌}
 use mathlib.Core.Path.{◌≡◌, refl, ap}
 use mathlib.Core.List.{List, [], ◌∷◌, ◌++◌, map}
@@ -16,7 +17,7 @@ use Rattle.units.specs.Units.{kwh, cents}
 use Rattle.rules.specs.declared.Counts.{Counts}
 use Rattle.rules.specs.declared.Operator.{Operator}
 use Rattle.rules.specs.declared.Point.{Point}
-use Rattle.rules.specs.Basics.{if◌then◌else◌, nth, within, Each, nil, cons}
+use Rattle.rules.specs.Basics.{nth, within, Each, nil, cons}
 use Rattle.rules.specs.Limits.{most_energy, most_price, most_guarantee, thousand}
 use Rattle.rules.specs.Books.{Account, Setup, no_account, counts_of, operator_count, hour_of, lower_at, upper_at}
 use Rattle.rules.specs.Opening.{Value, operators_of, operators_offset, accounts_offset, points_offset, estimates_offset, upper_offset, values_of, estimate_values, operator_values, margin_values, account_values, point_values, values, faulty_offset, price_width, operator_entry, margin_width, account_entry, point_entry}

@@ -1,4 +1,5 @@
 -- A set-up and its bytes, there and back: each value in range fits its bytes, and the entries stand side by side, read by their counts.
+use Rattle.std.specs.Prelude.{if◌then◌else◌}
 use Prim.Native.Nat.{ℕ, zero, suc, ◌+◌, ◌*◌, ◌≤◌}
 use mathlib.Core.Path.{◌≡◌, refl, ap, ◌∙◌}
 use mathlib.Core.List.{List, [], ◌∷◌, ◌++◌, append_assoc, append-nil}
@@ -19,7 +20,7 @@ use Rattle.units.specs.Units.{cents}
 use Rattle.rules.specs.declared.Counts.{Counts}
 use Rattle.rules.specs.declared.Operator.{Operator}
 use Rattle.rules.specs.declared.Point.{Point}
-use Rattle.rules.specs.Basics.{if◌then◌else◌, entries, joined, Each}
+use Rattle.rules.specs.Basics.{entries, joined, Each}
 use Rattle.rules.specs.Limits.{most_energy, most_price, most_accounts, most_operators, most_zones}
 use Rattle.rules.specs.Books.{Account, Setup, counts_of, operator_count, account_count, point_count}
 use Rattle.rules.specs.Opening.{price_in, operator_in, margin_in, account_in, point_in, counts_in, operators_offset, accounts_offset, lower_offset, upper_offset, points_offset, estimates_in, operators_in, accounts_in, points_in, setup_of, guarantees_of, operator_bytes, margin_bytes, account_bytes, point_bytes, operators_of, setup_bytes, price_width, operator_entry, margin_width, account_entry, point_entry, counts_width}

@@ -1,4 +1,5 @@
 -- Cells of the table of sums: a range raised by a row's quantity gives the row's share to each account hour, and to no other.
+use Rattle.std.specs.Prelude.{if◌then◌else◌}
 use Prim.Native.Nat.{ℕ, zero, suc, ◌+◌, ◌-◌, ◌*◌, ◌≤◌, ◌<◌}
 use mathlib.Core.Path.{◌≡◌, refl, sym, ap, ◌∙◌}
 use mathlib.Core.List.{List}
@@ -9,7 +10,7 @@ use lib.ListN.{length, get_or, set, replicate}
 use lib.Seq.{get_or-set_other, get_or-set_same}
 use lib.Dec.{eqb}
 use borrow.Author.Tests.{eqb-true, eq-eqb}
-use Rattle.rules.specs.Basics.{if◌then◌else◌, within}
+use Rattle.rules.specs.Basics.{within}
 use Rattle.rules.specs.Limits.{most_accounts}
 use Rattle.rules.proofs.Basics.Tests.{and_both, within_true}
 use Rattle.rules.proofs.Basics.Differences.{lt_or_ge}

@@ -1,5 +1,6 @@
 -- What is written in a part: a row, a status or a guarantee replaced in its own section, and loops inside the rows or the nets; the
 -- other sections stand.
+use Rattle.std.specs.Prelude.{if◌then◌else◌}
 use Prim.Native.Nat.{ℕ, suc, ◌+◌, ◌-◌, ◌*◌, ◌^◌, ◌≤◌, ◌<◌}
 use mathlib.Core.Path.{◌≡◌, refl, sym, ap, ◌∙◌}
 use mathlib.Core.List.{List, [], ◌∷◌, ◌++◌, map}
@@ -19,7 +20,7 @@ use Rattle.wire.proofs.SweepLaws.{sweep_part, sweep_slots, length_sweep}
 use Rattle.units.specs.declared.Cents.{Cents}
 use Rattle.units.specs.Units.{cents}
 use Rattle.rules.specs.declared.Row.{Row}
-use Rattle.rules.specs.Basics.{if◌then◌else◌, nth, put, Each, nil, cons}
+use Rattle.rules.specs.Basics.{nth, put, Each, nil, cons}
 use Rattle.rules.specs.Limits.{most_operators, most_accounts, most_rows}
 use Rattle.rules.specs.Books.{Part, no_row}
 use Rattle.rules.specs.Registration.{pending, seller, buyer, with_status, mark, closed}

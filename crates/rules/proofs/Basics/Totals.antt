@@ -1,4 +1,5 @@
 -- Sums over lists: by recursion on the list, each step by arithmetic.
+use Rattle.std.specs.Prelude.{if◌then◌else◌}
 use Prim.Native.Nat.{ℕ, zero, suc, ◌+◌, ◌*◌, ◌≤◌, ◌<◌}
 use mathlib.Core.Path.{◌≡◌, refl, sym, ap, ◌∙◌}
 use mathlib.Core.Logic.{∥∥₁_elim}
@@ -9,7 +10,7 @@ use native.Mathlib.Omega.{arith}
 use lib.ListN.{length, get_or, set}
 use lib.Dec.{eqb}
 use borrow.Author.Tests.{eqb-true, eqb-false, ne_eqb}
-use Rattle.rules.specs.Basics.{if◌then◌else◌, total, those, counting, up_to, Each, nil, cons}
+use Rattle.rules.specs.Basics.{total, those, counting, up_to, Each, nil, cons}
 
 -- a sum counted where a test holds
 pub where_add : (t : Bool) (m n : ℕ) → (if t then m + n else 0) ≡ (if t then m else 0) + (if t then n else 0)

@@ -1,5 +1,6 @@
 -- What an accepted call passed: no check of its ranked list applies, so each test of the list is false. A law for each number
 -- says that of its test, at the kinds to which the number applies.
+use Rattle.std.specs.Prelude.{if◌then◌else◌}
 use Prim.Native.Nat.{ℕ, ◌+◌, ◌*◌, ◌^◌, ◌≤◌, ◌<◌}
 use mathlib.Core.Path.{◌≡◌, refl, sym, ap, ◌∙◌}
 use mathlib.Core.Logic.{◌⊎◌, inl, inr}
@@ -15,7 +16,7 @@ use Rattle.rules.specs.declared.Counts.{Counts}
 use Rattle.rules.specs.declared.Request.{Request}
 use Rattle.rules.specs.declared.Refusal.{Refusal}
 use Rattle.rules.specs.declared.Refusal.TheVariants.{Unreadable, UnknownKind, OutOfRange, SameAccount, BufferShort}
-use Rattle.rules.specs.Basics.{if◌then◌else◌, any_passes, every, nth, counting, up_to, bit, Each, nil, cons}
+use Rattle.rules.specs.Basics.{any_passes, every, nth, counting, up_to, bit, Each, nil, cons}
 use Rattle.rules.specs.Limits.{most_price, most_rows, most_strip, most_schedules}
 use Rattle.rules.specs.Verdicts.{Check, ◌⇒◌, ◌⇒↑◌, applies, accepted, refused}
 use Rattle.rules.specs.Books.{Part, Book, with_asks, no_row, ask_at, no_asks, operator_count, counts_of}

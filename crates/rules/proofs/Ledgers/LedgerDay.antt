@@ -1,5 +1,6 @@
 -- Demand 3 over a day: a set-up opens the book, calls run on it, and the ledger hears each record and whether it was accepted. The two
 -- agree after any list of calls, so that readings and an accepted settle are the ledger's.
+use Rattle.std.specs.Prelude.{if◌then◌else◌}
 use Prim.Native.Nat.{ℕ}
 use mathlib.Core.Path.{◌≡◌, refl, ◌∙◌}
 use mathlib.Core.List.{List, [], ◌∷◌, map}
@@ -11,7 +12,7 @@ use Rattle.rules.specs.declared.Refusal.{Refusal}
 use Rattle.rules.specs.declared.Request.{Request}
 use Rattle.rules.specs.declared.NetReading.{NetReading}
 use Rattle.rules.specs.declared.ExposureReading.{ExposureReading}
-use Rattle.rules.specs.Basics.{if◌then◌else◌, sum_of, within}
+use Rattle.rules.specs.Basics.{sum_of, within}
 use Rattle.rules.specs.Books.{Book, account_count, operator_count, periods}
 use Rattle.rules.specs.Opening.{opened, setup_of}
 use Rattle.rules.specs.Requests.{settle, kind_of, requests_of}

@@ -1,5 +1,6 @@
 -- The ledger's page agrees with the book's part, and each change of the part changes both alike. A confirmed row and the trade of the
 -- request that confirms it are the same, since the request mirrors the row.
+use Rattle.std.specs.Prelude.{if◌then◌else◌}
 use Prim.Native.Nat.{ℕ, suc, ◌+◌, ◌≤◌}
 use mathlib.Core.Path.{◌≡◌, refl, sym, ap, ◌∙◌}
 use mathlib.Core.List.{List, [], ◌∷◌, ◌++◌, append_assoc, append-nil}
@@ -13,7 +14,7 @@ use Rattle.units.specs.declared.Cents.{Cents}
 use Rattle.rules.specs.declared.Row.{Row}
 use Rattle.rules.specs.declared.Schedule.{Schedule}
 use Rattle.rules.specs.declared.Request.{Request}
-use Rattle.rules.specs.Basics.{if◌then◌else◌, nth, put, index_of, within, Each, nil, cons}
+use Rattle.rules.specs.Basics.{nth, put, index_of, within, Each, nil, cons}
 use Rattle.rules.specs.Books.{Part, no_row, part_guarantees, part_rows}
 use Rattle.rules.specs.Registration.{pending, mark, closed, alike, seller, buyer, bought, sold}
 use Rattle.rules.specs.Ledger.{Trade, Page, page_guarantees, page_pending, page_trades, page_schedules, without, trade_of, entered, traded}

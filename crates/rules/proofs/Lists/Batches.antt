@@ -1,5 +1,6 @@
 -- An accepted undo gives back the book of its open, without its asks: while the batch is open only rows, guarantees and asks change, and the
 -- part that was saved at the open stays as it is. So does an empty kept batch, and a list that has one in that place says the same.
+use Rattle.std.specs.Prelude.{if◌then◌else◌}
 use Prim.Native.Nat.{ℕ, ◌+◌, ◌-◌}
 use mathlib.Core.Path.{◌≡◌, refl, sym, ap, ◌∙◌}
 use mathlib.Core.Logic.{◌⊎◌, inl, inr}
@@ -12,7 +13,7 @@ use lib.ListN.{length, length-append, length-map}
 use borrow.Author.Tests.{not-true}
 use Rattle.rules.specs.declared.Row.{Row}
 use Rattle.rules.specs.declared.Request.{Request}
-use Rattle.rules.specs.Basics.{if◌then◌else◌, total, every}
+use Rattle.rules.specs.Basics.{total, every}
 use Rattle.rules.specs.Verdicts.{accepted}
 use Rattle.rules.specs.Books.{Part, Book, with_part, with_saved, with_asks, no_asks}
 use Rattle.rules.specs.Requests.{Kind, register, confirm, withdraw, guarantee, open_batch, undo, keep, close_gate, schedule, settle, strip, ask, commit, first_of}

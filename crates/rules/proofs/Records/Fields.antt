@@ -1,4 +1,5 @@
 -- A record's fields lie side by side: each begins where the one before it ends, and takes the room that its bit gives it.
+use Rattle.std.specs.Prelude.{if◌then◌else◌}
 use Prim.Native.Nat.{ℕ, zero, suc, ◌+◌, ◌-◌, ◌%◌, ◌^◌, ◌<◌, ◌≤◌}
 use mathlib.Core.Path.{◌≡◌, refl, sym, ap, ◌∙◌}
 use mathlib.Core.List.{List, map}
@@ -12,7 +13,7 @@ use Rattle.wire.proofs.NumberLaws.{length-le, number-le, number_le_rest, number_
 use Rattle.wire.proofs.SlotLaws.{map_get}
 use Rattle.units.specs.Units.{kwh, cents, cents_per_mwh}
 use Rattle.rules.specs.declared.Request.{Request}
-use Rattle.rules.specs.Basics.{if◌then◌else◌, total, counting, bit}
+use Rattle.rules.specs.Basics.{total, counting, bit}
 use Rattle.rules.specs.Requests.{is_single, wanted_map, wanted_length, width_of, field_count, map_of, room, offset, field_in, request_of, fields_of, field_of, field_bytes, write, Canonical, Fits}
 use Rattle.rules.proofs.Basics.Searches.{counting_at, counting-length}
 use Rattle.rules.proofs.Basics.Totals.{total_last}

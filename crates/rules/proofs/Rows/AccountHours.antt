@@ -1,5 +1,6 @@
 -- What a change of rows does to an account hour: sums over rows change by the share of the one row that is added or marked, and a
 -- pending row has no share in what is moved.
+use Rattle.std.specs.Prelude.{if◌then◌else◌}
 use Prim.Native.Nat.{ℕ, zero, suc, ◌+◌, ◌≤◌}
 use mathlib.Core.Path.{◌≡◌, refl, sym, ap, ◌∙◌}
 use mathlib.Core.List.{List, [], ◌∷◌, ◌++◌, append_assoc, append-nil}
@@ -12,7 +13,7 @@ use borrow.Author.Tests.{eqb-true}
 use Rattle.units.specs.Units.{kwh}
 use Rattle.rules.specs.declared.Row.{Row}
 use Rattle.rules.specs.declared.AccountHour.{AccountHour}
-use Rattle.rules.specs.Basics.{if◌then◌else◌, total, find, nth, up_to, Each}
+use Rattle.rules.specs.Basics.{total, find, nth, up_to, Each}
 use Rattle.rules.specs.Books.{Setup, no_row, periods, margins_at, estimate_at}
 use Rattle.rules.specs.Registration.{pending, confirmed, includes_hour, counted, with_status, mark, closed, moved, waiting, buyer, seller, bought, sold, net_of, pending_sales, pending_purchases, account_hour, after_trade, after_trades, keeps_margins, broken_hour, broken_by, exposure_of, exposure, exposure_with}
 use Rattle.rules.proofs.Basics.Totals.{total_zero, total_cong, total_same, total_append, total_snoc, total_set, total_map}

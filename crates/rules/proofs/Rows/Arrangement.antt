@@ -1,5 +1,6 @@
 -- An operator's exposure is the sum of the amounts of its account hours, in whatever order or groups they are added; so it is the sum of
 -- its hourly exposures, in any order of the hours (document 02, note 5).
+use Rattle.std.specs.Prelude.{if◌then◌else◌}
 use Prim.Native.Nat.{ℕ, ◌*◌, ◌≤◌}
 use mathlib.Core.Path.{◌≡◌, sym, ◌∙◌}
 use mathlib.Core.List.{List, map, flat_map, Perm}
@@ -8,7 +9,7 @@ use native.Mathlib.Nat.{zero-mul, mul_comm}
 use lib.Dec.{eqb}
 use Rattle.units.specs.declared.CentsPerMwh.{CentsPerMwh}
 use Rattle.rules.specs.declared.AccountHour.{AccountHour}
-use Rattle.rules.specs.Basics.{if◌then◌else◌, total, up_to}
+use Rattle.rules.specs.Basics.{total, up_to}
 use Rattle.rules.specs.Books.{Setup, periods, account_count}
 use Rattle.rules.specs.Registration.{exposed, exposed_amount, of_operator, exposure_of, hourly_exposure_of, accounts_of, account_hours_of}
 use Rattle.rules.proofs.Basics.Totals.{total_times, total_cong, total_map, total_those, total_where, total_rearranged, total_flat, swap, shared}

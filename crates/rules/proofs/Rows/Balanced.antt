@@ -1,5 +1,6 @@
 -- In each hour what all accounts bought is what all accounts sold: summed over the accounts, a row counts once as bought and once
 -- as sold.
+use Rattle.std.specs.Prelude.{if◌then◌else◌}
 use Prim.Native.Nat.{ℕ, ◌≤◌}
 use mathlib.Core.Path.{◌≡◌, refl, sym, ap, ◌∙◌}
 use mathlib.Core.List.{List, [], ◌∷◌, map}
@@ -7,7 +8,7 @@ use mathlib.Core.Bool.{Bool, true, false, ◌&&◌}
 use lib.Dec.{eqb}
 use lib.IntN.{ℤ, pos, sub_ℕ, ◌+ℤ◌}
 use Rattle.rules.specs.declared.Row.{Row}
-use Rattle.rules.specs.Basics.{if◌then◌else◌, total, sum_of, up_to, Each}
+use Rattle.rules.specs.Basics.{total, sum_of, up_to, Each}
 use Rattle.rules.specs.Registration.{confirmed, includes_hour, buyer, seller, counted, moved, bought, sold, net_of, figure}
 use Rattle.rules.proofs.Basics.Differences.{difference_add, difference_none}
 use Rattle.rules.proofs.Basics.Searches.{each_map}

@@ -1,5 +1,6 @@
 -- What eases an account hour: low no lower, high no higher, no more exposed. Margins that were kept are then kept, and an operator that
 -- was covered is covered. Rows that wait and are not there ease every account.
+use Rattle.std.specs.Prelude.{if◌then◌else◌}
 use Prim.Native.Nat.{ℕ, ◌+◌, ◌*◌, ◌≤◌}
 use mathlib.Core.Path.{◌≡◌, refl}
 use mathlib.Core.List.{List, [], ◌∷◌, ◌++◌}
@@ -16,7 +17,7 @@ use Rattle.units.specs.declared.CentsPerMwh.{CentsPerMwh}
 use Rattle.rules.specs.declared.Margins.{Margins}
 use Rattle.rules.specs.declared.Row.{Row}
 use Rattle.rules.specs.declared.AccountHour.{AccountHour}
-use Rattle.rules.specs.Basics.{if◌then◌else◌, total, up_to, Each}
+use Rattle.rules.specs.Basics.{total, up_to, Each}
 use Rattle.rules.specs.Books.{Setup, account_count, estimate_at, operator_of, periods, margins_at}
 use Rattle.rules.specs.Registration.{pending, seller, buyer, counted, pending_of, waiting, account_hour, low, high, keeps_margins, broken_hour, exposed, of_operator, exposure_of, exposure, available, covered}
 use Rattle.rules.proofs.Basics.Tests.{and_both}

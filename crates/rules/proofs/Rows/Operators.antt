@@ -1,10 +1,11 @@
 -- Sums over an operator's accounts: of equal amounts, of sums, of nothing, and of what falls to one account.
+use Rattle.std.specs.Prelude.{if◌then◌else◌}
 use Prim.Native.Nat.{ℕ, ◌+◌, ◌≤◌}
 use mathlib.Core.Path.{◌≡◌, refl, ap, ◌∙◌}
 use mathlib.Core.Bool.{Bool, true, false, ◌&&◌}
 use lib.Dec.{eqb}
 use borrow.Author.Tests.{eqb-true}
-use Rattle.rules.specs.Basics.{if◌then◌else◌, up_to}
+use Rattle.rules.specs.Basics.{up_to}
 use Rattle.rules.specs.Books.{Setup, account_count, operator_of}
 use Rattle.rules.specs.Registration.{of_operator}
 use Rattle.rules.proofs.Basics.Totals.{where_add, total_zero, total_add, total_cong, shared}

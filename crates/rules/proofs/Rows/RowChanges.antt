@@ -1,11 +1,12 @@
 -- What marking a row and closing the gate keep: how many rows there are, and what each row has whatever its status.
+use Rattle.std.specs.Prelude.{if◌then◌else◌}
 use Prim.Native.Nat.{ℕ, zero, suc}
 use mathlib.Core.Path.{◌≡◌, refl}
 use mathlib.Core.List.{List}
 use mathlib.Core.Bool.{Bool, true, false}
 use lib.ListN.{length, length-set, length-map}
 use Rattle.rules.specs.declared.Row.{Row}
-use Rattle.rules.specs.Basics.{if◌then◌else◌, Each, nil, cons}
+use Rattle.rules.specs.Basics.{Each, nil, cons}
 use Rattle.rules.specs.Registration.{pending, with_status, mark, closed}
 use Rattle.rules.proofs.Basics.Searches.{each_mapped}
 

@@ -1,5 +1,6 @@
 -- The tests on natural numbers are the paper's signed statements: a figure is the difference of what was bought and what was
 -- sold.
+use Rattle.std.specs.Prelude.{if◌then◌else◌}
 use Prim.Native.Nat.{ℕ, suc, ◌+◌, ◌-◌, ◌≤◌}
 use mathlib.Core.Path.{◌≡◌, refl, sym, ap, ◌∙◌}
 use mathlib.Core.Logic.{◌↔◌}
@@ -18,7 +19,6 @@ use Rattle.rules.specs.declared.Net.{Net}
 use Rattle.rules.specs.declared.AccountHour.{AccountHour}
 use Rattle.rules.specs.declared.Position.TheVariants.{Long, Short}
 use Rattle.rules.specs.declared.Schedule.{Schedule}
-use Rattle.rules.specs.Basics.{if◌then◌else◌}
 use Rattle.rules.specs.Books.{Setup}
 use Rattle.rules.specs.Registration.{figure, low, high, keeps_margins, exposed}
 use Rattle.rules.specs.Settlement.{injects, account_of, account_limit}

@@ -1,4 +1,5 @@
 -- The schedules of one account, hour and side are settled as if no others stood: only they are counted together.
+use Rattle.std.specs.Prelude.{if◌then◌else◌}
 use Prim.Native.Nat.{ℕ, suc, ◌+◌}
 use mathlib.Core.Path.{◌≡◌, refl, ◌∙◌, sym, ap}
 use mathlib.Core.Logic.{◌↔◌, inl, inr}
@@ -13,7 +14,7 @@ use Rattle.units.specs.declared.CentsPerMwh.{CentsPerMwh}
 use Rattle.rules.specs.declared.Net.{Net}
 use Rattle.rules.specs.declared.Schedule.{Schedule}
 use Rattle.rules.specs.declared.Placed.{Placed}
-use Rattle.rules.specs.Basics.{if◌then◌else◌, total, Each, nil, cons}
+use Rattle.rules.specs.Basics.{total, Each, nil, cons}
 use Rattle.rules.specs.Books.{Setup, point_at}
 use Rattle.rules.specs.Settlement.{placed, prioritised, Judged, congruous, used, account_of, same_hour_side, judge, judged, settled, result_at}
 use Rattle.rules.proofs.Basics.Tests.{true_or_false, test_fails, and_both}

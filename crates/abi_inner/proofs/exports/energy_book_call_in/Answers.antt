@@ -1,6 +1,5 @@
 -- It is the call of `day` on a book, which leaves a book, with its outcome packed.
 use Rattle.abi.proofs.PackingLaws.{given-packed}
-use borrow.Author.Rules.{rules}
 use Rattle.abi_inner.proofs.exports.energy_book_call_in.Goals as goal
 
 pub returns : goal.returns

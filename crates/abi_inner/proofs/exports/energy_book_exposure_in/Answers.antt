@@ -1,6 +1,5 @@
 -- It is the reading of `day`, put into the lent buffer, with its numbers packed.
 use Rattle.abi.proofs.PackingLaws.{lends_packed}
-use borrow.Author.Rules.{rules}
 use Rattle.abi_inner.proofs.exports.energy_book_exposure_in.Goals as goal
 
 pub returns : goal.returns

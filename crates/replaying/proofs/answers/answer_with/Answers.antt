@@ -9,7 +9,6 @@ use Rattle.book.proofs.StateLaws.{book_length}
 use Rattle.settlement.proofs.Refusals.{operators_counted, operators_few}
 use Rattle.items.proofs.WrittenLaws.{written_as}
 use Rattle.replaying.proofs.AnswerLaws.{answer_prints, answer_small}
-use borrow.Author.Rules.{rules}
 use Rattle.valuation.specs.Tables.{balance_width}
 use Rattle.replaying.proofs.answers.answer_with.Goals as goal
 

@@ -3,7 +3,6 @@ use mathlib.Core.Path.{sym}
 use lib.Seq.{length-take-le}
 use Rattle.items.proofs.StreamLaws.{record_within}
 use Rattle.replaying.proofs.CallLaws.{item_called}
-use borrow.Author.Rules.{rules}
 use Rattle.replaying.proofs.answers.call_item.Goals as goal
 
 pub slice_bounds-call_in-end : goal.slice_bounds-call_in-end

@@ -1,7 +1,6 @@
 -- The answer's own line, and behind it those of a settle.
 use native.Mathlib.Omega.{arith}
 use Rattle.replaying.proofs.AnswerLaws.{put_settling, put_plain}
-use borrow.Author.Rules.{rules}
 use Rattle.replaying.proofs.answers.put_answer.Goals as goal
 
 pub put_settled-requires : goal.put_settled-requires

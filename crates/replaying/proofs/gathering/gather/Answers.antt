@@ -1,12 +1,9 @@
 -- Each round of the loop keeps the whole text and counts one item, so that the items that may still come are the measure.
-use Prim.Native.Nat.{◌+◌, ◌-◌, ◌<◌}
-use mathlib.Core.Path.{◌≡◌, refl, sym, ap, ◌∙◌}
-use mathlib.Core.Logic.{◌⊎◌, inl, inr}
+use mathlib.Core.Path.{refl, sym, ap, ◌∙◌}
+use mathlib.Core.Logic.{inl, inr}
 use native.Mathlib.Omega.{arith}
-use lib.ListN.{length}
 use Rattle.replaying.proofs.GatherLaws.{all_turn, all_done, counts_on, turns, went_further}
-use Rattle.replaying.specs.Gathering.{Follows, so_far, all_gathered}
-use borrow.Author.Rules.{rules}
+use Rattle.replaying.specs.Gathering.{all_gathered}
 use Rattle.replaying.proofs.gathering.gather.Goals as goal
 
 pub loop-reached-init : goal.loop-reached-init

@@ -1,12 +1,9 @@
 -- Each round of the loop keeps the whole text and counts one item, so that the items that may still come are the measure.
 use Prim.Native.Nat.{◌+◌, ◌-◌, ◌<◌}
-use mathlib.Core.Path.{◌≡◌, refl, sym, ap, ◌∙◌}
-use mathlib.Core.Logic.{◌⊎◌, inl, inr}
-use native.Mathlib.Omega.{arith}
+use mathlib.Core.Path.{◌≡◌}
+use mathlib.Core.Logic.{◌⊎◌}
 use lib.ListN.{length}
-use Rattle.replaying.proofs.GatherLaws.{all_turn, all_done, counts_on, turns, went_further}
 use Rattle.replaying.specs.Gathering.{Follows, so_far, all_gathered}
-use borrow.Author.Rules.{rules}
 use Rattle.replaying.proofs.gathering.gather.Given as goal
 
 abbrev pub invariant-loop-reached : goal.invariant-loop-reached

@@ -1,7 +1,6 @@
 -- The lines of the beginning stand at the front; all that follows is to come.
 use native.Mathlib.Omega.{arith}
 use Rattle.replaying.proofs.GatherLaws.{first_left, first_whole}
-use borrow.Author.Rules.{rules}
 use Rattle.std.proofs.Common.{◌≡◌, length}
 use Rattle.replaying.proofs.gathering.gather_first.Goals as goal
 

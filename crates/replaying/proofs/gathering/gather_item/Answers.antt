@@ -6,7 +6,6 @@ use Rattle.std.proofs.Common.{◌-◌, length}
 use borrow.Rule.Slice.PartMut.{same_len_mid}
 use Rattle.wire.proofs.NumberLaws.{bytes_known}
 use Rattle.replaying.proofs.GatherLaws.{item_left, item_whole}
-use borrow.Author.Rules.{rules}
 use Rattle.replaying.proofs.gathering.gather_item.Goals as goal
 
 pub replay_item-step-requires : goal.replay_item-step-requires

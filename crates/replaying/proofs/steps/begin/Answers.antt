@@ -3,7 +3,6 @@ use mathlib.Core.Path.{refl, sym, ◌∙◌}
 use native.Mathlib.Omega.{arith}
 use Rattle.items.proofs.StreamLaws.{Within, found_within}
 use Rattle.replaying.proofs.StepLaws.{does_as, does_end, ended_not_on, ended-next, one_line, no_line, begin_long, begin_whole, begin_cut, begin_end, open_next}
-use borrow.Author.Rules.{rules}
 use Rattle.replaying.proofs.steps.begin.Goals as goal
 
 pub returns-then-stream-gt-LONGEST_STREAM : goal.returns-then-stream-gt-LONGEST_STREAM

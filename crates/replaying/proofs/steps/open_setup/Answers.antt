@@ -1,7 +1,6 @@
 -- The line of the outcome; the verdict says whether there is a fresh book.
 use native.Mathlib.Omega.{arith}
 use Rattle.replaying.proofs.StepLaws.{does_open, does_refuse}
-use borrow.Author.Rules.{rules}
 use Rattle.replaying.proofs.steps.open_setup.Goals as goal
 
 pub returns-in-Accepted : goal.returns-in-Accepted

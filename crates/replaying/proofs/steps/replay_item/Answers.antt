@@ -4,7 +4,6 @@ use native.Mathlib.Omega.{arith}
 use Rattle.image.specs.Valid.{book_in}
 use Rattle.items.proofs.StreamLaws.{Within, found_within}
 use Rattle.replaying.proofs.StepLaws.{does_go_on, does_as, does_end, ended_not_on, one_line, no_line, step_whole, step_cut, step_end}
-use borrow.Author.Rules.{rules}
 use Rattle.replaying.proofs.steps.replay_item.Goals as goal
 
 pub slice_bounds-answer_item-count : goal.slice_bounds-answer_item-count
