@@ -64,7 +64,7 @@ module _ (top ops : ℕ) (s : List ℕ) (b : Bytes s) (l : used_size top ≤ len
 
 -- ---- a book
 
--- sections that are equal one by one: `first beside second beside no-others`
+-- sections that are equal one by one: `first beside second beside no_others`
 infixr 5 ◌beside◌
 data Alike : List (List ℕ) → List (List ℕ) → Type 0 where
   no_others : Alike [] []

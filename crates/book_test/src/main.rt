@@ -4,7 +4,7 @@
 
 mod cases;
 
-use std::io::{BufWriter, Result, Write, writer};
+use std::io::{Result, Write, writer};
 use test_lines::{case_end, read_full};
 
 fn run_cases<W: Write>(out: &mut W, input: &[u8], room: &mut [u8]) -> Result<()> {
@@ -21,7 +21,5 @@ fn main(rt: HostRuntime) -> Result<()> {
     let mut space = io::large_buffer();
     let mut room = io::large_buffer();
     let n = read_full(&mut rt.reader(), &mut space)?;
-    let mut out = BufWriter::new(rt.alloc(), writer(&rt))?;
-    run_cases(&mut out, &space[..n], &mut room)?;
-    out.flush()
+    run_cases(&mut writer(&rt), &space[..n], &mut room)
 }

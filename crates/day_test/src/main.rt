@@ -6,7 +6,7 @@ mod cases;
 mod hours;
 
 use cases::BOOK_SIZE;
-use std::io::{BufWriter, Read, Result, Write, writer};
+use std::io::{Read, Result, Write, writer};
 use test_lines::{HEAD, read_full};
 use wire::numbers::get_u16;
 
@@ -73,15 +73,13 @@ fn main(rt: HostRuntime) -> Result<()> {
     let m = io::count(BOOK_SIZE, &remembered);
     let k = io::count(BOOK_SIZE, &before);
     let mut from = rt.reader();
-    let mut out = BufWriter::new(rt.alloc(), writer(&rt))?;
     run_cases(
         &mut from,
-        &mut out,
+        &mut writer(&rt),
         &mut head,
         &mut body,
         &mut book[..n],
         &mut remembered[..m],
         &mut before[..k],
-    )?;
-    out.flush()
+    )
 }

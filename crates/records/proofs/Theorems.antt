@@ -1,5 +1,5 @@
 -- Demand 2: "Requests written by us read back as the same request, and an accepted reading writes back as the same bytes."
--- Said of what the contracts of the writer (`writeOutcome`, `written`) and of the reader (`reading`) promise.
+-- Said of what the contracts of the writer (`write_outcome`, `written`) and of the reader (`reading`) promise.
 use Prim.Native.Nat.{ℕ, ◌≤◌}
 use mathlib.Core.Path.{◌≡◌, sym, ap, ◌∙◌}
 use mathlib.Core.List.{List, ◌++◌}

@@ -1,4 +1,4 @@
--- What covers an exposure (document 01, "Registration"): `coveredBy` of the rules, at the exposure and the guarantee that a call asks about.
+-- What covers an exposure (document 01, "Registration"): `covered_by` of the rules, at the exposure and the guarantee that a call asks about.
 use Rattle.std.specs.Prelude.{ℕ, ◌-◌, Bool, List, [], ◌∷◌}
 use Rattle.rules.specs.declared.Row.{Row}
 use Rattle.rules.specs.Books.{Book, guarantee_at, confirmed_status}

@@ -1,4 +1,4 @@
-// The kinds of request by their numbers, as `kindNumber` of specs/Requests.antt has them.
+// The kinds of request by their numbers, as `kind_number` of specs/Requests.antt has them.
 pub const REGISTER: u8 = 1;
 
 pub const CONFIRM: u8 = 2;
