@@ -5,7 +5,7 @@
 mod cases;
 
 use rules::Counts;
-use std::io::{BufWriter, Result, Write, writer};
+use std::io::{Result, Write, writer};
 use test_lines::{case_end, read_full};
 
 fn run_cases<W: Write>(out: &mut W, input: &[u8]) -> Result<()> {
@@ -28,7 +28,5 @@ fn run_cases<W: Write>(out: &mut W, input: &[u8]) -> Result<()> {
 fn main(rt: HostRuntime) -> Result<()> {
     let mut space = io::large_buffer();
     let n = read_full(&mut rt.reader(), &mut space)?;
-    let mut out = BufWriter::new(rt.alloc(), writer(&rt))?;
-    run_cases(&mut out, &space[..n])?;
-    out.flush()
+    run_cases(&mut writer(&rt), &space[..n])
 }
