@@ -3,12 +3,14 @@
 //!
 //!     cargo run --release              all lines
 //!     cargo run --release -- WORD      the lines whose call has this word
+//!     ./counted                        instructions in place of times
 
 #![forbid(unsafe_code)]
 
 mod clock;
 mod line;
 mod measure;
+mod once;
 mod replay;
 mod state;
 mod table;
@@ -33,6 +35,10 @@ fn main() -> ExitCode {
     }
     for line in &lines {
         line.check();
+    }
+    if env::var_os("BENCH_ONCE").is_some() {
+        once::run(&lines);
+        return ExitCode::SUCCESS;
     }
     for round in 1..=ROUNDS {
         eprintln!("round {round} of {ROUNDS}");
