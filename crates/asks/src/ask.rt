@@ -11,7 +11,7 @@ use rules::{Checked, Outcome, Request, Verdict};
 
 // Kind 12: what register would answer, with the number that it would give.
 pub fn ask(book: &mut [u8], request: Request) -> Outcome
-    requires book_value { is_sound book.old ≡ true }
+    requires known_book { is_sound book.old ≡ true }
     requires ready { Ready ask (book_in book.old) request }
     ensures answer { result ≡ outcome_on ask (book_in book.old) request }
     ensures bytes { book.new ≡ book_bytes (book_after ask (book_in book.old) request) }

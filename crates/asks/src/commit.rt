@@ -13,7 +13,7 @@ use rules::{Checked, Outcome, Refusal, Request, Verdict};
 
 // What commit is refused for.
 fn commit_fault(book: &[u8], request: Request) -> Checked
-    requires book_value { is_book book.now ≡ true }
+    requires known_book { is_book book.now ≡ true }
     requires ready { Ready commit (book_in book.now) request }
     ensures { result ≡ checked (decided commit (book_in book.now) request) }
 {
@@ -30,7 +30,7 @@ fn commit_fault(book: &[u8], request: Request) -> Checked
 
 // Kind 13: the row that was asked for is pending under the next number.
 pub fn commit(book: &mut [u8], request: Request) -> Outcome
-    requires book_value { is_book book.old ≡ true }
+    requires known_book { is_book book.old ≡ true }
     requires ready { Ready commit (book_in book.old) request }
     ensures answer { result ≡ outcome_on commit (book_in book.old) request }
     ensures bytes { book.new ≡ book_bytes (book_after commit (book_in book.old) request) }

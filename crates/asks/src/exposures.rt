@@ -14,7 +14,7 @@ const OPERATOR_EXPOSURES: usize = MOST_OPERATORS as usize + 1;
 
 // Puts the exposure of each operator, by the operator's number; `table` holds the sums of the book's rows.
 fn fill_exposures(exposures: &mut [u64], book: &[u8], table: &[u32])
-    requires exposures_len { (length exposures.old ≡ exposures_size) × (is_sound book.now ≡ true) }
+    requires exposures_fit { (length exposures.old ≡ exposures_size) × (is_sound book.now ≡ true) }
     requires sums_of { SumsOf most_hours (book_in book.now).part.rows table.now }
     ensures { OperatorExposures (book_in book.now) exposures.new }
 {

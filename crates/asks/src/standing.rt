@@ -30,8 +30,8 @@ use wire::regions::all_zero;
 // Whether the proposer keeps its margins once the row is added; `table` holds the sums of the book's rows. Only the row's hours are tested:
 // the other hours stay as they are, and in a book no margin is broken.
 fn keeps_margins_with(book: &[u8], table: &[u32], row: Row) -> bool
-    requires book_value { (is_sound book.now ≡ true) × SumsOf most_hours (book_in book.now).part.rows table.now }
-    requires row_value { row_ok (book_in book.now).setup row ≡ true }
+    requires known_book { (is_sound book.now ≡ true) × SumsOf most_hours (book_in book.now).part.rows table.now }
+    requires sound_row { row_ok (book_in book.now).setup row ≡ true }
     ensures { let b = book_in book.now in
         result ≡ not (is_some (broken_by b.setup b.part.rows (row ∷ []) row.proposer)) }
 {
@@ -53,7 +53,7 @@ fn keeps_margins_with(book: &[u8], table: &[u32], row: Row) -> bool
 // Whether the exposure of the proposer's operator is covered once the row is added.
 fn covered_with(book: &[u8], exposures: &[u64], sums: &[u64], operators: &[u8], row: Row) -> bool
     requires operator_exposures { OperatorExposures (book_in book.now) exposures.now × SaleInputs book.now sums.now operators.now }
-    requires row_value { (row_ok (book_in book.now).setup row ≡ true) × (pending row ≡ true) }
+    requires sound_row { (row_ok (book_in book.now).setup row ≡ true) × (pending row ≡ true) }
     ensures { let b = book_in book.now in result ≡ covered_with_row b row (operator_of b.setup row.proposer) }
 {
     let operator = operator_of(book, row.proposer);
@@ -72,7 +72,7 @@ fn ask_stands(
     number: u8,
 ) -> bool
     requires ask_inputs { AskInputs book.now table.now exposures.now sums.now operators.now }
-    requires book_value { (some_ask_twin (book_in book.now) ≡ false) × (1 ≤ number) × (number ≤ most_accounts) }
+    requires known_book { (some_ask_twin (book_in book.now) ≡ false) × (1 ≤ number) × (number ≤ most_accounts) }
     ensures { let b = book_in book.now in result ≡ ask_stands b (ask_at b number) }
 {
     let row = asked_row(book, number);
@@ -93,7 +93,7 @@ fn ask_stands(
 
 // Whether register would accept every ask that stands. No row is a twin of an ask.
 fn each_stands(book: &[u8], table: &[u32]) -> bool
-    requires book_value { (is_sound book.now ≡ true) × (some_ask_twin (book_in book.now) ≡ false) }
+    requires known_book { (is_sound book.now ≡ true) × (some_ask_twin (book_in book.now) ≡ false) }
     requires sums_of { SumsOf most_hours (book_in book.now).part.rows table.now }
     ensures { result ≡ asks_stand (book_in book.now) }
 {

@@ -46,7 +46,7 @@ fn rows_valid(book: &[u8], at: usize, n: usize) -> bool
 // The exposure of the operator is at most what is available of its guarantee in the part at `at`.
 fn operator_covered(book: &[u8], at: usize, table: &[u32], top: usize, number: u8) -> bool
     requires setup_known { SetupKnown top book.now × GuaranteesKnown book.now at × SumTable top table.now }
-    requires le_number { (1 ≤ number) × (number ≤ (counts_in book.now).operators) }
+    requires numbered { (1 ≤ number) × (number ≤ (counts_in book.now).operators) }
     ensures { let s = book.now in ForRowsSummedIn top table.now (λ rows. result ≡ covered (setup_of s) (part_with s at rows) number) }
 {
     let exposed = exposure_of(book, table, top, number);

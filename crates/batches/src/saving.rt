@@ -50,7 +50,7 @@ pub fn inside_batch(book: &[u8]) -> Checked
 // Copies a part over another. Past the first n rows both are zero up to their net positions, so that this room is left alone.
 fn copy_part(book: &mut [u8], from: usize, to: usize, n: u16)
     requires has_part { HasPart book.old from × HasPart book.old to × Apart from to (part_size most_hours) }
-    requires n_le_most_rows { (n ≤ most_rows) × NoRowsPast book.old from n × NoRowsPast book.old to n }
+    requires rows_end { (n ≤ most_rows) × NoRowsPast book.old from n × NoRowsPast book.old to n }
     ensures { book.new ≡ part_copied book.old from to }
 {
     copy_within(book, from, to, ROWS_OFFSET + ROW_WIDTH * (n as usize));
@@ -65,7 +65,7 @@ fn copy_part(book: &mut [u8], from: usize, to: usize, n: u16)
 // Clears a part that has no more than n rows.
 fn clear_part(book: &mut [u8], at: usize, n: u16)
     requires has_part { HasPart book.old at }
-    requires n_le_most_rows { (n ≤ most_rows) × NoRowsPast book.old at n }
+    requires rows_end { (n ≤ most_rows) × NoRowsPast book.old at n }
     ensures { book.new ≡ part_cleared book.old at }
 {
     clear_at(book, at, ROWS_OFFSET + ROW_WIDTH * (n as usize));
@@ -74,8 +74,8 @@ fn clear_part(book: &mut [u8], at: usize, n: u16)
 
 // Ends the batch: clears the saved part, which has no more than n rows, and the flag.
 fn end_batch(book: &mut [u8], n: u16)
-    requires book_len { length book.old ≡ book_size }
-    requires n_le_most_rows { (n ≤ most_rows) × NoRowsPast book.old (saved_offset most_hours) n }
+    requires whole_book { length book.old ≡ book_size }
+    requires rows_end { (n ≤ most_rows) × NoRowsPast book.old (saved_offset most_hours) n }
     ensures { book.new ≡ batch_ended book.old }
 {
     clear_part(book, SAVED_OFFSET, n);

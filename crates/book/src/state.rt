@@ -52,8 +52,8 @@ pub fn schedule_count(book: &[u8]) -> u16
 
 // How many rows the open batch saved: at most as many as there are now.
 pub fn saved_row_count(book: &[u8]) -> u16
-    requires book_value { is_sound book.now ≡ true }
-    requires book_value_2 { is_some (book_in book.now).saved ≡ true }
+    requires known_book { is_sound book.now ≡ true }
+    requires batch_open { is_some (book_in book.now).saved ≡ true }
     ensures meaning { let b = book_in book.now in result ≡ length (restored b.saved b.part).rows }
     ensures bounded { result ≤ length (book_in book.now).part.rows }
 {

@@ -103,7 +103,7 @@ fn wait_at(waits: &[u32], side: u8, hour: u8) -> u32
 
 // The net position of an account in an hour, from the book, with its pending sales and purchases, from the table.
 pub fn account_hour(book: &[u8], waits: &[u32], account: u8, hour: u8) -> AccountHour
-    requires book_value { (is_sound book.now ≡ true) × (length waits.now ≡ waits_size) }
+    requires known_book { (is_sound book.now ≡ true) × (length waits.now ≡ waits_size) }
     requires account { IsAccount (book_in book.now) account × IsHour (book_in book.now) hour }
     ensures { result ≡ tabled_hour (book_in book.now).part.rows waits.now account hour }
 {

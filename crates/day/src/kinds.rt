@@ -36,8 +36,8 @@ fn no_kind() -> Outcome {
 
 // Kinds 5 to 8, which have no field beside the kind.
 fn batch_or_gate(book: &mut [u8], kind: u8) -> Outcome
-    requires book_value { is_sound book.old ≡ true }
-    requires le_kind { (5 ≤ kind) × (kind ≤ 8) }
+    requires known_book { is_sound book.old ≡ true }
+    requires batch_or_gate_kind { (5 ≤ kind) × (kind ≤ 8) }
     ensures answer { (q : Request) → result ≡ outcome_on (kind_of kind) (book_in book.old) q }
     ensures bytes { (q : Request) → book.new ≡ book_bytes (book_after (kind_of kind) (book_in book.old) q) }
     ensures still { is_sound book.new ≡ true }
@@ -54,8 +54,8 @@ fn batch_or_gate(book: &mut [u8], kind: u8) -> Outcome
 
 // Any of these kinds, of a request whose fields are in range.
 fn by_kind(book: &mut [u8], request: Request) -> Outcome
-    requires book_value { is_book book.old ≡ true }
-    requires kind_value { (is_plain request.kind ≡ true) × Ready (kind_of request.kind) (book_in book.old) request }
+    requires known_book { is_book book.old ≡ true }
+    requires plain_kind { (is_plain request.kind ≡ true) × Ready (kind_of request.kind) (book_in book.old) request }
     ensures answer { result ≡ outcome_on (kind_of request.kind) (book_in book.old) request }
     ensures bytes { book.new ≡ book_bytes (book_after (kind_of request.kind) (book_in book.old) request) }
     ensures still { is_sound book.new ≡ true }
@@ -77,8 +77,8 @@ fn by_kind(book: &mut [u8], request: Request) -> Outcome
 
 // Any of these kinds: refused where a field is out of range of the book, else answered by kind.
 pub fn answer(book: &mut [u8], request: Request) -> Outcome
-    requires book_value { is_book book.old ≡ true }
-    requires kind_value { (is_plain request.kind ≡ true) × (request.code < 256 ^ 8) }
+    requires known_book { is_book book.old ≡ true }
+    requires plain_kind { (is_plain request.kind ≡ true) × (request.code < 256 ^ 8) }
     ensures answer { (c : Call) → reading c.bytes ≡ Read request → result ≡ (change_answer book.old c).outcome }
     ensures bytes { (c : Call) → reading c.bytes ≡ Read request → book.new ≡ (change_answer book.old c).book }
     ensures still { is_sound book.new ≡ true }

@@ -11,7 +11,7 @@ use rules::{Balance, Numbers};
 pub fn put_answered(out: &mut [u8], at: usize, item: u64, numbers: Numbers) -> usize
     requires { at + line_room ≤ length out.old }
     ensures written { Written out.old at (line_text (answered item (numbers.number, numbers.first, numbers.second))) out.new result }
-    ensures upper_bound { result ≤ at + line_room }
+    ensures bounded { result ≤ at + line_room }
 {
     let verdict_at = put_number(out, at, item, b' ');
     let first_at = put_number(out, verdict_at, numbers.number as u64, b' ');
@@ -23,7 +23,7 @@ pub fn put_answered(out: &mut [u8], at: usize, item: u64, numbers: Numbers) -> u
 pub fn put_result(out: &mut [u8], at: usize, place: u64, res: u8) -> usize
     requires { at + line_room ≤ length out.old }
     ensures written { Written out.old at (line_text (result_line place res)) out.new result }
-    ensures upper_bound { result ≤ at + line_room }
+    ensures bounded { result ≤ at + line_room }
 {
     let place_at = put_bytes(out, at, b"s ");
     let result_at = put_number(out, place_at, place, b' ');
@@ -34,7 +34,7 @@ pub fn put_result(out: &mut [u8], at: usize, place: u64, res: u8) -> usize
 pub fn put_balance(out: &mut [u8], at: usize, operator: u64, balance: Balance) -> usize
     requires { at + line_room ≤ length out.old }
     ensures written { Written out.old at (line_text (balance_line operator (balance_figure balance))) out.new result }
-    ensures upper_bound { result ≤ at + line_room }
+    ensures bounded { result ≤ at + line_room }
 {
     let operator_at = put_bytes(out, at, b"o ");
     let balance_at = put_number(out, operator_at, operator, b' ');
@@ -45,7 +45,7 @@ pub fn put_balance(out: &mut [u8], at: usize, operator: u64, balance: Balance) -
 pub fn put_total(out: &mut [u8], at: usize, total: Balance) -> usize
     requires { at + line_room ≤ length out.old }
     ensures written { Written out.old at (line_text (sum (balance_figure total))) out.new result }
-    ensures upper_bound { result ≤ at + line_room }
+    ensures bounded { result ≤ at + line_room }
 {
     let total_at = put_bytes(out, at, b"t ");
     put_figure(out, total_at, total, b'\n')
@@ -55,7 +55,7 @@ pub fn put_total(out: &mut [u8], at: usize, total: Balance) -> usize
 pub fn put_cut(out: &mut [u8], at: usize, item: u64) -> usize
     requires { at + line_room ≤ length out.old }
     ensures written { Written out.old at (line_text (cut item)) out.new result }
-    ensures upper_bound { result ≤ at + line_room }
+    ensures bounded { result ≤ at + line_room }
 {
     let item_at = put_bytes(out, at, b"cut ");
     put_number(out, item_at, item, b'\n')
@@ -65,7 +65,7 @@ pub fn put_cut(out: &mut [u8], at: usize, item: u64) -> usize
 pub fn put_long(out: &mut [u8], at: usize) -> usize
     requires { at + line_room ≤ length out.old }
     ensures written { Written out.old at (line_text long) out.new result }
-    ensures upper_bound { result ≤ at + line_room }
+    ensures bounded { result ≤ at + line_room }
 {
     put_bytes(out, at, b"long\n")
 }

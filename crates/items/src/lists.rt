@@ -13,7 +13,7 @@ use crate::lines::{put_balance, put_result, put_total};
 pub fn put_results(out: &mut [u8], at: usize, results: &[u8], n: usize) -> usize
     requires { (n ≤ length results.now) × (at + line_room * n ≤ length out.old) }
     ensures written { Written out.old at (results_text n results.now) out.new result }
-    ensures upper_bound { result ≤ at + line_room * n }
+    ensures bounded { result ≤ at + line_room * n }
 {
     let mut past = at;
     let mut k = 0;
@@ -30,7 +30,7 @@ pub fn put_results(out: &mut [u8], at: usize, results: &[u8], n: usize) -> usize
 pub fn put_balance_lines(out: &mut [u8], at: usize, balances: &[u8], n: usize) -> usize
     requires { (8 * n ≤ length balances.now) × (at + line_room * n ≤ length out.old) }
     ensures written { Written out.old at (balance_lines_text (figures_in n balances.now)) out.new result }
-    ensures upper_bound { result ≤ at + line_room * n }
+    ensures bounded { result ≤ at + line_room * n }
 {
     let mut past = at;
     let mut k = 0;
@@ -46,10 +46,10 @@ pub fn put_balance_lines(out: &mut [u8], at: usize, balances: &[u8], n: usize) -
 
 // Puts a line for each of the first `n` balances, and one for their sum.
 pub fn put_balances(out: &mut [u8], at: usize, balances: &[u8], n: usize) -> usize
-    requires n_le_most_operators { (n ≤ most_operators) × (8 * n ≤ length balances.now) × Each SmallFigure (figures_in n balances.now) }
-    requires n_in_bounds { at + line_room * (n + 1) ≤ length out.old }
+    requires small_figures { (n ≤ most_operators) × (8 * n ≤ length balances.now) × Each SmallFigure (figures_in n balances.now) }
+    requires fits { at + line_room * (n + 1) ≤ length out.old }
     ensures written { Written out.old at (balances_text n balances.now) out.new result }
-    ensures upper_bound { result ≤ at + line_room * (n + 1) }
+    ensures bounded { result ≤ at + line_room * (n + 1) }
 {
     let total_at = put_balance_lines(out, at, balances, n);
     let total = total_of(balances, n);
@@ -65,10 +65,10 @@ pub fn put_settled(
     balances: &[u8],
     m: usize,
 ) -> usize
-    requires n_in_bounds { (n ≤ length results.now) × (m ≤ most_operators) × (8 * m ≤ length balances.now) × Each SmallFigure (figures_in m balances.now) }
-    requires m_in_bounds { at + line_room * (n + m + 1) ≤ length out.old }
+    requires fits { (n ≤ length results.now) × (m ≤ most_operators) × (8 * m ≤ length balances.now) × Each SmallFigure (figures_in m balances.now) }
+    requires room { at + line_room * (n + m + 1) ≤ length out.old }
     ensures written { Written out.old at (settled_text n results.now m balances.now) out.new result }
-    ensures upper_bound { result ≤ at + line_room * (n + m + 1) }
+    ensures bounded { result ≤ at + line_room * (n + m + 1) }
 {
     let balances_at = put_results(out, at, results, n);
     put_balances(out, balances_at, balances, m)

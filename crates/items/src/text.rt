@@ -21,7 +21,7 @@ pub fn put_bytes(out: &mut [u8], at: usize, bytes: &[u8]) -> usize
 pub fn put_decimal(out: &mut [u8], at: usize, n: u64) -> usize
     requires { at + 20 ≤ length out.old }
     ensures written { Written out.old at (decimal_text n) out.new result }
-    ensures upper_bound { result ≤ at + 20 }
+    ensures bounded { result ≤ at + 20 }
 {
     let mut digits = [0u8; 20];
     let k = decimal(n, &mut digits);
@@ -32,7 +32,7 @@ pub fn put_decimal(out: &mut [u8], at: usize, n: u64) -> usize
 pub fn put_number(out: &mut [u8], at: usize, n: u64, end: u8) -> usize
     requires { at + 21 ≤ length out.old }
     ensures written { Written out.old at (decimal_text n ++ end ∷ []) out.new result }
-    ensures upper_bound { result ≤ at + 21 }
+    ensures bounded { result ≤ at + 21 }
 {
     let past = put_decimal(out, at, n);
     put_bytes(out, past, &[end])
@@ -42,7 +42,7 @@ pub fn put_number(out: &mut [u8], at: usize, n: u64, end: u8) -> usize
 pub fn put_figure(out: &mut [u8], at: usize, figure: Balance, end: u8) -> usize
     requires { at + 22 ≤ length out.old }
     ensures written { Written out.old at (signed_decimal (balance_figure figure) ++ end ∷ []) out.new result }
-    ensures upper_bound { result ≤ at + 22 }
+    ensures bounded { result ≤ at + 22 }
 {
     let gained = figure.gained.0;
     let lost = figure.lost.0;

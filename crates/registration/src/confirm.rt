@@ -74,7 +74,7 @@ fn confirmed_row(r: Row) -> Row
 // Whether the exposure of the account's operator is covered once the pending row is confirmed; `trade` is the confirmed row.
 #[tactic(auto, using(crate::proofs::ConfirmLaws::sale_covered))]
 fn covered_with_trade(book: &[u8], row: Row, trade: Row, number: u8) -> bool
-    requires book_value { (is_sound book.now ≡ true) × IsAccount (book_in book.now) number }
+    requires known_book { (is_sound book.now ≡ true) × IsAccount (book_in book.now) number }
     requires waits_in { WaitsIn (book_in book.now) row × (trade ≡ with_status confirmed_status row) }
     ensures { let b = book_in book.now in result ≡ covered_with_trade b row (operator_of b.setup number) }
 {
@@ -105,8 +105,8 @@ fn margin_or_exposure_fault(book: &[u8], request: Request, row: Row) -> Checked
 
 // What confirm is refused for; `number` is that of the row which it names.
 fn confirm_fault(book: &[u8], request: Request, number: u16) -> Checked
-    requires book_value { is_sound book.now ≡ true }
-    requires number_value { number ≡ confirmed_number (book_in book.now) request }
+    requires known_book { is_sound book.now ≡ true }
+    requires number_named { number ≡ confirmed_number (book_in book.now) request }
     ensures { result ≡ checked (decided confirm (book_in book.now) request) }
 {
     if phase(book) != REGISTRATION {
@@ -133,7 +133,7 @@ fn put_trade(book: &mut [u8], number: u16, row: Row)
 
 // Kind 2: the row that the request names and mirrors is confirmed, under its number.
 pub fn confirm(book: &mut [u8], request: Request) -> Outcome
-    requires book_value { is_sound book.old ≡ true }
+    requires known_book { is_sound book.old ≡ true }
     requires ready { Ready confirm (book_in book.old) request }
     ensures answer { result ≡ outcome_on confirm (book_in book.old) request }
     ensures bytes { book.new ≡ book_bytes (book_after confirm (book_in book.old) request) }

@@ -35,7 +35,7 @@ fn covered_under(book: &[u8], guarantee: Cents, number: u8) -> bool
 
 // What guarantee is refused for.
 fn guarantee_fault(book: &[u8], request: Request) -> Checked
-    requires book_value { is_sound book.now ≡ true }
+    requires known_book { is_sound book.now ≡ true }
     requires ready { Ready guarantee (book_in book.now) request }
     ensures { result ≡ checked (decided guarantee (book_in book.now) request) }
 {
@@ -50,7 +50,7 @@ fn guarantee_fault(book: &[u8], request: Request) -> Checked
 
 // Kind 4: the operator's guarantee becomes the one named.
 pub fn guarantee(book: &mut [u8], request: Request) -> Outcome
-    requires book_value { is_sound book.old ≡ true }
+    requires known_book { is_sound book.old ≡ true }
     requires ready { Ready guarantee (book_in book.old) request }
     ensures answer { result ≡ outcome_on guarantee (book_in book.old) request }
     ensures bytes { book.new ≡ book_bytes (book_after guarantee (book_in book.old) request) }

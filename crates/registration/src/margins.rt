@@ -20,7 +20,7 @@ pub enum Broken {
 // The lowest hour in which the account breaks a margin after the trade; `waits` holds the account's pending sums. Only the trade's hours are
 // tested: the other hours stay as they are, and in a book no margin is broken.
 pub fn first_broken(book: &[u8], waits: &[u32], trade: Row, number: u8) -> Broken
-    requires book_value { (is_sound book.now ≡ true) × WaitsOf (book_in book.now).part.rows number waits.now }
+    requires known_book { (is_sound book.now ≡ true) × WaitsOf (book_in book.now).part.rows number waits.now }
     requires account_trade { AccountTrade (book_in book.now) number trade }
     ensures { let b = book_in book.now in result ≡ broken (broken_by b.setup b.part.rows (trade ∷ []) number) }
 {

@@ -46,7 +46,7 @@ pub fn proposed_row(request: Request) -> Row
 
 // Whether the exposure of the account's operator is covered once the row is added.
 fn covered_with_row(book: &[u8], row: Row, number: u8) -> bool
-    requires book_value { (is_sound book.now ≡ true) × IsAccount (book_in book.now) number }
+    requires known_book { (is_sound book.now ≡ true) × IsAccount (book_in book.now) number }
     requires trade_in_range { TradeInRange (book_in book.now).setup row × (pending row ≡ true) }
     ensures { let b = book_in book.now in result ≡ covered_with_row b row (operator_of b.setup number) }
 {
@@ -62,7 +62,7 @@ fn covered_with_row(book: &[u8], row: Row, number: u8) -> bool
 // What register is refused for once its row has no twin and there is a number for it: a margin that it breaks, or an exposure that is not
 // covered. `waits` holds the account's pending sums.
 fn margin_or_exposure_fault(book: &[u8], waits: &[u32], request: Request) -> Checked
-    requires book_value { (is_sound book.now ≡ true) × WaitsOf (book_in book.now).part.rows request.account waits.now }
+    requires known_book { (is_sound book.now ≡ true) × WaitsOf (book_in book.now).part.rows request.account waits.now }
     requires proposing { Proposing (book_in book.now) request }
     ensures { result ≡ checked (decided register (book_in book.now) request) }
 {
@@ -79,7 +79,7 @@ fn margin_or_exposure_fault(book: &[u8], waits: &[u32], request: Request) -> Che
 // What register is refused for.
 #[tactic(auto, using(crate::proofs::RegisterLaws::rows_full))]
 pub fn register_fault(book: &[u8], request: Request) -> Checked
-    requires book_value { is_sound book.now ≡ true }
+    requires known_book { is_sound book.now ≡ true }
     requires proposes_row { ProposesRow (book_in book.now) request }
     ensures { result ≡ checked (decided register (book_in book.now) request) }
 {
@@ -119,7 +119,7 @@ pub fn append_row(book: &mut [u8], n: u16, r: Row)
 
 // Kind 1: the row that the request proposes is pending under the next number.
 pub fn register(book: &mut [u8], request: Request) -> Outcome
-    requires book_value { is_sound book.old ≡ true }
+    requires known_book { is_sound book.old ≡ true }
     requires ready { Ready register (book_in book.old) request }
     ensures answer { result ≡ outcome_on register (book_in book.old) request }
     ensures bytes { book.new ≡ book_bytes (book_after register (book_in book.old) request) }

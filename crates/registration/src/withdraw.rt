@@ -15,8 +15,8 @@ use wire::numbers::{get_u8, put_u8};
 
 // Whether the row that the request names is pending and its account's own.
 fn is_own_pending(book: &[u8], request: Request) -> bool
-    requires book_value { is_sound book.now ≡ true }
-    requires le_number { 1 ≤ request.number }
+    requires known_book { is_sound book.now ≡ true }
+    requires numbered { 1 ≤ request.number }
     ensures { result ≡ withdraws (book_in book.now).part.rows request }
 {
     if row_count(book) < request.number {
@@ -28,8 +28,8 @@ fn is_own_pending(book: &[u8], request: Request) -> bool
 
 // What withdraw is refused for.
 fn withdrawal_fault(book: &[u8], request: Request) -> Checked
-    requires book_value { is_sound book.now ≡ true }
-    requires le_number { 1 ≤ request.number }
+    requires known_book { is_sound book.now ≡ true }
+    requires numbered { 1 ≤ request.number }
     ensures { result ≡ checked (decided withdraw (book_in book.now) request) }
 {
     if phase(book) != REGISTRATION {
@@ -43,7 +43,7 @@ fn withdrawal_fault(book: &[u8], request: Request) -> Checked
 
 // Kind 3: the row's status becomes withdrawn.
 pub fn withdraw(book: &mut [u8], request: Request) -> Outcome
-    requires book_value { is_sound book.old ≡ true }
+    requires known_book { is_sound book.old ≡ true }
     requires ready { Ready withdraw (book_in book.old) request }
     ensures answer { result ≡ outcome_on withdraw (book_in book.old) request }
     ensures bytes { book.new ≡ book_bytes (book_after withdraw (book_in book.old) request) }

@@ -29,8 +29,8 @@ const MOST_BALANCES: usize = BALANCE_WIDTH * (MOST_OPERATORS as usize);
 
 // Calls the book with an item's record and prices, which are its two parts.
 fn call_item(item: &[u8], book: &mut [u8], results: &mut [u8], balances: &mut [u8]) -> Outcome
-    requires book_value { is_book book.old ≡ true }
-    requires results_value { (results.old ≡ replicate most_schedules 0) × (balances.old ≡ replicate (balance_width * most_operators) 0) }
+    requires known_book { is_book book.old ≡ true }
+    requires buffers_clear { (results.old ≡ replicate most_schedules 0) × (balances.old ≡ replicate (balance_width * most_operators) 0) }
     ensures answer { Gives (item_answer book.old item.now) result book.new results.new balances.new }
     ensures still { is_book book.new ≡ true }
 {
@@ -64,10 +64,10 @@ fn put_answer(
     balances: &[u8],
     m: usize,
 ) -> usize
-    requires n_in_bounds { (n ≤ length results.now) × (m ≤ most_operators) × (balance_width * m ≤ length balances.now) × (line_room * (n + m + 2) ≤ length out.old) }
+    requires fits { (n ≤ length results.now) × (m ≤ most_operators) × (balance_width * m ≤ length balances.now) × (line_room * (n + m + 2) ≤ length out.old) }
     requires each { settled ≡ true → Each SmallFigure (figures_in m balances.now) }
     ensures written { Written out.old 0 (answer_text number outcome settled n results.now m balances.now) out.new result }
-    ensures upper_bound { result ≤ line_room * (n + m + 2) }
+    ensures bounded { result ≤ line_room * (n + m + 2) }
 {
     let numbers = outcome_numbers(outcome);
     let past = put_answered(out, 0, number, numbers);
@@ -86,9 +86,9 @@ fn answer_with(
     results: &mut [u8],
     balances: &mut [u8],
 ) -> usize
-    requires book_value { is_book book.old ≡ true }
-    requires step_room_in_bounds { step_room ≤ length out.old }
-    requires results_value { (results.old ≡ replicate most_schedules 0) × (balances.old ≡ replicate (balance_width * most_operators) 0) }
+    requires known_book { is_book book.old ≡ true }
+    requires room { step_room ≤ length out.old }
+    requires buffers_clear { (results.old ≡ replicate most_schedules 0) × (balances.old ≡ replicate (balance_width * most_operators) 0) }
     ensures lines { Written out.old 0 (text (answer_lines number (book_in book.old) (call_of item.now))) out.new result }
     ensures bound { result ≤ step_room }
     ensures book { book.new ≡ (item_answer book.old item.now).book }
@@ -112,8 +112,8 @@ fn answer_with(
 
 // Answers an item on the book, and puts the lines of the answer at the front of `out`. Gives the offset past them.
 pub fn answer_item(item: &[u8], number: u64, book: &mut [u8], out: &mut [u8]) -> usize
-    requires book_value { is_book book.old ≡ true }
-    requires step_room_in_bounds { step_room ≤ length out.old }
+    requires known_book { is_book book.old ≡ true }
+    requires room { step_room ≤ length out.old }
     ensures lines { Written out.old 0 (text (answer_lines number (book_in book.old) (call_of item.now))) out.new result }
     ensures bound { result ≤ step_room }
     ensures book { book.new ≡ (item_answer book.old item.now).book }

@@ -26,7 +26,7 @@ pub fn gather_first(stream: &[u8], book: &mut [u8], out: &mut [u8]) -> Gathered
 
 // Replays the next item, and puts its lines behind those that are gathered.
 fn gather_item(stream: &[u8], gathered: Gathered, book: &mut [u8], out: &mut [u8]) -> Gathered
-    requires goes_on_value { (gathered.goes_on ≡ true) × (gathered.end + step_room ≤ length out.old) }
+    requires going_on { (gathered.goes_on ≡ true) × (gathered.end + step_room ≤ length out.old) }
     requires underway { Underway stream.now (so_far gathered book.old out.old) }
     ensures left { so_far result book.new out.new ≡ item_gathered stream.now (so_far gathered book.old out.old) }
     ensures follows { Follows stream.now (so_far gathered book.old out.old) (so_far result book.new out.new) }
@@ -45,7 +45,7 @@ fn gather_item(stream: &[u8], gathered: Gathered, book: &mut [u8], out: &mut [u8
 
 // Replays further, and gathers the lines of each item behind those that are gathered, until the replay ends or `out` has no room for another step.
 pub fn gather(stream: &[u8], gathered: Gathered, book: &mut [u8], out: &mut [u8]) -> Gathered
-    requires step_room_in_bounds { step_room ≤ length out.old }
+    requires room { step_room ≤ length out.old }
     requires underway { Underway stream.now (so_far gathered book.old out.old) }
     ensures left { so_far result book.new out.new ≡ all_gathered stream.now (so_far gathered book.old out.old) }
     ensures follows { Follows stream.now (so_far gathered book.old out.old) (so_far result book.new out.new) }

@@ -96,8 +96,8 @@ pub fn replay_item(
     book: &mut [u8],
     out: &mut [u8],
 ) -> Stepped
-    requires book_value { is_book book.old ≡ true }
-    requires step_room_in_bounds { step_room ≤ length out.old }
+    requires known_book { is_book book.old ≡ true }
+    requires room { step_room ≤ length out.old }
     ensures answer { result ≡ stepped (step_at (book_in book.old) number stream.now at) }
     ensures book { book.new ≡ book_on (step_at (book_in book.old) number stream.now at).onward book.old }
     ensures out { out.new ≡ splice out.old 0 (printed (step_at (book_in book.old) number stream.now at)) }

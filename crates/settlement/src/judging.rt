@@ -70,7 +70,7 @@ fn judge_each(
 )
     requires priced { Priced book.now prices.now }
     requires in_order { InOrder book.now order n }
-    requires used_value { (used.old ≡ nothing_used) × NoneJudged energy.old charges.old results.old }
+    requires nothing_judged { (used.old ≡ nothing_used) × NoneJudged energy.old charges.old results.old }
     ensures { AllJudged book.now prices.now energy.new charges.new results.new }
 {
     let mut k = 0;

@@ -64,7 +64,7 @@ fn append_schedule(book: &mut [u8], n: u16, x: Schedule)
 
 // Kind 9: the schedule that the request hands in gets the next place.
 pub fn schedule(book: &mut [u8], request: Request) -> Outcome
-    requires book_value { is_sound book.old ≡ true }
+    requires known_book { is_sound book.old ≡ true }
     requires ready { Ready schedule (book_in book.old) request }
     ensures answer { result ≡ outcome_on schedule (book_in book.old) request }
     ensures bytes { book.new ≡ book_bytes (book_after schedule (book_in book.old) request) }

@@ -83,7 +83,7 @@ pub fn account_operator(setup: &[u8], number: u8) -> u8
 // The margins of an account in an hour, both by their numbers, from 1.
 pub fn margins(setup: &[u8], number: u8, hour: u8) -> Margins
     requires whole { Whole setup.now × (1 ≤ number) × (number ≤ (counts_in setup.now).accounts) }
-    requires le_hour { (1 ≤ hour) × (hour ≤ (counts_in setup.now).hours) }
+    requires in_day { (1 ≤ hour) × (hour ≤ (counts_in setup.now).hours) }
     ensures { result ≡ margins_at (setup_of setup.now) number hour }
 {
     let n = counts(setup);

@@ -53,7 +53,7 @@ fn row_fault(row: &[u8], pass: RowPass) -> Checked
 
 // The check of `n` rows from `at` on: the first that it applies to.
 fn first_row_fault(bytes: &[u8], at: usize, n: usize, pass: RowPass) -> Checked
-    requires n_in_bounds { at + row_length * n ≤ length bytes.now }
+    requires fits { at + row_length * n ≤ length bytes.now }
     requires each { Each (PassWants pass) (rows_from bytes.now at n) }
     ensures { result ≡ checked (first_to_apply (map (row_check pass) (rows_from bytes.now at n))) }
 {

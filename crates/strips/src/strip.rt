@@ -27,7 +27,7 @@ use strip_rows::rows::{HEAD_LENGTH, ROW_LENGTH, row_request};
 // What a strip is refused for once none of its rows has a twin and there is a number for each: a margin that they break together, or an
 // exposure that is not covered.
 fn margin_or_exposure_fault(book: &[u8], bytes: &[u8], n: usize, account: u8) -> Checked
-    requires book_value { (is_sound book.now ≡ true) × ReadyStrip (book_in book.now) bytes.now n × (account ≡ proposer bytes.now n) }
+    requires known_book { (is_sound book.now ≡ true) × ReadyStrip (book_in book.now) bytes.now n × (account ≡ proposer bytes.now n) }
     requires addable { Addable (book_in book.now) (strip_requests bytes.now n) }
     ensures { result ≡ checked (first_to_apply (state_checks (book_in book.now) strip (strip_requests bytes.now n))) }
 {
@@ -66,8 +66,8 @@ fn state_fault(book: &[u8], bytes: &[u8], n: usize) -> Checked
 
 // Writes the rows of a strip that is refused for nothing, and gives the number of the first.
 fn accept(book: &mut [u8], bytes: &[u8], n: usize) -> Outcome
-    requires book_value { (is_sound book.old ≡ true) × ReadyStrip (book_in book.old) bytes.now n }
-    requires n_value { first_to_apply (state_checks (book_in book.old) strip (strip_requests bytes.now n)) ≡ none }
+    requires known_book { (is_sound book.old ≡ true) × ReadyStrip (book_in book.old) bytes.now n }
+    requires nothing_refuses { first_to_apply (state_checks (book_in book.old) strip (strip_requests bytes.now n)) ≡ none }
     ensures answer { result ≡ accepted (given strip (book_in book.old) (strip_requests bytes.now n)) }
     ensures bytes { book.new ≡ book_bytes (changed strip (book_in book.old) (strip_requests bytes.now n)) }
     ensures still { is_sound book.new ≡ true }

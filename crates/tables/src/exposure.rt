@@ -45,7 +45,7 @@ fn account_exposure(book: &[u8], table: &[u32], top: usize, number: u8) -> Milli
 // What an account adds to the operator's exposure: nothing where it is another's.
 fn exposure_share(book: &[u8], table: &[u32], top: usize, number: u8, operator: u8) -> MilliCents
     requires setup_tabled { SetupTabled top book.now × EstimatesInRange book.now × SumTable top table.now }
-    requires le_number { (1 ≤ number) × (number ≤ (counts_in book.now).accounts) }
+    requires numbered { (1 ≤ number) × (number ≤ (counts_in book.now).accounts) }
     ensures meaning { ForRowsSummedIn top table.now (λ rows. result.0 ≡ exposure_share (setup_of book.now) rows operator number) }
     ensures bounded { result.0 ≤ most_account_exposure }
 {

@@ -169,7 +169,7 @@ pub fn add_to(table: &mut [u32], k: usize, q: u32)
 // Counts a schedule of that result: a congruous one uses up its quantity of its point's and its account's limits.
 pub fn use_up(used: &mut [u32], account: u8, x: Schedule, res: u8)
     requires in_cells { InCells most_points x.point x × InCells most_accounts account x }
-    requires used_len { (length used.old ≡ used_cells) × Room used.old 0 x.quantity.0 }
+    requires used_table { (length used.old ≡ used_cells) × Room used.old 0 x.quantity.0 }
     ensures { UsedWith account x res used.old used.new }
 {
     let q = share(x.quantity, res);

@@ -9,19 +9,19 @@ use Rattle.asks.proofs.ask.ask.Goals as goal
 
 pub register_fault-requires : goal.register_fault-requires
 register_fault-requires c =
-    record { book_value = c.requires.book_value; proposes_row = ready_proposes ask _ _ refl c.requires.ready }
+    record { known_book = c.requires.known_book; proposes_row = ready_proposes ask _ _ refl c.requires.ready }
 
 pub returns-in-Fails : goal.returns-in-Fails
 returns-in-Fails c =
-    let both = ask_refused _ _ c.requires.book_value _
+    let both = ask_refused _ _ c.requires.known_book _
     (checked-same _ (some _) (sym c.register_fault.ensures ∙ c.in-Fails.is)) in record { answer = both.0; bytes = both.1.0; still = both.1.1 }
 
 pub put_ask-requires : goal.put_ask-requires
 put_ask-requires c =
-    (c.requires.book_value, rw c.proposed_row-row.ensures (ready_proposes ask _ _ refl c.requires.ready))
+    (c.requires.known_book, rw c.proposed_row-row.ensures (ready_proposes ask _ _ refl c.requires.ready))
 
 pub returns : goal.returns
 returns c =
     let free = checked-same _ none (sym c.register_fault.ensures ∙ c.in_default.is) in
-    let both = ask_accepted _ _ c.requires.book_value _ _ free (ready_proposes ask _ _ refl c.requires.ready) c.row_count-n.ensures.meaning
+    let both = ask_accepted _ _ c.requires.known_book _ _ free (ready_proposes ask _ _ refl c.requires.ready) c.row_count-n.ensures.meaning
     (rw c.proposed_row-row.ensures at c.put_ask.ensures) in record { answer = both.0; bytes = both.1.0; still = both.1.1 }

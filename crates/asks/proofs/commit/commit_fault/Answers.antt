@@ -11,27 +11,27 @@ use Rattle.asks.proofs.CommitLaws.{asks_stand_lem, commit_clear, no_standing_ask
 use Rattle.asks.proofs.commit.commit_fault.Goals as goal
 
 pub phase-requires : goal.phase-requires
-phase-requires c = book_is_sound most_hours book_size _ c.requires.book_value
+phase-requires c = book_is_sound most_hours book_size _ c.requires.known_book
 
 pub returns-then-phase-ne-REGISTRATION : goal.returns-then-phase-ne-REGISTRATION
 returns-then-phase-ne-REGISTRATION c = ap checked (sym (in_wrong_phase _ _ commit (λ e. c.if-phase-ne-REGISTRATION.true (c.phase.ensures ∙ e))))
 
 pub stands-requires : goal.stands-requires
 stands-requires c =
-    let sound = book_is_sound most_hours book_size _ c.requires.book_value in
+    let sound = book_is_sound most_hours book_size _ c.requires.known_book in
     let placed = proposer_placed _ sound _ (ready_proposes commit _ _ refl c.requires.ready) in
     (sound, rw c.proposed_row-row.ensures placed.0, rw c.proposed_row-row.ensures placed.1)
 
 pub returns-then-stands : goal.returns-then-stands
 returns-then-stands c =
-    let sound = book_is_sound most_hours book_size _ c.requires.book_value in
+    let sound = book_is_sound most_hours book_size _ c.requires.known_book in
     let placed = proposer_placed _ sound _ (ready_proposes commit _ _ refl c.requires.ready) in
     let asked = rw c.proposed_row-row.ensures at (sym c.stands.ensures ∙ c.if-stands.true) in
-    ap checked (sym (commit_clear _ _ (asks_stand_lem _ c.requires.book_value) placed.1 asked))
+    ap checked (sym (commit_clear _ _ (asks_stand_lem _ c.requires.known_book) placed.1 asked))
 
 pub returns : goal.returns
 returns c =
-    let sound = book_is_sound most_hours book_size _ c.requires.book_value in
+    let sound = book_is_sound most_hours book_size _ c.requires.known_book in
     let placed = proposer_placed _ sound _ (ready_proposes commit _ _ refl c.requires.ready) in
     let asked = rw c.proposed_row-row.ensures at (sym c.stands.ensures ∙ c.if-stands.false) in
-    ap checked (sym (no_standing_ask _ _ (asks_stand_lem _ c.requires.book_value) placed.1 (sym c.phase.ensures ∙ c.if-phase-ne-REGISTRATION.false) asked))
+    ap checked (sym (no_standing_ask _ _ (asks_stand_lem _ c.requires.known_book) placed.1 (sym c.phase.ensures ∙ c.if-phase-ne-REGISTRATION.false) asked))

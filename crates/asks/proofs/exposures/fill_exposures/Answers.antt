@@ -12,16 +12,16 @@ use Rattle.asks.proofs.SharedLaws.{exposures_listed}
 use Rattle.asks.proofs.exposures.fill_exposures.Goals as goal
 
 pub counts-n-requires : goal.counts-n-requires
-counts-n-requires c = omega (arith, book_length _ c.requires.exposures_len.1)
+counts-n-requires c = omega (arith, book_length _ c.requires.exposures_fit.1)
 
 pub loop-number-init : goal.loop-number-init
 loop-number-init c =
-    let operators = ap (λ (n : Counts). n.operators) (c.counts-n.ensures ∙ sym (counts_in_lem _ c.requires.exposures_len.1)) in
-    (operators, omega (arith, operators, (book_is_sound _ c.requires.exposures_len.1).setup_sound.operators_high), omega arith, omega arith, listed_first _ _ _ c.requires.exposures_len.0)
+    let operators = ap (λ (n : Counts). n.operators) (c.counts-n.ensures ∙ sym (counts_in_lem _ c.requires.exposures_fit.1)) in
+    (operators, omega (arith, operators, (book_is_sound _ c.requires.exposures_fit.1).setup_sound.operators_high), omega arith, omega arith, listed_first _ _ _ c.requires.exposures_fit.0)
 
 pub exposure_of-owed-requires : goal.exposure_of-owed-requires
 exposure_of-owed-requires c =
-    (setup_tabled _ c.requires.exposures_len.1, estimates_in_lem _ c.requires.exposures_len.1, record { whole = c.requires.sums_of.whole; top_high = omega arith })
+    (setup_tabled _ c.requires.exposures_fit.1, estimates_in_lem _ c.requires.exposures_fit.1, record { whole = c.requires.sums_of.whole; top_high = omega arith })
 
 pub bounds-exposures-number : goal.bounds-exposures-number
 bounds-exposures-number c = omega (arith, c.loop-number.invariant.4.whole)
@@ -29,13 +29,13 @@ bounds-exposures-number c = omega (arith, c.loop-number.invariant.4.whole)
 pub loop-number-preserved : goal.loop-number-preserved
 loop-number-preserved c =
     let rows = (book_in c.args.book.now).part.rows in
-    let owed = c.exposure_of-owed.ensures rows c.requires.sums_of ∙ ap (λ (u : Setup). exposure u rows c.loop-number.number) (sym (setup_in_lem _ c.requires.exposures_len.1)) in
+    let owed = c.exposure_of-owed.ensures rows c.requires.sums_of ∙ ap (λ (u : Setup). exposure u rows c.loop-number.number) (sym (setup_in_lem _ c.requires.exposures_fit.1)) in
     (c.loop-number.invariant.0, c.loop-number.invariant.1, omega arith, omega arith, listed_next _ _ _ _ _ (omega (arith, c.loop-number.invariant.1)) owed c.loop-number.invariant.4)
 
 pub shape_of-exposures : goal.shape_of-exposures
 shape_of-exposures c =
-    omega (arith, c.loop-number.invariant.4.whole, c.requires.exposures_len.0)
+    omega (arith, c.loop-number.invariant.4.whole, c.requires.exposures_fit.0)
 
 pub returns : goal.returns
 returns c =
-    exposures_listed _ c.requires.exposures_len.1 _ c.loop-number.number (omega (arith, c.loop-number.invariant.0)) c.loop-number.invariant.4
+    exposures_listed _ c.requires.exposures_fit.1 _ c.loop-number.number (omega (arith, c.loop-number.invariant.0)) c.loop-number.invariant.4

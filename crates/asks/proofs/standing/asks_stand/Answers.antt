@@ -19,4 +19,4 @@ returns-then-any_ask_twin c =
 
 pub each_stands-requires : goal.each_stands-requires
 each_stands-requires c =
-    record { book_value = (c.requires.0, sym c.any_ask_twin.ensures ∙ c.if-any_ask_twin.false); sums_of = c.requires.1 }
+    record { known_book = (c.requires.0, sym c.any_ask_twin.ensures ∙ c.if-any_ask_twin.false); sums_of = c.requires.1 }

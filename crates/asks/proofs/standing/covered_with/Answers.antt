@@ -8,12 +8,12 @@ use Rattle.asks.proofs.standing.covered_with.Goals as goal
 
 pub operator_of-operator-requires : goal.operator_of-operator-requires
 operator_of-operator-requires c =
-    let k = sound_row _ _ c.requires.row_value.0 in
+    let k = sound_row _ _ c.requires.sound_row.0 in
     (c.requires.operator_exposures.1.is_sound, (k.proposer_low, k.proposer_high))
 
 pub sale_of-added-requires : goal.sale_of-added-requires
 sale_of-added-requires c =
-    (c.requires.operator_exposures.1, sound_row_in_range _ _ (sound_row _ _ c.requires.row_value.0))
+    (c.requires.operator_exposures.1, sound_row_in_range _ _ (sound_row _ _ c.requires.sound_row.0))
 
 pub plus-requires : goal.plus-requires
 plus-requires c =
@@ -24,9 +24,9 @@ plus-requires c =
 pub returns : goal.returns
 returns c =
     let standing = c.requires.operator_exposures.0.exposure_at _ c.operator_of-operator.ensures.inside.0 c.operator_of-operator.ensures.inside.1 in
-    let row = sound_row _ _ c.requires.row_value.0 in
+    let row = sound_row _ _ c.requires.sound_row.0 in
     c.covered_in_force.ensures
     ∙ rw (
-      exposure_with_row _ c.requires.operator_exposures.1.is_sound _ c.args.row row c.requires.row_value.1 _ _ _ standing c.sale_of-added.ensures.meaning c.plus.ensures.exact,
+      exposure_with_row _ c.requires.operator_exposures.1.is_sound _ c.args.row row c.requires.sound_row.1 _ _ _ standing c.sale_of-added.ensures.meaning c.plus.ensures.exact,
       c.operator_of-operator.ensures.meaning,
     )

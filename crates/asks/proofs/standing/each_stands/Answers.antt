@@ -16,9 +16,9 @@ ask_stands-requires c =
       ask_inputs = record {
         account_hours = c.requires.sums_of;
         exposures_known = c.operator_exposures-exposures.ensures;
-        sale_inputs = record { is_sound = c.requires.book_value.0; price_sums = c.price_sums-sums.ensures; account_operators = c.account_operators-operators.ensures };
+        sale_inputs = record { is_sound = c.requires.known_book.0; price_sums = c.price_sums-sums.ensures; account_operators = c.account_operators-operators.ensures };
       };
-      book_value = (c.requires.book_value.1, c.loop-number.invariant.0, omega arith);
+      known_book = (c.requires.known_book.1, c.loop-number.invariant.0, omega arith);
     }
 
 pub loop-number-preserved : goal.loop-number-preserved

@@ -12,25 +12,25 @@ use Rattle.asks.proofs.standing.keeps_margins_with.Goals as goal
 
 pub loop-hour-init : goal.loop-hour-init
 loop-hour-init c =
-    let k = sound_row _ _ c.requires.row_value in (
+    let k = sound_row _ _ c.requires.sound_row in (
       omega arith,
       omega (arith, k.in_order),
-      omega (arith, k.last_high, hours_few _ c.requires.book_value.0),
-      broken_by_span _ c.requires.book_value.0 _ _ (sound_account_trade _ _ k),
+      omega (arith, k.last_high, hours_few _ c.requires.known_book.0),
+      broken_by_span _ c.requires.known_book.0 _ _ (sound_account_trade _ _ k),
     )
 
 pub margins-own-requires : goal.margins-own-requires
 margins-own-requires c =
-    let k = sound_row _ _ c.requires.row_value in
-    record { whole = ((setup_tabled _ c.requires.book_value.0).whole, k.proposer_low, (accounts_read _ c.requires.book_value.0 _ k.proposer_high).0); le_hour = (omega (arith, k.first_low, c.loop-hour.invariant.0), omega (arith, k.last_high, ap (λ (n : Counts). n.hours) (counts_in_lem _ c.requires.book_value.0))) }
+    let k = sound_row _ _ c.requires.sound_row in
+    record { whole = ((setup_tabled _ c.requires.known_book.0).whole, k.proposer_low, (accounts_read _ c.requires.known_book.0 _ k.proposer_high).0); in_day = (omega (arith, k.first_low, c.loop-hour.invariant.0), omega (arith, k.last_high, ap (λ (n : Counts). n.hours) (counts_in_lem _ c.requires.known_book.0))) }
 
 pub account_hour-before-requires : goal.account_hour-before-requires
 account_hour-before-requires c =
-    let k = sound_row _ _ c.requires.row_value in (
-      record { whole = c.requires.book_value.1.whole; top_high = omega arith },
+    let k = sound_row _ _ c.requires.sound_row in (
+      record { whole = c.requires.known_book.1.whole; top_high = omega arith },
       record {
         account_low = k.proposer_low;
-        account_high = (accounts_read _ c.requires.book_value.0 _ k.proposer_high).1;
+        account_high = (accounts_read _ c.requires.known_book.0 _ k.proposer_high).1;
         hour_low = omega (arith, k.first_low, c.loop-hour.invariant.0);
         hour_high = omega (arith, c.loop-hour.invariant.2);
       },
@@ -38,20 +38,20 @@ account_hour-before-requires c =
 
 pub after_trade-after-requires : goal.after_trade-after-requires
 after_trade-after-requires c =
-    hour_fits _ c.requires.book_value.0 _ _ _ c.args.row (c.account_hour-before.ensures _ c.requires.book_value.1) (sound_row _ _ c.requires.row_value).quantity_high
+    hour_fits _ c.requires.known_book.0 _ _ _ c.args.row (c.account_hour-before.ensures _ c.requires.known_book.1) (sound_row _ _ c.requires.sound_row).quantity_high
 
 pub loop-hour-preserved : goal.loop-hour-preserved
 loop-hour-preserved c =
-    let own = margins_read _ c.requires.book_value.0 _ c.args.row.proposer c.loop-hour.hour c.margins-own.ensures in
+    let own = margins_read _ c.requires.known_book.0 _ c.args.row.proposer c.loop-hour.hour c.margins-own.ensures in
     let test =
-    breaks_summed _ _ c.args.row _ _ _ _ _ _ own (c.account_hour-before.ensures _ c.requires.book_value.1) c.after_trade-after.ensures c.keeps_margins.ensures in
+    breaks_summed _ _ c.args.row _ _ _ _ _ _ own (c.account_hour-before.ensures _ c.requires.known_book.1) c.after_trade-after.ensures c.keeps_margins.ensures in
     (omega arith, omega arith, c.loop-hour.invariant.2, c.loop-hour.invariant.3 ∙ find_next _ _ _ _ (omega arith) (test ∙ ap not c.if-keeps_margins.true))
 
 pub returns-else-keeps_margins : goal.returns-else-keeps_margins
 returns-else-keeps_margins c =
-    let own = margins_read _ c.requires.book_value.0 _ c.args.row.proposer c.loop-hour.hour c.margins-own.ensures in
+    let own = margins_read _ c.requires.known_book.0 _ c.args.row.proposer c.loop-hour.hour c.margins-own.ensures in
     let test =
-    breaks_summed _ _ c.args.row _ _ _ _ _ _ own (c.account_hour-before.ensures _ c.requires.book_value.1) c.after_trade-after.ensures c.keeps_margins.ensures in
+    breaks_summed _ _ c.args.row _ _ _ _ _ _ own (c.account_hour-before.ensures _ c.requires.known_book.1) c.after_trade-after.ensures c.keeps_margins.ensures in
     sym (rw (c.loop-hour.invariant.3 ∙ find_here _ _ _ (omega arith) (test ∙ ap not c.if-keeps_margins.false)))
 
 pub returns : goal.returns

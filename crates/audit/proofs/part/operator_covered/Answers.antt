@@ -14,4 +14,4 @@ available-requires c =
 pub returns : goal.returns
 returns c rows sums =
     c.at_most.ensures
-    ∙ covered_read _ _ rows _ _ _ _ _ c.requires.le_number.0 c.requires.le_number.1 (c.exposure_of-exposed.ensures rows sums) c.operator-entry.ensures c.get_u64.ensures c.available.ensures.exact
+    ∙ covered_read _ _ rows _ _ _ _ _ c.requires.numbered.0 c.requires.numbered.1 (c.exposure_of-exposed.ensures rows sums) c.operator-entry.ensures c.get_u64.ensures c.available.ensures.exact

@@ -4,4 +4,4 @@ use Rattle.batches.proofs.saving.clear_part.Goals as goal
 
 pub returns : goal.returns
 returns c =
-    part_cleared_lem _ _ _ _ c.requires.n_le_most_rows.0 _ c.requires.has_part c.requires.n_le_most_rows.1 c.clear_at.ensures c.clear_at-2.ensures
+    part_cleared_lem _ _ _ _ c.requires.rows_end.0 _ c.requires.has_part c.requires.rows_end.1 c.clear_at.ensures c.clear_at-2.ensures

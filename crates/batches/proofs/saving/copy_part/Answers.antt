@@ -15,5 +15,5 @@ copy_within-requires-2 c =
 pub returns : goal.returns
 returns c =
     let (inside, there, apart) = c.requires.has_part in
-    let (few, room, gap) = c.requires.n_le_most_rows in
+    let (few, room, gap) = c.requires.rows_end in
     part_copied_lem _ _ _ _ few _ _ inside there apart room gap c.copy_within.ensures c.copy_within-2.ensures

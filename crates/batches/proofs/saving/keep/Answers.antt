@@ -27,7 +27,7 @@ saved_row_count-saved-requires c =
     λ q. checked-same _ none (sym (c.inside_batch.ensures keep q refl) ∙ c.in_default.is) in
     let batch : is_some (book_in c.args.book.now).saved ≡ true =
     ending_finds_batch keep _ (request_of []) refl (free (request_of [])) in
-    record { book_value = c.requires; book_value_2 = batch }
+    record { known_book = c.requires; batch_open = batch }
 
 pub end_batch-requires : goal.end_batch-requires
 end_batch-requires c =
@@ -35,7 +35,7 @@ end_batch-requires c =
     λ q. checked-same _ none (sym (c.inside_batch.ensures keep q refl) ∙ c.in_default.is) in
     let batch : is_some (book_in c.args.book.now).saved ≡ true =
     ending_finds_batch keep _ (request_of []) refl (free (request_of [])) in
-    record { book_len = book_length _ c.requires; n_le_most_rows = saved_rows_end _ c.requires batch _ c.saved_row_count-saved.ensures.meaning }
+    record { whole_book = book_length _ c.requires; rows_end = saved_rows_end _ c.requires batch _ c.saved_row_count-saved.ensures.meaning }
 
 pub returns : goal.returns
 returns c =

@@ -14,7 +14,7 @@ use Rattle.batches.proofs.saving.save_if.Goals as goal
 pub copy_part-requires : goal.copy_part-requires
 copy_part-requires c =
     let n = book_length _ c.requires in
-    record { has_part = (omega arith, omega arith, inl (omega arith)); n_le_most_rows = (c.row_count-rows.ensures.bounded, present_rows_end _ c.requires _ c.row_count-rows.ensures.meaning, saved_past_rows _ c.requires _ c.row_count-rows.ensures.meaning) }
+    record { has_part = (omega arith, omega arith, inl (omega arith)); rows_end = (c.row_count-rows.ensures.bounded, present_rows_end _ c.requires _ c.row_count-rows.ensures.meaning, saved_past_rows _ c.requires _ c.row_count-rows.ensures.meaning) }
 
 pub put_u8-requires : goal.put_u8-requires
 put_u8-requires c =

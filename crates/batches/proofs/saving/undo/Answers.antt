@@ -30,7 +30,7 @@ saved_row_count-saved-requires c =
     λ q. checked-same _ none (sym (c.inside_batch.ensures undo q refl) ∙ c.in_default.is) in
     let batch : is_some (book_in c.args.book.now).saved ≡ true =
     ending_finds_batch undo _ (request_of []) refl (free (request_of [])) in
-    record { book_value = c.requires; book_value_2 = batch }
+    record { known_book = c.requires; batch_open = batch }
 
 pub copy_part-requires : goal.copy_part-requires
 copy_part-requires c =
@@ -39,7 +39,7 @@ copy_part-requires c =
     let batch : is_some (book_in c.args.book.now).saved ≡ true =
     ending_finds_batch undo _ (request_of []) refl (free (request_of [])) in
     let n = book_length _ c.requires in
-    record { has_part = (omega arith, omega arith, inr (omega arith)); n_le_most_rows = (c.row_count-rows.ensures.bounded, saved_past_present _ c.requires batch _ c.row_count-rows.ensures.meaning, present_rows_end _ c.requires _ c.row_count-rows.ensures.meaning) }
+    record { has_part = (omega arith, omega arith, inr (omega arith)); rows_end = (c.row_count-rows.ensures.bounded, saved_past_present _ c.requires batch _ c.row_count-rows.ensures.meaning, present_rows_end _ c.requires _ c.row_count-rows.ensures.meaning) }
 
 pub end_batch-requires : goal.end_batch-requires
 end_batch-requires c =
@@ -49,7 +49,7 @@ end_batch-requires c =
     ending_finds_batch undo _ (request_of []) refl (free (request_of [])) in
     let n = book_length _ c.requires in
     let (few, room) = saved_rows_end _ c.requires batch _ c.saved_row_count-saved.ensures.meaning in
-    record { book_len = omega arith; n_le_most_rows = (few, saved_room_left _ _ _ n few room c.copy_part.ensures) }
+    record { whole_book = omega arith; rows_end = (few, saved_room_left _ _ _ n few room c.copy_part.ensures) }
 
 pub returns : goal.returns
 returns c =

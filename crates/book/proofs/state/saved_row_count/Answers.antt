@@ -8,9 +8,9 @@ pub overflow_add-get_u16 : goal.overflow_add-get_u16
 overflow_add-get_u16 c = omega arith
 
 pub get_u16-requires : goal.get_u16-requires
-get_u16-requires c = omega (arith, book_length _ c.requires.book_value)
+get_u16-requires c = omega (arith, book_length _ c.requires.known_book)
 
 pub returns : goal.returns
 returns c =
-    let e = c.get_u16.ensures ∙ saved_row_count_stands _ c.requires.book_value c.requires.book_value_2 in
-    record { meaning = e; bounded = omega (arith, e, saved_rows_fewer _ c.requires.book_value c.requires.book_value_2) }
+    let e = c.get_u16.ensures ∙ saved_row_count_stands _ c.requires.known_book c.requires.batch_open in
+    record { meaning = e; bounded = omega (arith, e, saved_rows_fewer _ c.requires.known_book c.requires.batch_open) }

@@ -40,7 +40,7 @@ answer-requires c =
     let bytes : Bytes c.args.bytes.now =
     bytes_known _ c.type_inv.bytes in
     let plain = other_kind _ _ says (λ e. omega arith) in
-    record { book_value = c.requires; kind_value = (plain, read_code _ _ bytes says) }
+    record { known_book = c.requires; plain_kind = (plain, read_code _ _ bytes says) }
 
 pub returns-in-Unread : goal.returns-in-Unread
 returns-in-Unread c =

@@ -13,21 +13,21 @@ use Rattle.day.proofs.RequestLaws.{ranges_found, in_range_ready, refused_saying,
 use Rattle.day.proofs.kinds.answer.Goals as goal
 
 pub counts-n-requires : goal.counts-n-requires
-counts-n-requires c = let n = book_length _ (book_is_sound most_hours book_size _ c.requires.book_value) in omega arith
+counts-n-requires c = let n = book_length _ (book_is_sound most_hours book_size _ c.requires.known_book) in omega arith
 
 pub returns-in-Fails : goal.returns-in-Fails
 returns-in-Fails c =
-    let sound = book_is_sound most_hours book_size _ c.requires.book_value in
-    let both = refused_saying _ _ sound c.requires.kind_value.0 _ (ranges_found _ sound _ _ _ (some _) c.counts-n.ensures c.check_ranges.ensures c.in-Fails.is) in record { answer = both.0; bytes = both.1.0; still = both.1.1 }
+    let sound = book_is_sound most_hours book_size _ c.requires.known_book in
+    let both = refused_saying _ _ sound c.requires.plain_kind.0 _ (ranges_found _ sound _ _ _ (some _) c.counts-n.ensures c.check_ranges.ensures c.in-Fails.is) in record { answer = both.0; bytes = both.1.0; still = both.1.1 }
 
 pub by_kind-requires : goal.by_kind-requires
 by_kind-requires c =
     let in_range_lem : first_to_apply (range_checks (counts_of (book_in c.args.book.now).setup) c.args.request) ≡ none =
-    ranges_found _ (book_is_sound most_hours book_size _ c.requires.book_value) _ _ _ none c.counts-n.ensures c.check_ranges.ensures c.in_default.is in
-    record { book_value = c.requires.book_value; kind_value = (c.requires.kind_value.0, in_range_ready _ _ c.requires.kind_value.0 c.requires.kind_value.1 in_range_lem) }
+    ranges_found _ (book_is_sound most_hours book_size _ c.requires.known_book) _ _ _ none c.counts-n.ensures c.check_ranges.ensures c.in_default.is in
+    record { known_book = c.requires.known_book; plain_kind = (c.requires.plain_kind.0, in_range_ready _ _ c.requires.plain_kind.0 c.requires.plain_kind.1 in_range_lem) }
 
 pub returns : goal.returns
 returns c =
     let in_range_lem : first_to_apply (range_checks (counts_of (book_in c.args.book.now).setup) c.args.request) ≡ none =
-    ranges_found _ (book_is_sound most_hours book_size _ c.requires.book_value) _ _ _ none c.counts-n.ensures c.check_ranges.ensures c.in_default.is in
-    let both = plain_saying _ _ (book_is_sound most_hours book_size _ c.requires.book_value) c.requires.kind_value.0 in_range_lem _ _ (c.by_kind.ensures.answer, (c.by_kind.ensures.bytes, c.by_kind.ensures.still)) in record { answer = both.0; bytes = both.1.0; still = both.1.1 }
+    ranges_found _ (book_is_sound most_hours book_size _ c.requires.known_book) _ _ _ none c.counts-n.ensures c.check_ranges.ensures c.in_default.is in
+    let both = plain_saying _ _ (book_is_sound most_hours book_size _ c.requires.known_book) c.requires.plain_kind.0 in_range_lem _ _ (c.by_kind.ensures.answer, (c.by_kind.ensures.bytes, c.by_kind.ensures.still)) in record { answer = both.0; bytes = both.1.0; still = both.1.1 }

@@ -9,35 +9,35 @@ use Rattle.day.proofs.kinds.by_kind.Goals.{in_default-via-then-kind-lt1, in_defa
 
 pub register-requires : goal.register-requires
 register-requires c =
-    let both = ready_for _ _ register c.requires.book_value c.in-1.is c.requires.kind_value.1 in record { book_value = both.0; ready = both.1 }
+    let both = ready_for _ _ register c.requires.known_book c.in-1.is c.requires.plain_kind.1 in record { known_book = both.0; ready = both.1 }
 
 pub confirm-requires : goal.confirm-requires
 confirm-requires c =
-    let both = ready_for _ _ confirm c.requires.book_value c.in-2.is c.requires.kind_value.1 in record { book_value = both.0; ready = both.1 }
+    let both = ready_for _ _ confirm c.requires.known_book c.in-2.is c.requires.plain_kind.1 in record { known_book = both.0; ready = both.1 }
 
 pub withdraw-requires : goal.withdraw-requires
 withdraw-requires c =
-    let both = ready_for _ _ withdraw c.requires.book_value c.in-3.is c.requires.kind_value.1 in record { book_value = both.0; ready = both.1 }
+    let both = ready_for _ _ withdraw c.requires.known_book c.in-3.is c.requires.plain_kind.1 in record { known_book = both.0; ready = both.1 }
 
 pub guarantee-requires : goal.guarantee-requires
 guarantee-requires c =
-    let both = ready_for _ _ guarantee c.requires.book_value c.in-4.is c.requires.kind_value.1 in record { book_value = both.0; ready = both.1 }
+    let both = ready_for _ _ guarantee c.requires.known_book c.in-4.is c.requires.plain_kind.1 in record { known_book = both.0; ready = both.1 }
 
 pub schedule-requires : goal.schedule-requires
 schedule-requires c =
-    let both = ready_for _ _ schedule c.requires.book_value c.in-9.is c.requires.kind_value.1 in record { book_value = both.0; ready = both.1 }
+    let both = ready_for _ _ schedule c.requires.known_book c.in-9.is c.requires.plain_kind.1 in record { known_book = both.0; ready = both.1 }
 
 pub ask-requires : goal.ask-requires
 ask-requires c =
-    let both = ready_for _ _ ask c.requires.book_value c.in-12.is c.requires.kind_value.1 in record { book_value = both.0; ready = both.1 }
+    let both = ready_for _ _ ask c.requires.known_book c.in-12.is c.requires.plain_kind.1 in record { known_book = both.0; ready = both.1 }
 
 pub commit-requires : goal.commit-requires
 commit-requires c =
-    record { book_value = c.requires.book_value; ready = (ready_for _ _ commit c.requires.book_value c.in-13.is c.requires.kind_value.1).1 }
+    record { known_book = c.requires.known_book; ready = (ready_for _ _ commit c.requires.known_book c.in-13.is c.requires.plain_kind.1).1 }
 
 pub batch_or_gate-requires : goal.batch_or_gate-requires
 batch_or_gate-requires c =
-    record { book_value = book_is_sound most_hours book_size _ c.requires.book_value; le_kind = (omega arith, omega arith) }
+    record { known_book = book_is_sound most_hours book_size _ c.requires.known_book; batch_or_gate_kind = (omega arith, omega arith) }
 
 pub returns-in-1 : goal.returns-in-1
 returns-in-1 c =
@@ -74,7 +74,7 @@ returns-in-5-to-8 c =
 pub returns-in_default : goal.returns-in_default
 returns-in_default c =
     let n = c.args.request.kind in
-    let plain = c.requires.kind_value.0 in
+    let plain = c.requires.plain_kind.0 in
     elim c.in_default.branch [
       | in_default-via-then-kind-lt1 w ↦ absurd (none_first n plain (omega arith))
       | in_default-via-else-kind-lt1+else-kind-lt9 w ↦ absurd (none_left n plain (omega arith) (omega arith) (omega arith) (omega arith))

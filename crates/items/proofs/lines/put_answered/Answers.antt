@@ -5,4 +5,4 @@ use Rattle.items.proofs.lines.put_answered.Goals as goal
 
 pub returns : goal.returns
 returns c =
-    record { written = answered_written (omega arith) _ _ _ _ c.put_number-verdict_at.ensures.written c.put_number-first_at.ensures.written c.put_number-second_at.ensures.written c.put_number.ensures.written; upper_bound = omega arith }
+    record { written = answered_written (omega arith) _ _ _ _ c.put_number-verdict_at.ensures.written c.put_number-first_at.ensures.written c.put_number-second_at.ensures.written c.put_number.ensures.written; bounded = omega arith }

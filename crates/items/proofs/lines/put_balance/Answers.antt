@@ -5,4 +5,4 @@ use Rattle.items.proofs.lines.put_balance.Goals as goal
 
 pub returns : goal.returns
 returns c =
-    record { written = balance_written (omega arith) _ _ c.put_bytes-operator_at.ensures c.put_number-balance_at.ensures.written c.put_figure.ensures.written; upper_bound = omega (arith, c.put_bytes-operator_at.ensures.behind) }
+    record { written = balance_written (omega arith) _ _ c.put_bytes-operator_at.ensures c.put_number-balance_at.ensures.written c.put_figure.ensures.written; bounded = omega (arith, c.put_bytes-operator_at.ensures.behind) }

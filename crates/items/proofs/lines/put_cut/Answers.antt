@@ -5,4 +5,4 @@ use Rattle.items.proofs.lines.put_cut.Goals as goal
 
 pub returns : goal.returns
 returns c =
-    record { written = cut_written (omega arith) _ c.put_bytes-item_at.ensures c.put_number.ensures.written; upper_bound = omega (arith, c.put_bytes-item_at.ensures.behind) }
+    record { written = cut_written (omega arith) _ c.put_bytes-item_at.ensures c.put_number.ensures.written; bounded = omega (arith, c.put_bytes-item_at.ensures.behind) }

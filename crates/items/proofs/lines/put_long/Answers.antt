@@ -6,4 +6,4 @@ use Rattle.items.proofs.lines.put_long.Goals as goal
 pub returns : goal.returns
 unfolding line_text
 returns c =
-    record { written = c.put_bytes.ensures; upper_bound = omega (arith, c.put_bytes.ensures.behind) }
+    record { written = c.put_bytes.ensures; bounded = omega (arith, c.put_bytes.ensures.behind) }

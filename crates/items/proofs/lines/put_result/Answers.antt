@@ -5,4 +5,4 @@ use Rattle.items.proofs.lines.put_result.Goals as goal
 
 pub returns : goal.returns
 returns c =
-    record { written = result_written (omega arith) _ _ c.put_bytes-place_at.ensures c.put_number-result_at.ensures.written c.put_number.ensures.written; upper_bound = omega (arith, c.put_bytes-place_at.ensures.behind) }
+    record { written = result_written (omega arith) _ _ c.put_bytes-place_at.ensures c.put_number-result_at.ensures.written c.put_number.ensures.written; bounded = omega (arith, c.put_bytes-place_at.ensures.behind) }

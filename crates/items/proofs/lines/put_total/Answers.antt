@@ -5,4 +5,4 @@ use Rattle.items.proofs.lines.put_total.Goals as goal
 
 pub returns : goal.returns
 returns c =
-    record { written = sum_written (omega arith) _ c.put_bytes-total_at.ensures c.put_figure.ensures.written; upper_bound = omega (arith, c.put_bytes-total_at.ensures.behind) }
+    record { written = sum_written (omega arith) _ c.put_bytes-total_at.ensures c.put_figure.ensures.written; bounded = omega (arith, c.put_bytes-total_at.ensures.behind) }

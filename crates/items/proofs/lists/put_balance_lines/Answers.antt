@@ -10,8 +10,8 @@ loop-left-init c = (search rules, underway_start _ _ (balances_whole _ _) (omega
 
 pub loop-left-preserved : goal.loop-left-preserved
 loop-left-preserved c =
-    (omega arith, underway_line _ _ (c.loop-left.left - 1) c.loop-left.invariant.1 (balances_next _ c.loop-left.k c.loop-left.left (c.loop-left.left - 1) (omega arith)) (omega arith) (omega arith) (omega arith) (rw c.balance_at-balance.ensures.figure at c.put_balance-past.ensures.written) c.put_balance-past.ensures.upper_bound)
+    (omega arith, underway_line _ _ (c.loop-left.left - 1) c.loop-left.invariant.1 (balances_next _ c.loop-left.k c.loop-left.left (c.loop-left.left - 1) (omega arith)) (omega arith) (omega arith) (omega arith) (rw c.balance_at-balance.ensures.figure at c.put_balance-past.ensures.written) c.put_balance-past.ensures.bounded)
 
 pub returns : goal.returns
 returns c =
-    record { written = underway_done c.loop-left.invariant.1 (balances_none _ c.loop-left.k c.loop-left.left (omega arith)); upper_bound = omega arith }
+    record { written = underway_done c.loop-left.invariant.1 (balances_none _ c.loop-left.k c.loop-left.left (omega arith)); bounded = omega arith }

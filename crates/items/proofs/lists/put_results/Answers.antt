@@ -11,8 +11,8 @@ loop-left-init c = (search rules, underway_start _ _ (results_whole _ _) (omega 
 pub loop-left-preserved : goal.loop-left-preserved
 loop-left-preserved c =
     let next = results_next c.args.results.now c.loop-left.k c.loop-left.left (c.loop-left.left - 1) (omega arith) (omega arith) in
-    (omega arith, underway_line _ _ (c.loop-left.left - 1) c.loop-left.invariant.1 next (omega arith) (omega arith) (omega arith) c.put_result-past.ensures.written c.put_result-past.ensures.upper_bound)
+    (omega arith, underway_line _ _ (c.loop-left.left - 1) c.loop-left.invariant.1 next (omega arith) (omega arith) (omega arith) c.put_result-past.ensures.written c.put_result-past.ensures.bounded)
 
 pub returns : goal.returns
 returns c =
-    record { written = underway_done c.loop-left.invariant.1 (results_none _ c.loop-left.k c.loop-left.left (omega arith)); upper_bound = omega arith }
+    record { written = underway_done c.loop-left.invariant.1 (results_none _ c.loop-left.k c.loop-left.left (omega arith)); bounded = omega arith }

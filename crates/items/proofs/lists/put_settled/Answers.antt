@@ -7,4 +7,4 @@ use Rattle.items.proofs.lists.put_settled.Goals as goal
 pub returns : goal.returns
 unfolding settled_text
 returns c =
-    record { written = written_then (omega arith) c.put_results-balances_at.ensures.written c.put_balances.ensures.written; upper_bound = omega arith }
+    record { written = written_then (omega arith) c.put_results-balances_at.ensures.written c.put_balances.ensures.written; bounded = omega arith }

@@ -12,4 +12,4 @@ put_bytes-requires c =
 
 pub returns : goal.returns
 returns c =
-    record { written = written_as _ (c.decimal-k.ensures.digits ∙ fewest_decimal _ _ c.decimal-k.ensures.len) c.put_bytes.ensures; upper_bound = omega (arith, c.put_bytes.ensures.behind, c.decimal-k.ensures.in_bounds.1, fewest_places _ _ (search rules) c.decimal-k.ensures.len) }
+    record { written = written_as _ (c.decimal-k.ensures.digits ∙ fewest_decimal _ _ c.decimal-k.ensures.len) c.put_bytes.ensures; bounded = omega (arith, c.put_bytes.ensures.behind, c.decimal-k.ensures.in_bounds.1, fewest_places _ _ (search rules) c.decimal-k.ensures.len) }

@@ -5,4 +5,4 @@ use Rattle.items.proofs.text.put_number.Goals as goal
 
 pub returns : goal.returns
 returns c =
-    record { written = written_then (omega arith) c.put_decimal-past.ensures.written c.put_bytes.ensures; upper_bound = omega (arith, c.put_bytes.ensures.behind) }
+    record { written = written_then (omega arith) c.put_decimal-past.ensures.written c.put_bytes.ensures; bounded = omega (arith, c.put_bytes.ensures.behind) }

@@ -13,18 +13,18 @@ returns-then-phase-ne-REGISTRATION c = ap checked (sym (in_wrong_phase _ _ confi
 pub returns-then-number-eq0 : goal.returns-then-number-eq0
 returns-then-number-eq0 c =
     let first = sym c.phase.ensures ∙ c.if-phase-ne-REGISTRATION.false in
-    ap checked (sym (names_no_row _ _ _ first c.requires.number_value c.if-number-eq0.true))
+    ap checked (sym (names_no_row _ _ _ first c.requires.number_named c.if-number-eq0.true))
 
 pub numbered_row-row-requires : goal.numbered_row-row-requires
 numbered_row-row-requires c =
-    (c.requires.book_value, (omega arith, omega (arith, c.requires.number_value, confirmed-high (book_in c.args.book.now) c.args.request)))
+    (c.requires.known_book, (omega arith, omega (arith, c.requires.number_named, confirmed-high (book_in c.args.book.now) c.args.request)))
 
 pub margin_or_exposure_fault-requires : goal.margin_or_exposure_fault-requires
 margin_or_exposure_fault-requires c =
     let first = sym c.phase.ensures ∙ c.if-phase-ne-REGISTRATION.false in
-    (c.requires.book_value, names_its_terms _ _ _ first c.requires.number_value _ c.if-number-eq0.false c.numbered_row-row.ensures (sym c.is_mirrored.ensures ∙ c.if-is_mirrored.true))
+    (c.requires.known_book, names_its_terms _ _ _ first c.requires.number_named _ c.if-number-eq0.false c.numbered_row-row.ensures (sym c.is_mirrored.ensures ∙ c.if-is_mirrored.true))
 
 pub returns : goal.returns
 returns c =
     let first = sym c.phase.ensures ∙ c.if-phase-ne-REGISTRATION.false in
-    ap checked (sym (names_other_terms _ _ _ first c.requires.number_value _ c.if-number-eq0.false c.numbered_row-row.ensures (sym c.is_mirrored.ensures ∙ c.if-is_mirrored.false)))
+    ap checked (sym (names_other_terms _ _ _ first c.requires.number_named _ c.if-number-eq0.false c.numbered_row-row.ensures (sym c.is_mirrored.ensures ∙ c.if-is_mirrored.false)))

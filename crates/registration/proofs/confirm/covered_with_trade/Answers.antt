@@ -7,7 +7,7 @@ use Rattle.registration.proofs.confirm.covered_with_trade.Goals as goal
 
 pub exposure_with-owed-requires : goal.exposure_with-owed-requires
 exposure_with-owed-requires c =
-    (c.requires.book_value.0, cons (trade-in_range _ _ c.requires.book_value.0 c.requires.waits_in.0 _ c.requires.waits_in.1) nil)
+    (c.requires.known_book.0, cons (trade-in_range _ _ c.requires.known_book.0 c.requires.waits_in.0 _ c.requires.waits_in.1) nil)
 
 pub returns : goal.returns
 returns c =

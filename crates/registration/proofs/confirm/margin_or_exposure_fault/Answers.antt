@@ -14,7 +14,7 @@ returns-in-Hour c =
 
 pub covered_with_trade-requires : goal.covered_with_trade-requires
 covered_with_trade-requires c =
-    record { book_value = (c.requires.0, caller_in_book _ _ _ c.requires.0 c.requires.1); waits_in = (named_waits _ _ _ c.requires.0 c.requires.1, c.confirmed_row-trade.ensures) }
+    record { known_book = (c.requires.0, caller_in_book _ _ _ c.requires.0 c.requires.1); waits_in = (named_waits _ _ _ c.requires.0 c.requires.1, c.confirmed_row-trade.ensures) }
 
 pub returns-then-covered_with_trade : goal.returns-then-covered_with_trade
 returns-then-covered_with_trade c =

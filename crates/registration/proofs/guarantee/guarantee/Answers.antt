@@ -10,7 +10,7 @@ use Rattle.registration.proofs.guarantee.guarantee.Goals as goal
 
 pub returns-in-Fails : goal.returns-in-Fails
 returns-in-Fails c =
-    let both = refused_answered guarantee _ _ c.requires.book_value _
+    let both = refused_answered guarantee _ _ c.requires.known_book _
     (checked-same _ (some _) (sym c.guarantee_fault.ensures ∙ c.in-Fails.is)) in record { answer = both.0; bytes = both.1.0; still = both.1.1 }
 
 pub overflow_sub-request : goal.overflow_sub-request
@@ -20,11 +20,11 @@ overflow_sub-request c =
 
 pub put_u64-requires : goal.put_u64-requires
 put_u64-requires c =
-    let n = book_length _ c.requires.book_value in
+    let n = book_length _ c.requires.known_book in
     let r = ready_guarantee _ _ c.requires.ready in
     omega arith
 
 pub returns : goal.returns
 returns c =
-    let both = guarantee_answered _ _ c.requires.book_value _ _ c.requires.ready (checked-same _ none (sym c.guarantee_fault.ensures ∙ c.in_default.is)) refl
+    let both = guarantee_answered _ _ c.requires.known_book _ _ c.requires.ready (checked-same _ none (sym c.guarantee_fault.ensures ∙ c.in_default.is)) refl
     c.put_u64.ensures in record { answer = both.0; bytes = both.1.0; still = both.1.1 }

@@ -13,16 +13,16 @@ returns-then-phase-ne-REGISTRATION c = ap checked (sym (in_wrong_phase _ _ guara
 pub covered_under-requires : goal.covered_under-requires
 covered_under-requires c =
     let r = ready_guarantee _ _ c.requires.ready in
-    (c.requires.book_value, r.1, r.0)
+    (c.requires.known_book, r.1, r.0)
 
 pub returns-then-covered_under : goal.returns-then-covered_under
 returns-then-covered_under c =
     let r = ready_guarantee _ _ c.requires.ready in
-    let all = (book_is_sound _ c.requires.book_value).part_sound.guarantees_all in
+    let all = (book_is_sound _ c.requires.known_book).part_sound.guarantees_all in
     ap checked (sym (enough_guarantee_in_force _ _ (sym c.phase.ensures ∙ c.if-phase-ne-REGISTRATION.false) r.0.0 (omega (arith, r.0.1, all)) _ c.covered_under.ensures c.if-covered_under.true))
 
 pub returns : goal.returns
 returns c =
     let r = ready_guarantee _ _ c.requires.ready in
-    let all = (book_is_sound _ c.requires.book_value).part_sound.guarantees_all in
+    let all = (book_is_sound _ c.requires.known_book).part_sound.guarantees_all in
     ap checked (sym (too_little_guarantee_in_force _ _ (sym c.phase.ensures ∙ c.if-phase-ne-REGISTRATION.false) r.0.0 (omega (arith, r.0.1, all)) _ c.covered_under.ensures c.if-covered_under.false))

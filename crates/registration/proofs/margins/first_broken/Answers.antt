@@ -14,29 +14,29 @@ pub loop-hour-init : goal.loop-hour-init
 loop-hour-init c = (
   search rules,
   search rules,
-  omega (arith, c.requires.account_trade.last_high, hours_few _ c.requires.book_value.0),
-  broken_by_span _ c.requires.book_value.0 _ _ c.requires.account_trade,
+  omega (arith, c.requires.account_trade.last_high, hours_few _ c.requires.known_book.0),
+  broken_by_span _ c.requires.known_book.0 _ _ c.requires.account_trade,
 )
 
 pub margins-own-requires : goal.margins-own-requires
 margins-own-requires c =
-    record { whole = ((setup_tabled _ c.requires.book_value.0).whole, c.requires.account_trade.account_known.0, (accounts_read _ c.requires.book_value.0 _ c.requires.account_trade.account_known.1).0); le_hour = (omega (arith, c.requires.account_trade.first_low, c.loop-hour.invariant.0), omega (arith, c.requires.account_trade.last_high, ap (λ (n : Counts). n.hours) (counts_in_lem _ c.requires.book_value.0))) }
+    record { whole = ((setup_tabled _ c.requires.known_book.0).whole, c.requires.account_trade.account_known.0, (accounts_read _ c.requires.known_book.0 _ c.requires.account_trade.account_known.1).0); in_day = (omega (arith, c.requires.account_trade.first_low, c.loop-hour.invariant.0), omega (arith, c.requires.account_trade.last_high, ap (λ (n : Counts). n.hours) (counts_in_lem _ c.requires.known_book.0))) }
 
 pub account_hour-before-requires : goal.account_hour-before-requires
 account_hour-before-requires c =
-    record { book_value = (c.requires.book_value.0, c.requires.book_value.1.whole); account = (c.requires.account_trade.account_known, (omega (arith, c.requires.account_trade.first_low, c.loop-hour.invariant.0), omega (arith, c.requires.account_trade.last_high))) }
+    record { known_book = (c.requires.known_book.0, c.requires.known_book.1.whole); account = (c.requires.account_trade.account_known, (omega (arith, c.requires.account_trade.first_low, c.loop-hour.invariant.0), omega (arith, c.requires.account_trade.last_high))) }
 
 pub after_trade-after-requires : goal.after_trade-after-requires
 after_trade-after-requires c =
     let hour : IsHour (book_in c.args.book.now) c.loop-hour.hour = (omega (arith, c.requires.account_trade.first_low, c.loop-hour.invariant.0), omega (arith, c.requires.account_trade.last_high)) in
-    hour_room _ c.requires.book_value.0 _ _ _ _ _ c.requires.account_trade.account_known hour c.requires.book_value.1 c.requires.account_trade.quantity_high
-    (c.account_hour-before.ensures ∙ tabled_netted _ c.requires.book_value.0 _ _ _ _ c.requires.book_value.1 hour)
+    hour_room _ c.requires.known_book.0 _ _ _ _ _ c.requires.account_trade.account_known hour c.requires.known_book.1 c.requires.account_trade.quantity_high
+    (c.account_hour-before.ensures ∙ tabled_netted _ c.requires.known_book.0 _ _ _ _ c.requires.known_book.1 hour)
 
 pub loop-hour-preserved : goal.loop-hour-preserved
 loop-hour-preserved c =
-    let own = margins_read _ c.requires.book_value.0 _ c.args.number c.loop-hour.hour c.margins-own.ensures in
+    let own = margins_read _ c.requires.known_book.0 _ c.args.number c.loop-hour.hour c.margins-own.ensures in
     let hour : IsHour (book_in c.args.book.now) c.loop-hour.hour = (omega (arith, c.requires.account_trade.first_low, c.loop-hour.invariant.0), omega (arith, c.requires.account_trade.last_high)) in
-    let held = c.account_hour-before.ensures ∙ tabled_netted _ c.requires.book_value.0 _ _ _ _ c.requires.book_value.1 hour in (
+    let held = c.account_hour-before.ensures ∙ tabled_netted _ c.requires.known_book.0 _ _ _ _ c.requires.known_book.1 hour in (
       omega arith,
       omega arith,
       c.loop-hour.invariant.2,
@@ -49,8 +49,8 @@ returns-then-trade-hour c = ap broken (sym (c.loop-hour.invariant.3 ∙ find_don
 
 pub returns-else-keeps_margins : goal.returns-else-keeps_margins
 returns-else-keeps_margins c =
-    let own = margins_read _ c.requires.book_value.0 _ c.args.number c.loop-hour.hour c.margins-own.ensures in
+    let own = margins_read _ c.requires.known_book.0 _ c.args.number c.loop-hour.hour c.margins-own.ensures in
     let hour : IsHour (book_in c.args.book.now) c.loop-hour.hour = (omega (arith, c.requires.account_trade.first_low, c.loop-hour.invariant.0), omega (arith, c.requires.account_trade.last_high)) in
-    let held = c.account_hour-before.ensures ∙ tabled_netted _ c.requires.book_value.0 _ _ _ _ c.requires.book_value.1 hour in
+    let held = c.account_hour-before.ensures ∙ tabled_netted _ c.requires.known_book.0 _ _ _ _ c.requires.known_book.1 hour in
     let test = breaks_tested _ _ _ _ _ _ _ _ _ own held c.after_trade-after.ensures c.keeps_margins.ensures in
     ap broken (sym (c.loop-hour.invariant.3 ∙ find_here _ _ _ (omega arith) (test ∙ ap not c.if-keeps_margins.false)))

@@ -7,10 +7,10 @@ use Rattle.registration.proofs.register.covered_with_row.Goals as goal
 
 pub returns-then-row-ne-SELLS : goal.returns-then-row-ne-SELLS
 returns-then-row-ne-SELLS c =
-    still_covered _ _ _ c.requires.book_value.0 c.requires.book_value.1 (purchase_exposes_none _ _ _ _ c.requires.trade_in_range.1 c.if-row-ne-SELLS.true)
+    still_covered _ _ _ c.requires.known_book.0 c.requires.known_book.1 (purchase_exposes_none _ _ _ _ c.requires.trade_in_range.1 c.if-row-ne-SELLS.true)
 
 pub exposure_with-owed-requires : goal.exposure_with-owed-requires
-exposure_with-owed-requires c = (c.requires.book_value.0, cons c.requires.trade_in_range.0 nil)
+exposure_with-owed-requires c = (c.requires.known_book.0, cons c.requires.trade_in_range.0 nil)
 
 pub returns : goal.returns
 returns c =

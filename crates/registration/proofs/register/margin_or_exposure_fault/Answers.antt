@@ -8,7 +8,7 @@ use Rattle.registration.proofs.register.margin_or_exposure_fault.Goals as goal
 
 pub first_broken-requires : goal.first_broken-requires
 first_broken-requires c =
-    record { book_value = c.requires.book_value; account_trade = rw c.proposed_row-row.ensures (sound_account_trade _ _ (proposing_sound _ _ c.requires.proposing)) }
+    record { known_book = c.requires.known_book; account_trade = rw c.proposed_row-row.ensures (sound_account_trade _ _ (proposing_sound _ _ c.requires.proposing)) }
 
 pub returns-in-Hour : goal.returns-in-Hour
 returns-in-Hour c =
@@ -18,7 +18,7 @@ returns-in-Hour c =
 pub covered_with_row-requires : goal.covered_with_row-requires
 covered_with_row-requires c =
     let row = proposing_sound _ _ c.requires.proposing in
-    record { book_value = (c.requires.book_value.0, (row.proposer_low, row.proposer_high)); trade_in_range = (rw c.proposed_row-row.ensures (sound_row_in_range _ _ row), rw c.proposed_row-row.ensures) }
+    record { known_book = (c.requires.known_book.0, (row.proposer_low, row.proposer_high)); trade_in_range = (rw c.proposed_row-row.ensures (sound_row_in_range _ _ row), rw c.proposed_row-row.ensures) }
 
 pub returns-then-covered_with_row : goal.returns-then-covered_with_row
 returns-then-covered_with_row c =

@@ -10,20 +10,20 @@ use Rattle.registration.proofs.register.register.Goals as goal
 
 pub register_fault-requires : goal.register_fault-requires
 register_fault-requires c =
-    record { book_value = c.requires.book_value; proposes_row = ready_proposes register _ _ refl c.requires.ready }
+    record { known_book = c.requires.known_book; proposes_row = ready_proposes register _ _ refl c.requires.ready }
 
 pub returns-in-Fails : goal.returns-in-Fails
 returns-in-Fails c =
-    let both = refused_answered register _ _ c.requires.book_value _
+    let both = refused_answered register _ _ c.requires.known_book _
     (checked-same _ (some _) (sym c.register_fault.ensures ∙ c.in-Fails.is)) in record { answer = both.0; bytes = both.1.0; still = both.1.1 }
 
 pub append_row-requires : goal.append_row-requires
 append_row-requires c =
     let few = few_rows _ _ (checked-same _ none (sym c.register_fault.ensures ∙ c.in_default.is)) in
-    (book_length _ c.requires.book_value, omega (arith, few, c.row_count-n.ensures.meaning))
+    (book_length _ c.requires.known_book, omega (arith, few, c.row_count-n.ensures.meaning))
 
 pub returns : goal.returns
 returns c =
     let free = checked-same _ none (sym c.register_fault.ensures ∙ c.in_default.is) in
-    let both = registered_answered _ _ c.requires.book_value _ _ c.requires.ready free c.row_count-n.ensures.meaning (omega (arith, few_rows _ _ free, c.row_count-n.ensures.meaning))
+    let both = registered_answered _ _ c.requires.known_book _ _ c.requires.ready free c.row_count-n.ensures.meaning (omega (arith, few_rows _ _ free, c.row_count-n.ensures.meaning))
     (rw c.proposed_row-row.ensures at c.append_row.ensures) in record { answer = both.0; bytes = both.1.0; still = both.1.1 }

@@ -17,4 +17,4 @@ pub margin_or_exposure_fault-requires : goal.margin_or_exposure_fault-requires
 margin_or_exposure_fault-requires c =
     let alone = sym c.fill_waits.ensures.tells ∙ c.if-fill_waits.false in
     let first = sym c.phase.ensures ∙ c.if-phase-ne-REGISTRATION.false in
-    record { book_value = (c.requires.book_value, c.fill_waits.ensures.waits); proposing = record { proposes = c.requires.proposes_row; in_registration = first; no_twin = alone; has_room = omega arith } }
+    record { known_book = (c.requires.known_book, c.fill_waits.ensures.waits); proposing = record { proposes = c.requires.proposes_row; in_registration = first; no_twin = alone; has_room = omega arith } }

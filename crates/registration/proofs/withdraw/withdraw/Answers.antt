@@ -11,11 +11,11 @@ use Rattle.registration.proofs.withdraw.withdraw.Goals as goal
 
 pub withdrawal_fault-requires : goal.withdrawal_fault-requires
 withdrawal_fault-requires c =
-    record { book_value = c.requires.book_value; le_number = (ready_number _ _ c.requires.ready).0 }
+    record { known_book = c.requires.known_book; numbered = (ready_number _ _ c.requires.ready).0 }
 
 pub returns-in-Fails : goal.returns-in-Fails
 returns-in-Fails c =
-    let both = refused_answered withdraw _ _ c.requires.book_value _
+    let both = refused_answered withdraw _ _ c.requires.known_book _
     (checked-same _ (some _) (sym c.withdrawal_fault.ensures ∙ c.in-Fails.is)) in record { answer = both.0; bytes = both.1.0; still = both.1.1 }
 
 pub row_offset-requires : goal.row_offset-requires
@@ -23,10 +23,10 @@ row_offset-requires c = ready_number _ _ c.requires.ready
 
 pub put_u8-requires : goal.put_u8-requires
 put_u8-requires c =
-    let n = book_length _ c.requires.book_value in
+    let n = book_length _ c.requires.known_book in
     let r = ready_number _ _ c.requires.ready in
     omega arith
 
 pub returns : goal.returns
 returns c =
-    let both = withdrawn_answered _ _ c.requires.book_value _ _ (checked-same _ none (sym c.withdrawal_fault.ensures ∙ c.in_default.is)) (omega arith) c.put_u8.ensures in record { answer = both.0; bytes = both.1.0; still = both.1.1 }
+    let both = withdrawn_answered _ _ c.requires.known_book _ _ (checked-same _ none (sym c.withdrawal_fault.ensures ∙ c.in_default.is)) (omega arith) c.put_u8.ensures in record { answer = both.0; bytes = both.1.0; still = both.1.1 }

@@ -16,4 +16,4 @@ slice_bounds-call_in-start c = rw c.record_length-n.ensures (record_within _)
 
 pub returns : goal.returns
 returns c =
-    let both = item_called _ _ c.requires.book_value c.record_length-n.ensures c.requires.results_value.0 c.requires.results_value.1 (c.call_in.ensures.answer, c.call_in.ensures.still) in record { answer = both.0; still = both.1 }
+    let both = item_called _ _ c.requires.known_book c.record_length-n.ensures c.requires.buffers_clear.0 c.requires.buffers_clear.1 (c.call_in.ensures.answer, c.call_in.ensures.still) in record { answer = both.0; still = both.1 }

@@ -12,7 +12,7 @@ loop-reached-init c = (refl, record { whole = refl; underway = c.requires.underw
 pub gather_item-reached-requires : goal.gather_item-reached-requires
 gather_item-reached-requires c =
     let t = turns c.loop-reached.reached _ c.loop-reached-test.true in
-    record { goes_on_value = (t.0, omega arith); underway = c.loop-reached.invariant.1.underway }
+    record { going_on = (t.0, omega arith); underway = c.loop-reached.invariant.1.underway }
 
 pub loop-reached-smaller : goal.loop-reached-smaller
 loop-reached-smaller c =

@@ -10,23 +10,23 @@ use Rattle.replaying.proofs.gathering.gather_item.Goals as goal
 
 pub replay_item-step-requires : goal.replay_item-step-requires
 replay_item-step-requires c =
-    record { book_value = (c.requires.underway.onward c.requires.goes_on_value.0).0; step_room_in_bounds = simp (length-take, length-drop) (omega arith) }
+    record { known_book = (c.requires.underway.onward c.requires.going_on.0).0; room = simp (length-take, length-drop) (omega arith) }
 
 pub returns : goal.returns
 returns c =
-    let on = c.requires.underway.onward c.requires.goes_on_value.0 in
+    let on = c.requires.underway.onward c.requires.going_on.0 in
     let bytes = bytes_known _ c.type_inv.stream in
     let step = c.replay_item-step.ensures in
     let same =
     same_len_mid c.args.gathered.end (length c.args.out.now - c.args.gathered.end) c.args.out.now c.replay_item-step.new.out c.replay_item-step.auto.out in
     record {
-      left = item_left _ _ _ _ c.requires.goes_on_value.0 bytes on.0 c.requires.underway.room step.answer step.book step.out;
+      left = item_left _ _ _ _ c.requires.going_on.0 bytes on.0 c.requires.underway.room step.answer step.book step.out;
       follows =
           record {
-            whole = item_whole _ _ _ _ c.requires.goes_on_value.0 bytes on.0 c.requires.underway.room _ _ step.answer step.book step.out;
+            whole = item_whole _ _ _ _ c.requires.going_on.0 bytes on.0 c.requires.underway.room _ _ step.answer step.book step.out;
             underway =
                 record {
-                  room = omega (arith, same, step.bound, c.requires.goes_on_value.1);
+                  room = omega (arith, same, step.bound, c.requires.going_on.1);
                   counted = omega arith;
                   onward = λ t. (step.still, (step.onward t).1, omega (arith, (step.onward t).0));
                 };

@@ -38,12 +38,12 @@ pub returns-in-Cut : goal.returns-in-Cut
 returns-in-Cut c =
     let does =
     does_as c.args.book.now c.args.out.now (step_cut (book_in c.args.book.now) c.args.number c.args.stream.now c.args.at (sym c.next_item-found.ensures ∙ c.in-Cut.is))
-    (does_end _ (one_line _ c.put_cut-past.ensures.written) (omega arith) c.ended.ensures (refl {a = c.args.book.now}) c.requires.book_value) in
-    record { answer = does.0; book = does.1.0; out = does.1.1.0; bound = does.1.1.1.0; still = c.requires.book_value; onward = ended_not_on c.ended.ensures }
+    (does_end _ (one_line _ c.put_cut-past.ensures.written) (omega arith) c.ended.ensures (refl {a = c.args.book.now}) c.requires.known_book) in
+    record { answer = does.0; book = does.1.0; out = does.1.1.0; bound = does.1.1.1.0; still = c.requires.known_book; onward = ended_not_on c.ended.ensures }
 
 pub returns-in-End : goal.returns-in-End
 returns-in-End c =
     let does =
     does_as c.args.book.now c.args.out.now (step_end (book_in c.args.book.now) c.args.number c.args.stream.now c.args.at (sym c.next_item-found.ensures ∙ c.in-End.is))
-    (does_end _ (no_line c.args.out.now) (omega arith) c.ended-in-End.ensures (refl {a = c.args.book.now}) c.requires.book_value) in
-    record { answer = does.0; book = does.1.0; out = does.1.1.0; bound = does.1.1.1.0; still = c.requires.book_value; onward = ended_not_on c.ended-in-End.ensures }
+    (does_end _ (no_line c.args.out.now) (omega arith) c.ended-in-End.ensures (refl {a = c.args.book.now}) c.requires.known_book) in
+    record { answer = does.0; book = does.1.0; out = does.1.1.0; bound = does.1.1.1.0; still = c.requires.known_book; onward = ended_not_on c.ended-in-End.ensures }

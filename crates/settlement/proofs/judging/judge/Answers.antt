@@ -16,7 +16,7 @@ result_of-result-requires c =
 pub use_up-requires : goal.use_up-requires
 use_up-requires c =
     let on = on_point _ c.requires.priced.0.is_sound _ c.requires.priced.1 _ c.point-site.ensures in
-    record { in_cells = (point_in_cells _ c.requires.priced.0.is_sound _ c.requires.priced.1, account_read_in_cells _ c.requires.priced.0.is_sound _ c.requires.priced.1 _ on.its_point); used_len = (c.requires.room_for.used_whole, c.requires.room_for.used_room) }
+    record { in_cells = (point_in_cells _ c.requires.priced.0.is_sound _ c.requires.priced.1, account_read_in_cells _ c.requires.priced.0.is_sound _ c.requires.priced.1 _ on.its_point); used_table = (c.requires.room_for.used_whole, c.requires.room_for.used_room) }
 
 pub carried_by-more-requires : goal.carried_by-more-requires
 carried_by-more-requires c =

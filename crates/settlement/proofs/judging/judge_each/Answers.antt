@@ -12,7 +12,7 @@ use Rattle.settlement.proofs.judging.judge_each.Goals as goal
 pub loop-k-init : goal.loop-k-init
 loop-k-init c =
     let few = schedule_count_high _ c.requires.priced.is_sound in
-    (search rules, omega (arith, c.requires.in_order.all_of, few), tables_begin _ _ _ _ _ _ c.requires.used_value.0 c.requires.used_value.1)
+    (search rules, omega (arith, c.requires.in_order.all_of, few), tables_begin _ _ _ _ _ _ c.requires.nothing_judged.0 c.requires.nothing_judged.1)
 
 pub judge-result-requires : goal.judge-result-requires
 judge-result-requires c =
@@ -43,19 +43,19 @@ loop-k-preserved c =
 
 pub shape_of-used : goal.shape_of-used
 shape_of-used c =
-    c.loop-k.invariant.2.used_by.whole ∙ sym (length_unused _ c.requires.used_value.0)
+    c.loop-k.invariant.2.used_by.whole ∙ sym (length_unused _ c.requires.nothing_judged.0)
 
 pub shape_of-energy : goal.shape_of-energy
 shape_of-energy c =
-    c.loop-k.invariant.2.registered_of.energy_of.whole ∙ sym (length_unregistered _ c.requires.used_value.1.no_energy)
+    c.loop-k.invariant.2.registered_of.energy_of.whole ∙ sym (length_unregistered _ c.requires.nothing_judged.1.no_energy)
 
 pub shape_of-charges : goal.shape_of-charges
 shape_of-charges c =
-    c.loop-k.invariant.2.registered_of.charges_of.whole ∙ sym (length_unregistered _ c.requires.used_value.1.no_charges)
+    c.loop-k.invariant.2.registered_of.charges_of.whole ∙ sym (length_unregistered _ c.requires.nothing_judged.1.no_charges)
 
 pub shape_of-results : goal.shape_of-results
 shape_of-results c =
-    c.loop-k.invariant.2.results_of.whole ∙ sym (length_unjudged _ c.requires.used_value.1.no_results)
+    c.loop-k.invariant.2.results_of.whole ∙ sym (length_unjudged _ c.requires.nothing_judged.1.no_results)
 
 pub returns : goal.returns
 returns c =

@@ -13,15 +13,15 @@ use Rattle.settlement.proofs.schedule.schedule.Goals as goal
 
 pub returns-in-Fails : goal.returns-in-Fails
 returns-in-Fails c =
-    let both = refused_answered schedule _ _ c.requires.book_value _ (checked-same _ (some _) (sym (c.schedule_fault.ensures _) ∙ c.in-Fails.is)) in record { answer = both.0; bytes = both.1.0; still = both.1.1 }
+    let both = refused_answered schedule _ _ c.requires.known_book _ (checked-same _ (some _) (sym (c.schedule_fault.ensures _) ∙ c.in-Fails.is)) in record { answer = both.0; bytes = both.1.0; still = both.1.1 }
 
 pub append_schedule-requires : goal.append_schedule-requires
 append_schedule-requires c =
     let few = few_schedules _ _ (checked-same _ none (sym (c.schedule_fault.ensures c.args.request) ∙ c.in_default.is)) in
-    (book_length _ c.requires.book_value, omega (arith, few, c.schedule_count-n.ensures.meaning))
+    (book_length _ c.requires.known_book, omega (arith, few, c.schedule_count-n.ensures.meaning))
 
 pub returns : goal.returns
 returns c =
     let free = checked-same _ none (sym (c.schedule_fault.ensures _) ∙ c.in_default.is) in
-    let both = scheduled_answered _ _ c.requires.book_value _ _ c.requires.ready free c.schedule_count-n.ensures.meaning
+    let both = scheduled_answered _ _ c.requires.known_book _ _ c.requires.ready free c.schedule_count-n.ensures.meaning
     (rw c.handed_in-x.ensures at c.append_schedule.ensures) in record { answer = both.0; bytes = both.1.0; still = both.1.1 }

@@ -37,12 +37,12 @@ module _ (s : List ℕ) (n : Counts) (a h : ℕ) (same : n ≡ counts_in s) (own
 
 pub margin_at-requires : goal.margin_at-requires
 margin_at-requires c =
-    omega (arith, c.account_offset-entry.ensures.0, inside c.args.setup.now c.counts-n.result c.args.number c.args.hour c.counts-n.ensures c.requires.whole c.requires.le_hour)
+    omega (arith, c.account_offset-entry.ensures.0, inside c.args.setup.now c.counts-n.result c.args.number c.args.hour c.counts-n.ensures c.requires.whole c.requires.in_day)
 
 pub margin_at-requires-2 : goal.margin_at-requires-2
 margin_at-requires-2 c =
-    omega (arith, c.margins_length.ensures, c.account_offset-entry.ensures.0, inside c.args.setup.now c.counts-n.result c.args.number c.args.hour c.counts-n.ensures c.requires.whole c.requires.le_hour)
+    omega (arith, c.margins_length.ensures, c.account_offset-entry.ensures.0, inside c.args.setup.now c.counts-n.result c.args.number c.args.hour c.counts-n.ensures c.requires.whole c.requires.in_day)
 
 pub returns : goal.returns
 returns c =
-    read _ _ _ _ c.counts-n.ensures c.requires.whole c.requires.le_hour c.account_offset-entry.ensures.0 c.margins_length.ensures c.margin_at.ensures c.margin_at-2.ensures
+    read _ _ _ _ c.counts-n.ensures c.requires.whole c.requires.in_day c.account_offset-entry.ensures.0 c.margins_length.ensures c.margin_at.ensures c.margin_at-2.ensures

@@ -12,7 +12,7 @@ use borrow.Author.Rules.{rules}
 use Rattle.strip_rows.proofs.record.first_row_fault.Goals as goal
 
 pub loop-left-init : goal.loop-left-init
-loop-left-init c = (c.requires.n_in_bounds, c.requires.each, refl)
+loop-left-init c = (c.requires.fits, c.requires.each, refl)
 
 pub row_fault-requires : goal.row_fault-requires
 row_fault-requires c =

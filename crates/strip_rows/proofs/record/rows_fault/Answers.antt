@@ -9,7 +9,7 @@ use Rattle.strip_rows.proofs.record.rows_fault.Goals as goal
 
 pub first_row_fault-requires : goal.first_row_fault-requires
 first_row_fault-requires c =
-    record { n_in_bounds = c.requires; each = each_any _ (λ row. tt) }
+    record { fits = c.requires; each = each_any _ (λ row. tt) }
 
 pub returns-in-Fails : goal.returns-in-Fails
 returns-in-Fails c =
@@ -18,7 +18,7 @@ returns-in-Fails c =
 
 pub first_row_fault-requires-2 : goal.first_row_fault-requires-2
 first_row_fault-requires-2 c =
-    record { n_in_bounds = c.requires; each = each_any _ (λ row. tt) }
+    record { fits = c.requires; each = each_any _ (λ row. tt) }
 
 pub returns-in-Fails-first_row_fault : goal.returns-in-Fails-first_row_fault
 returns-in-Fails-first_row_fault c =
@@ -29,7 +29,7 @@ returns-in-Fails-first_row_fault c =
 pub first_row_fault-requires-3 : goal.first_row_fault-requires-3
 first_row_fault-requires-3 c =
     let first = checked-same _ none (sym c.first_row_fault.ensures ∙ c.in_default.is) in
-    record { n_in_bounds = c.requires; each = rows_readable _ first }
+    record { fits = c.requires; each = rows_readable _ first }
 
 pub returns : goal.returns
 returns c =

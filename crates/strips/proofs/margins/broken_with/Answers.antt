@@ -32,11 +32,11 @@ loop-hour-init c =
 pub margins-own-requires : goal.margins-own-requires
 margins-own-requires c =
     let hours = ap (λ (n : Counts). n.hours) (counts_in_lem _ c.requires.0) in
-    record { whole = ((setup_tabled _ c.requires.0).whole, c.requires.1.0, (accounts_read _ c.requires.0 _ c.requires.1.1).0); le_hour = (c.loop-hour.invariant.0, omega (arith, hours, c.loop-hour.invariant.2)) }
+    record { whole = ((setup_tabled _ c.requires.0).whole, c.requires.1.0, (accounts_read _ c.requires.0 _ c.requires.1.1).0); in_day = (c.loop-hour.invariant.0, omega (arith, hours, c.loop-hour.invariant.2)) }
 
 pub account_hour-held-requires : goal.account_hour-held-requires
 account_hour-held-requires c =
-    record { book_value = (c.requires.0, c.requires.2); account = (c.requires.1, (c.loop-hour.invariant.0, omega (arith, c.loop-hour.invariant.2))) }
+    record { known_book = (c.requires.0, c.requires.2); account = (c.requires.1, (c.loop-hour.invariant.0, omega (arith, c.loop-hour.invariant.2))) }
 
 pub loop-hour-preserved : goal.loop-hour-preserved
 loop-hour-preserved c =

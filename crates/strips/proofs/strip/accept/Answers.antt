@@ -7,9 +7,9 @@ use Rattle.strips.proofs.strip.accept.Goals as goal
 
 pub append_rows-requires : goal.append_rows-requires
 append_rows-requires c =
-    (book_length _ c.requires.book_value.0, c.requires.book_value.1.is_strip, omega (arith, c.row_count-count.ensures.meaning, room_for_all _ _ c.args.n c.requires.n_value))
+    (book_length _ c.requires.known_book.0, c.requires.known_book.1.is_strip, omega (arith, c.row_count-count.ensures.meaning, room_for_all _ _ c.args.n c.requires.nothing_refuses))
 
 pub returns : goal.returns
 returns c =
-    let both = strip-accepted _ _ c.args.n c.requires.n_value c.requires.book_value.0 (bytes_known _ c.type_inv.bytes) c.requires.book_value.1 _ _
+    let both = strip-accepted _ _ c.args.n c.requires.nothing_refuses c.requires.known_book.0 (bytes_known _ c.type_inv.bytes) c.requires.known_book.1 _ _
     c.row_count-count.ensures.meaning c.append_rows.ensures in record { answer = both.0; bytes = both.1.0; still = both.1.1 }

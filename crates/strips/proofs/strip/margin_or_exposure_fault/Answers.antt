@@ -12,25 +12,25 @@ use Rattle.strips.proofs.strip.margin_or_exposure_fault.Goals as goal
 pub broken_with-requires : goal.broken_with-requires
 broken_with-requires c =
     let bytes = bytes_known _ c.type_inv.bytes in
-    (c.requires.book_value.0, rw c.requires.book_value.2 (proposer_known _ _ _ bytes c.requires.book_value.1), c.fill_all_waits.ensures.whole)
+    (c.requires.known_book.0, rw c.requires.known_book.2 (proposer_known _ _ _ bytes c.requires.known_book.1), c.fill_all_waits.ensures.whole)
 
 pub returns-in-Hour : goal.returns-in-Hour
 returns-in-Hour c =
     let searched : let b = book_in c.args.book.now in
     c.broken_with.result ≡ broken (broken_by b.setup b.part.rows (proposed_rows c.args.bytes.now c.args.n) (proposer c.args.bytes.now c.args.n)) =
-    rw c.requires.book_value.2 at (c.broken_with.ensures (proposed_rows c.args.bytes.now c.args.n) (proposed-pending (strip_requests c.args.bytes.now c.args.n)) (rw c.requires.book_value.2 c.fill_all_waits.ensures)) in
+    rw c.requires.known_book.2 at (c.broken_with.ensures (proposed_rows c.args.bytes.now c.args.n) (proposed-pending (strip_requests c.args.bytes.now c.args.n)) (rw c.requires.known_book.2 c.fill_all_waits.ensures)) in
     margin_decides _ _ c.requires.addable _ (sym c.in-Hour.is ∙ searched)
 
 pub returns-then-covered_with_strip : goal.returns-then-covered_with_strip
 returns-then-covered_with_strip c =
     let searched : let b = book_in c.args.book.now in
     c.broken_with.result ≡ broken (broken_by b.setup b.part.rows (proposed_rows c.args.bytes.now c.args.n) (proposer c.args.bytes.now c.args.n)) =
-    rw c.requires.book_value.2 at (c.broken_with.ensures (proposed_rows c.args.bytes.now c.args.n) (proposed-pending (strip_requests c.args.bytes.now c.args.n)) (rw c.requires.book_value.2 c.fill_all_waits.ensures)) in
-    covered_decides _ _ c.requires.addable (sym c.in_default.is ∙ searched) _ (rw c.requires.book_value.2 at c.covered_with_strip.ensures) c.if-covered_with_strip.true
+    rw c.requires.known_book.2 at (c.broken_with.ensures (proposed_rows c.args.bytes.now c.args.n) (proposed-pending (strip_requests c.args.bytes.now c.args.n)) (rw c.requires.known_book.2 c.fill_all_waits.ensures)) in
+    covered_decides _ _ c.requires.addable (sym c.in_default.is ∙ searched) _ (rw c.requires.known_book.2 at c.covered_with_strip.ensures) c.if-covered_with_strip.true
 
 pub returns : goal.returns
 returns c =
     let searched : let b = book_in c.args.book.now in
     c.broken_with.result ≡ broken (broken_by b.setup b.part.rows (proposed_rows c.args.bytes.now c.args.n) (proposer c.args.bytes.now c.args.n)) =
-    rw c.requires.book_value.2 at (c.broken_with.ensures (proposed_rows c.args.bytes.now c.args.n) (proposed-pending (strip_requests c.args.bytes.now c.args.n)) (rw c.requires.book_value.2 c.fill_all_waits.ensures)) in
-    uncovered_decides _ _ c.requires.addable (sym c.in_default.is ∙ searched) _ (rw c.requires.book_value.2 at c.covered_with_strip.ensures) c.if-covered_with_strip.false
+    rw c.requires.known_book.2 at (c.broken_with.ensures (proposed_rows c.args.bytes.now c.args.n) (proposed-pending (strip_requests c.args.bytes.now c.args.n)) (rw c.requires.known_book.2 c.fill_all_waits.ensures)) in
+    uncovered_decides _ _ c.requires.addable (sym c.in_default.is ∙ searched) _ (rw c.requires.known_book.2 at c.covered_with_strip.ensures) c.if-covered_with_strip.false

@@ -71,7 +71,7 @@ margin_or_exposure_fault-requires c =
     let in-phase : (book_in c.args.book.now).phase ≡ 1 =
     sym c.phase.ensures ∙ c.if-phase-ne-REGISTRATION.false in
     record {
-      book_value = (c.requires.0, c.requires.1, proposes);
+      known_book = (c.requires.0, c.requires.1, proposes);
       addable = record {
         in_registration = in-phase;
         none_standing = sym stands ∙ c.if-any_is_alike.false;

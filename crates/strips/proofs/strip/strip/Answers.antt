@@ -91,7 +91,7 @@ accept-requires c =
     in_range_ready _ _ _ strip-of (found none c.in_default-requests_fault.is) in
     let free : first_to_apply (state_checks (book_in c.args.book.now) strip (strip_requests c.args.bytes.now c.row_count-n.result)) ≡ none =
     checked-same _ none (sym c.state_fault.ensures ∙ c.in_default-state_fault.is) in
-    record { book_value = (c.requires.0, ready); n_value = free }
+    record { known_book = (c.requires.0, ready); nothing_refuses = free }
 
 pub returns : goal.returns
 returns c =

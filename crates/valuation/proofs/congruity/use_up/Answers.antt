@@ -5,15 +5,15 @@ use Rattle.valuation.proofs.congruity.use_up.Goals as goal
 
 pub add_to-requires : goal.add_to-requires
 add_to-requires c =
-    room_here c.args.used.now _ _ _ c.requires.used_len.1 c.share-q.ensures.1 c.requires.used_len.0 (omega (arith, c.cell_for-at_point.ensures))
+    room_here c.args.used.now _ _ _ c.requires.used_table.1 c.share-q.ensures.1 c.requires.used_table.0 (omega (arith, c.cell_for-at_point.ensures))
 
 pub add_to-requires-2 : goal.add_to-requires-2
 add_to-requires-2 c =
     room_next c.args.used.now _ _ _ _ _ _ c.add_to.ensures
     (omega (arith, c.cell_for-at_point.ensures))
-    c.requires.used_len.1
+    c.requires.used_table.1
     c.share-q.ensures.1
-    c.requires.used_len.0
+    c.requires.used_table.0
     (omega (arith, c.cell_for-at_account.ensures))
 
 pub returns : goal.returns
