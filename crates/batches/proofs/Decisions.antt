@@ -1,6 +1,6 @@
 -- What the state refuses kinds 5 to 8 for: of the checks that these kinds have, the first that applies.
 use Prim.Native.Nat.{ℕ}
-use mathlib.Core.Path.{◌≡◌, refl}
+use mathlib.Core.Path.{◌≡◌, refl, sym, ◌∙◌}
 use mathlib.Core.List.{[], ◌∷◌}
 use mathlib.Core.Option.{none, some}
 use mathlib.Core.Bool.{Bool, true, false, ◌||◌}
@@ -8,14 +8,18 @@ use native.Mathlib.Omega.{arith}
 use lib.Dec.{eqb}
 use borrow.Author.Tests.{eq-eqb}
 use Rattle.rules.specs.declared.Request.{Request}
+use Rattle.rules.specs.declared.Refusal.{Refusal}
 use Rattle.rules.specs.declared.Refusal.TheVariants.{BatchOpen, NoBatch}
+use Rattle.rules.specs.declared.Checked.{Checked}
+use Rattle.rules.specs.declared.Checked.TheVariants.{Clear, Fails}
 use Rattle.rules.specs.Basics.{is_some}
-use Rattle.rules.specs.Verdicts.{first_to_apply}
+use Rattle.rules.specs.Verdicts.{first_to_apply, checked}
 use Rattle.rules.specs.Books.{Book}
-use Rattle.rules.specs.Requests.{Kind, open_batch, undo, keep, close_gate, kind_number}
+use Rattle.rules.specs.Requests.{Kind, open_batch, undo, keep, close_gate, kind_number, request_of}
 use Rattle.rules.specs.Calls.{◌one_of◌, phase_of, state_checks}
 use Rattle.rules.proofs.Checks.KindTables.{same_kind}
 use Rattle.rules.proofs.Checks.Passed.{passed_13}
+use Rattle.rules.proofs.Checks.Clearing.{checked-same}
 use Rattle.book.specs.Kinds.{decided}
 use Rattle.book.proofs.Answers.{decided_clear}
 
@@ -71,3 +75,16 @@ ending_finds_batch k b q m =
     of_two (λ i. decided i b q ≡ none → is_some b.saved ≡ true) undo keep k m
     (λ d. let (p, e) = passed_13 b (q ∷ []) undo refl (decided_clear undo b q d) in rw e)
     (λ d. let (p, e) = passed_13 b (q ∷ []) keep refl (decided_clear keep b q d) in rw e)
+
+-- ---- what the check of a kind found
+
+module _ (k : Kind) (b : Book) (fault : Checked) (each : (q : Request) → fault ≡ checked (decided k b q)) where
+  pub refused_for : {r : Refusal} → fault ≡ Fails r → (q : Request) → decided k b q ≡ some r
+  refused_for e q = checked-same _ (some _) (sym (each q) ∙ e)
+
+  pub nothing_decided : fault ≡ Clear → (q : Request) → decided k b q ≡ none
+  nothing_decided e q = checked-same _ none (sym (each q) ∙ e)
+
+  -- undo and keep find a batch open
+  pub finds_batch : k one_of (undo ∷ keep ∷ []) ≡ true → fault ≡ Clear → is_some b.saved ≡ true
+  finds_batch m e = ending_finds_batch k b (request_of []) m (nothing_decided e (request_of []))

@@ -3,6 +3,7 @@
 use Prim.Native.Nat.{ℕ, zero, suc, ◌+◌, ◌*◌, ◌≤◌}
 use mathlib.Core.Path.{◌≡◌, sym, ap, ◌∙◌}
 use mathlib.Core.List.{List, []}
+use mathlib.Core.Option.{Option}
 use mathlib.Core.Bool.{true}
 use native.Mathlib.Omega.{arith}
 use lib.ListN.{length, get_or, take, drop, replicate}
@@ -14,12 +15,16 @@ use Rattle.units.specs.Units.{cents}
 use Rattle.rules.specs.declared.Margins.{Margins}
 use Rattle.rules.specs.declared.Counts.{Counts}
 use Rattle.rules.specs.declared.Row.{Row}
+use Rattle.rules.specs.declared.Refusal.{Refusal}
+use Rattle.rules.specs.declared.Checked.{Checked}
+use Rattle.rules.specs.Verdicts.{Check, first_to_apply, checked}
 use Rattle.rules.specs.Basics.{Each, entries}
 use Rattle.rules.specs.Limits.{most_price, most_rows, most_hours, most_accounts, book_size}
 use Rattle.rules.specs.Books.{Setup, Book, no_account, no_row, operator_of, counts_of, operator_count, account_count, periods, margins_at}
 use Rattle.rules.specs.Opening.{counts_in, estimates_in, setup_of, operators_of}
 use Rattle.rules.proofs.Basics.Searches.{each_map, each_nth, each_at}
 use Rattle.rules.proofs.Setups.SetupEntries.{counts_of_setup}
+use Rattle.rules.proofs.Checks.Clearing.{checked-same}
 use Rattle.image.specs.Layout.{setup_room, row_width, part_widths, part_size, present_offset, row_count_offset, rows_offset, row_count_section, rows_section}
 use Rattle.image.specs.Image.{part_of, part_in}
 use Rattle.image.specs.Valid.{is_sound, book_in}
@@ -69,6 +74,11 @@ module _ (s : List ℕ) (h : is_sound s ≡ true) where
       ap (λ (b : Book). counts_of b.setup) (decode_places most_hours book_size s)
       ∙ counts_of_setup (take setup_room s)
       ∙ counts_first_bytes setup_room s (omega arith)
+
+  -- what checks on the counts came to, on those that a book begins with
+  pub checks_found : (checks : Counts → List Check) (n : Counts) (x : Checked) (o : Option Refusal) → n ≡ counts_in s
+      → x ≡ checked (first_to_apply (checks n)) → x ≡ checked o → first_to_apply (checks (counts_of (book_in s).setup)) ≡ o
+  checks_found checks n x o e f g = ap (λ (m : Counts). first_to_apply (checks m)) (counts_in_lem ∙ sym e) ∙ checked-same _ o (sym f ∙ g)
 
   first_in : (book_in s).setup ≡ setup_of (take setup_room s)
   first_in = ap (λ (b : Book). b.setup) (decode_places most_hours book_size s)

@@ -24,14 +24,14 @@ use Rattle.rules.specs.Opening.{counts_in}
 use Rattle.rules.specs.Requests.{Kind, register, settle, strip, ask, is_single, kind_number, kind_of, field_in, request_of, read_checks, reading_of, reading, is_strip, Fits, faulty_bit, faulty_bit_among, same_accounts, range_checks}
 use Rattle.rules.specs.Calls.{Call, Answer, refused_on, call_requests, call_kind, ◌one_of◌, checked_as, bytes_checks, input_checks, refusal}
 use Rattle.rules.proofs.Basics.Tests.{and_both}
-use Rattle.rules.proofs.Checks.Clearing.{checked-same, clear, spared, spared↑}
+use Rattle.rules.proofs.Checks.Clearing.{clear, spared, spared↑}
 use Rattle.rules.proofs.Checks.Passed.{kind_number_lem, single_requests}
 use Rattle.rules.proofs.Checks.KindTables.{kind_again, single_kind}
 use Rattle.rules.proofs.Records.RoundTrip.{read_as, read_is_known, read_fits}
 use Rattle.image.specs.Valid.{is_sound, is_book, book_in, book_bytes}
 use Rattle.image.proofs.Round.{book_is_sound}
 use Rattle.book.specs.Kinds.{decided, outcome_on, book_after, Ready}
-use Rattle.book.proofs.BookRows.{counts_in_lem}
+use Rattle.book.proofs.BookRows.{checks_found}
 use Rattle.book.proofs.Answers.{Answered as KindAnswered}
 use Rattle.day.specs.Answers.{change_answer}
 use Rattle.day.specs.Plain.{is_plain}
@@ -161,8 +161,7 @@ read_code s q b e = read_fits s q e b 3 (omega arith)
 -- what the range checks came to, on the counts that a book begins with
 pub ranges_found : (s : List ℕ) → is_sound s ≡ true → (n : Counts) (q : Request) (x : Checked) (o : Option Refusal) → n ≡ counts_in s
     → x ≡ checked (first_to_apply (range_checks n q)) → x ≡ checked o → first_to_apply (range_checks (counts_of (book_in s).setup) q) ≡ o
-ranges_found s h n q x o e f g =
-    ap (λ (m : Counts). first_to_apply (range_checks m q)) (counts_in_lem s h ∙ sym e) ∙ checked-same _ o (sym f ∙ g)
+ranges_found s h n q = checks_found s h (λ m. range_checks m q) n
 
 pub in_range_ready : (b : Book) (q : Request) → is_plain q.kind ≡ true → q.code < 256 ^ 8 → first_to_apply (range_checks (counts_of b.setup) q) ≡ none
     → Ready (kind_of q.kind) b q

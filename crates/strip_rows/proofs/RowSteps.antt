@@ -1,6 +1,6 @@
 -- The rows of registers from a place on, and the requests that they say: the first stands there, and the others stand one row further.
 use Prim.Native.Nat.{ℕ, zero, suc, ◌+◌, ◌-◌, ◌*◌, ◌≤◌}
-use mathlib.Core.Path.{◌≡◌}
+use mathlib.Core.Path.{◌≡◌, ap}
 use mathlib.Core.List.{List, [], ◌∷◌}
 use native.Mathlib.Omega.{arith}
 use lib.ListN.{length, take, drop}
@@ -39,6 +39,10 @@ module _ (s : List ℕ) (at n m : ℕ) (e : n ≡ m + 1) where
   -- it is the first of them
   pub first_request : {q : Request} → q ≡ request_of (row_at s at) → q ≡ first_of (requests_from s at n)
   first_request r = rw (requests_step r)
+
+  -- and its account is the proposer
+  pub first_proposer : {q : Request} → q ≡ request_of (row_at s at) → q.account ≡ (first_of (requests_from s at n)).account
+  first_proposer r = ap (λ (q : Request). q.account) (first_request r)
 
 -- each row of registers is a register's
 pub any_register : (s : List ℕ) (at n i : ℕ) → i + 1 ≤ n → RegisterRows s at n

@@ -8,10 +8,13 @@ use native.Mathlib.Omega.{arith}
 use borrow.Author.Tests.{eqb-true}
 use Rattle.rules.specs.declared.Outcome.{Outcome}
 use Rattle.rules.specs.declared.Request.{Request}
+use Rattle.rules.specs.declared.Counts.{Counts}
+use Rattle.rules.specs.declared.Checked.{Checked}
 use Rattle.rules.specs.declared.Refusal.{Refusal}
 use Rattle.rules.specs.declared.Refusal.TheVariants.{WrongLength, OutOfRange, BufferShort}
-use Rattle.rules.specs.Verdicts.{Check, ◌⇒◌, first_to_apply, refused, accepted}
+use Rattle.rules.specs.Verdicts.{Check, ◌⇒◌, first_to_apply, checked, refused, accepted}
 use Rattle.rules.specs.Books.{Book, counts_of}
+use Rattle.rules.specs.Opening.{counts_in}
 use Rattle.rules.specs.Requests.{strip, kind_number, kind_of, field_in, is_strip, strip_count, strip_rows, strip_checks, requests_of, first_of}
 use Rattle.rules.specs.Calls.{Call, call_kind, call_requests, bytes_checks, input_checks, state_checks, refusal, changed, given, step, uncleared, checked_as}
 use Rattle.rules.proofs.Basics.Searches.{each_map}
@@ -23,6 +26,7 @@ use Rattle.strip_rows.specs.Rows.{rows_from, StripOf}
 use Rattle.strip_rows.specs.Passes.{request_check, requests_checks}
 use Rattle.strip_rows.specs.declared.requests.RequestPass.TheVariants.{InRange, TwoAccounts}
 use Rattle.book.proofs.StateLaws.{book_image}
+use Rattle.book.proofs.BookRows.{checks_found}
 use Rattle.strips.specs.Ready.{ReadyStrip, strip_requests}
 use Rattle.strips.proofs.AcceptLaws.{StripAccepted}
 
@@ -68,6 +72,11 @@ unfolding input_checks requests_checks
 input_is_requests b c qs =
     let n = counts_of b.setup in
     sift (map (request_check n (first_of qs).account InRange) qs) (map (request_check n (first_of qs).account TwoAccounts) qs) WrongLength (OutOfRange 12) BufferShort
+
+-- what the two passes found, on the counts that a book begins with
+pub requests_found : (b : List ℕ) → is_sound b ≡ true → (n : Counts) (qs : List Request) (x : Checked) (o : Option Refusal) → n ≡ counts_in b
+    → x ≡ checked (first_to_apply (requests_checks n qs)) → x ≡ checked o → first_to_apply (requests_checks (counts_of (book_in b).setup) qs) ≡ o
+requests_found b h n qs = checks_found b h (λ m. requests_checks m qs) n
 
 -- requests that are not refused are in range, of one proposer, and have two accounts
 pub in_range_ready : (b : Book) (s : List ℕ) (n : ℕ) → StripOf s n → first_to_apply (requests_checks (counts_of b.setup) (strip_requests s n)) ≡ none → ReadyStrip b s n

@@ -42,6 +42,10 @@ offset_grows m k n h = let e : k + (n - k) ≡ n = omega arith in omega (arith, 
     by_steps k zero = omega (arith, ap (offset m) (add-zero k))
     by_steps k (suc d) = omega (arith, offset_step m k, by_steps (suc k) d, ap (offset m) (across k d))
 
+-- a field lies within the record
+pub field_within : (m k : ℕ) → k < field_count → offset m k + room m k ≤ offset m field_count
+field_within m k h = omega (arith, offset_step m k, offset_grows m (suc k) field_count (omega arith))
+
 -- ---- what a record holds
 
 at_room : (b : Bool) (s : List ℕ) (at w : ℕ) → (if b then number_at s at w else 0) ≡ number_at s at (if b then w else 0)

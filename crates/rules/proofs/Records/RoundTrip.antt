@@ -21,7 +21,7 @@ use Rattle.rules.specs.Requests.{is_single, wanted_map, wanted_length, field_cou
 use Rattle.rules.proofs.Checks.Clearing.{Clear, clear, clear_applies}
 use Rattle.rules.proofs.Checks.Passed.{passed_3, passed_4, passed_5_record}
 use Rattle.rules.proofs.Checks.KindTables.{Agree, tables_agree}
-use Rattle.rules.proofs.Records.Fields.{offset_first, offset_step, offset_grows, field_in-room, field_in_absent, field_in_fits, field_of_request, same_fields, length-write, map_in_write, field_in-write, canonical_fits}
+use Rattle.rules.proofs.Records.Fields.{offset_first, offset_step, offset_grows, field_within, field_in-room, field_in_absent, field_in_fits, field_of_request, same_fields, length-write, map_in_write, field_in-write, canonical_fits}
 
 -- ---- when a record reads
 
@@ -100,7 +100,7 @@ rewritten s b e k (suc n) l =
     let at : ℕ = offset m k in
     let w : ℕ = room m k in
     let field : field_of (request_of s) k ≡ number_at s at w = field_of_request s k (omega arith) ∙ field_in-room s k in
-    let within : at + w ≤ length s = omega (arith, offset_step m k, offset_grows m (suc k) field_count (omega arith)) in
+    let within : at + w ≤ length s = omega (arith, field_within m k (omega arith)) in
     rw (field, le-number_at b at w within, rewritten s b e (suc k) n (omega arith), offset_step m k, ← drop-drop w at s) (take-append-drop w (drop at s))
 
 -- and so is its map

@@ -1,26 +1,22 @@
 -- What was checked is what the state decides, and what is written is the book with no row pending, in the next phase.
 use Prim.Native.Nat.{ℕ}
-use mathlib.Core.Path.{◌≡◌, refl, sym, ap, ◌∙◌}
+use mathlib.Core.Path.{refl, ap, ◌∙◌}
 use mathlib.Core.List.{List}
-use mathlib.Core.Option.{none, some}
 use native.Mathlib.Omega.{arith}
 use Rattle.wire.specs.Numbers.{le}
 use Rattle.wire.specs.Regions.{splice}
-use Rattle.rules.specs.declared.Request.{Request}
 use Rattle.rules.specs.Requests.{close_gate}
-use Rattle.rules.proofs.Checks.Clearing.{checked-same}
 use Rattle.image.specs.Layout.{phase_offset}
-use Rattle.image.specs.Valid.{book_in}
-use Rattle.book.specs.Kinds.{decided}
 use Rattle.book.proofs.StateLaws.{book_length}
 use Rattle.book.proofs.Answers.{refused_all}
+use Rattle.batches.proofs.Decisions.{nothing_decided, refused_for}
 use Rattle.batches.proofs.Acceptances.{closed_answered}
 use Rattle.batches.proofs.gate.close_gate.Goals as goal
 
 pub returns-in-Fails : goal.returns-in-Fails
 returns-in-Fails c =
-    let both = refused_all close_gate _ _ c.requires
-    (λ q. checked-same _ (some _) (sym (c.outside_batch.ensures close_gate q refl) ∙ c.in-Fails.is)) in record { answer = both.0; bytes = both.1.0; still = both.1.1 }
+    let both = refused_all close_gate _ _ c.requires (refused_for close_gate _ _ (λ q. c.outside_batch.ensures close_gate q refl) c.in-Fails.is) in
+    record { answer = both.0; bytes = both.1.0; still = both.1.1 }
 
 pub end_rows-requires : goal.end_rows-requires
 end_rows-requires c =
@@ -34,7 +30,6 @@ put_u8-requires c =
 
 pub returns : goal.returns
 returns c =
-    let free : (q : Request) → decided close_gate (book_in c.args.book.now) q ≡ none =
-    λ q. checked-same _ none (sym (c.outside_batch.ensures close_gate q refl) ∙ c.in_default.is) in
+    let free = nothing_decided close_gate _ _ (λ q. c.outside_batch.ensures close_gate q refl) c.in_default.is in
     let both = closed_answered _ _ c.requires _ free c.row_count-n.ensures.meaning
     (c.put_u8.ensures ∙ ap (λ (x : List ℕ). splice x phase_offset (le 1 2)) c.end_rows.ensures) in record { answer = both.0; bytes = both.1.0; still = both.1.1 }

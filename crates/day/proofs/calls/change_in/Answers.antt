@@ -1,13 +1,9 @@
 -- A strip is answered as one. Any other record that says nothing is refused; of one that says a request the kind decides, and only settle
 -- is lent the rest.
-use mathlib.Core.Path.{◌≡◌, sym, ◌∙◌}
-use mathlib.Core.Bool.{false}
+use mathlib.Core.Path.{sym, ◌∙◌}
 use native.Mathlib.Omega.{arith}
-use Rattle.wire.specs.Numbers.{Bytes}
 use Rattle.wire.proofs.NumberLaws.{bytes_known}
-use Rattle.rules.specs.declared.Reading.TheVariants.{Read}
 use Rattle.rules.specs.Limits.{most_hours, book_size}
-use Rattle.rules.specs.Requests.{reading, is_strip}
 use Rattle.image.proofs.Round.{book_is_sound}
 use Rattle.day.proofs.RequestLaws.{other_kind, read_code}
 use Rattle.day.proofs.CallLaws.{unread_given, said_given, strip-given, settle-given}
@@ -27,29 +23,23 @@ settle-requires c =
 
 pub returns-then-request-eq-SETTLE : goal.returns-then-request-eq-SETTLE
 returns-then-request-eq-SETTLE c =
-    let says : reading c.args.bytes.now ≡ Read c.in-Read.request =
-    sym c.read-said.ensures ∙ c.in-Read.is in
-    let bytes : Bytes c.args.bytes.now =
-    bytes_known _ c.type_inv.bytes in
+    let says = sym c.read-said.ensures ∙ c.in-Read.is in
+    let bytes = bytes_known _ c.type_inv.bytes in
     let both = settle-given _ _ _ _ _ _ bytes says (omega arith) _ _ _ _ (c.settle.ensures.answer, c.settle.ensures.still) in record { answer = both.0; still = both.1 }
 
 pub answer-requires : goal.answer-requires
 answer-requires c =
-    let says : reading c.args.bytes.now ≡ Read c.in-Read.request =
-    sym c.read-said.ensures ∙ c.in-Read.is in
-    let bytes : Bytes c.args.bytes.now =
-    bytes_known _ c.type_inv.bytes in
+    let says = sym c.read-said.ensures ∙ c.in-Read.is in
+    let bytes = bytes_known _ c.type_inv.bytes in
     let plain = other_kind _ _ says (λ e. omega arith) in
     record { known_book = c.requires; plain_kind = (plain, read_code _ _ bytes says) }
 
 pub returns-in-Unread : goal.returns-in-Unread
 returns-in-Unread c =
-    let single : is_strip c.args.bytes.now ≡ false =
-    sym c.is_strip.ensures ∙ c.if-is_strip.false in
+    let single = sym c.is_strip.ensures ∙ c.if-is_strip.false in
     let both = unread_given _ _ (book_is_sound most_hours book_size _ c.requires) _ single (sym c.read-said.ensures ∙ c.in-Unread.is) in record { answer = both.0; still = both.1 }
 
 pub returns-else-request-eq-SETTLE : goal.returns-else-request-eq-SETTLE
 returns-else-request-eq-SETTLE c =
-    let says : reading c.args.bytes.now ≡ Read c.in-Read.request =
-    sym c.read-said.ensures ∙ c.in-Read.is in
+    let says = sym c.read-said.ensures ∙ c.in-Read.is in
     let both = said_given _ _ (book_is_sound most_hours book_size _ c.requires) _ says (λ e. omega arith) _ _ (c.answer.ensures.answer, (c.answer.ensures.bytes, c.answer.ensures.still)) in record { answer = both.0; still = both.1 }

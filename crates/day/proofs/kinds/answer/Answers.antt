@@ -1,12 +1,7 @@
 -- The ranges are checked against the counts that the book begins with; a request that is in range is ready for its kind.
-use mathlib.Core.Path.{◌≡◌}
 use mathlib.Core.Option.{none, some}
 use native.Mathlib.Omega.{arith}
-use Rattle.rules.specs.Verdicts.{first_to_apply}
-use Rattle.rules.specs.Books.{counts_of}
-use Rattle.rules.specs.Requests.{range_checks}
 use Rattle.rules.specs.Limits.{most_hours, book_size}
-use Rattle.image.specs.Valid.{book_in}
 use Rattle.image.proofs.Round.{book_is_sound}
 use Rattle.book.proofs.StateLaws.{book_length}
 use Rattle.day.proofs.RequestLaws.{ranges_found, in_range_ready, refused_saying, plain_saying}
@@ -22,12 +17,12 @@ returns-in-Fails c =
 
 pub by_kind-requires : goal.by_kind-requires
 by_kind-requires c =
-    let in_range_lem : first_to_apply (range_checks (counts_of (book_in c.args.book.now).setup) c.args.request) ≡ none =
+    let in_range_lem =
     ranges_found _ (book_is_sound most_hours book_size _ c.requires.known_book) _ _ _ none c.counts-n.ensures c.check_ranges.ensures c.in_default.is in
     record { known_book = c.requires.known_book; plain_kind = (c.requires.plain_kind.0, in_range_ready _ _ c.requires.plain_kind.0 c.requires.plain_kind.1 in_range_lem) }
 
 pub returns : goal.returns
 returns c =
-    let in_range_lem : first_to_apply (range_checks (counts_of (book_in c.args.book.now).setup) c.args.request) ≡ none =
+    let in_range_lem =
     ranges_found _ (book_is_sound most_hours book_size _ c.requires.known_book) _ _ _ none c.counts-n.ensures c.check_ranges.ensures c.in_default.is in
     let both = plain_saying _ _ (book_is_sound most_hours book_size _ c.requires.known_book) c.requires.plain_kind.0 in_range_lem _ _ (c.by_kind.ensures.answer, (c.by_kind.ensures.bytes, c.by_kind.ensures.still)) in record { answer = both.0; bytes = both.1.0; still = both.1.1 }

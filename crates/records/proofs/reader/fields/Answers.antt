@@ -1,5 +1,5 @@
 -- The fields below `k` have been read and `at` is where the next begins; filling in the rest gives them all.
-use Prim.Native.Nat.{ℕ, suc, ◌+◌, ◌-◌}
+use Prim.Native.Nat.{ℕ, ◌+◌, ◌-◌}
 use mathlib.Core.Path.{◌≡◌, refl, ◌∙◌, sym, ap}
 use mathlib.Core.List.{List}
 use native.Mathlib.Numerals.{add-one}
@@ -7,7 +7,7 @@ use native.Mathlib.Omega.{arith}
 use borrow.Author.Rules.{rules}
 use Rattle.rules.specs.Basics.{total, counting}
 use Rattle.rules.specs.Requests.{field_count, map_of, room, offset, bits, field_in}
-use Rattle.rules.proofs.Records.Fields.{offset_step, offset_grows, field_in-room}
+use Rattle.rules.proofs.Records.Fields.{offset_step, field_within, field_in-room}
 use Rattle.records.proofs.FieldLaws.{room_small, fill, fill_none, fill_next}
 use Rattle.records.proofs.reader.fields.Goals as goal
 
@@ -22,30 +22,30 @@ loop-k-init c = (search rules, refl, refl)
 pub number_at-requires : goal.number_at-requires
 unfolding map_of
 number_at-requires c =
-    let asked : c.room_of-room.result ≡ room (map_of c.args.bytes.now) c.loop-k.k =
-    c.room_of-room.ensures ∙ ap (λ (m : ℕ). room m c.loop-k.k) c.get_u16-given.ensures in
+    let asked = c.room_of-room.ensures ∙ ap (λ (m : ℕ). room m c.loop-k.k) c.get_u16-given.ensures in
     let m : ℕ = map_of c.args.bytes.now in
-    let k : ℕ = c.loop-k.k in
-    (omega (arith, asked, offset_step m k, offset_grows m (suc k) field_count (omega arith)), omega (arith, asked, room_small m k))
+    (omega (arith, asked, field_within m c.loop-k.k (omega arith)), omega (arith, asked, room_small m c.loop-k.k))
 
 pub overflow_add-at : goal.overflow_add-at
 unfolding map_of
 overflow_add-at c =
-    let asked : c.room_of-room.result ≡ room (map_of c.args.bytes.now) c.loop-k.k =
-    c.room_of-room.ensures ∙ ap (λ (m : ℕ). room m c.loop-k.k) c.get_u16-given.ensures in
+    let asked = c.room_of-room.ensures ∙ ap (λ (m : ℕ). room m c.loop-k.k) c.get_u16-given.ensures in
     let m : ℕ = map_of c.args.bytes.now in
-    let k : ℕ = c.loop-k.k in
-    omega (arith, asked, offset_step m k, offset_grows m (suc k) field_count (omega arith))
+    omega (arith, asked, field_within m c.loop-k.k (omega arith))
 
 pub loop-k-preserved : goal.loop-k-preserved
 unfolding map_of
 loop-k-preserved c =
-    let asked : c.room_of-room.result ≡ room (map_of c.args.bytes.now) c.loop-k.k =
-    c.room_of-room.ensures ∙ ap (λ (m : ℕ). room m c.loop-k.k) c.get_u16-given.ensures in
+    let asked = c.room_of-room.ensures ∙ ap (λ (m : ℕ). room m c.loop-k.k) c.get_u16-given.ensures in
     let s : List ℕ = c.args.bytes.now in
     let at : c.loop-k.at ≡ offset (map_of s) c.loop-k.k = c.loop-k.invariant.1 in
     let room : c.room_of-room.result ≡ room (map_of s) c.loop-k.k = asked in
-    (search rules, rw add-one (omega (arith, offset_step (map_of s) c.loop-k.k)), fill_next (field_in s) c.loop-k.found c.loop-k.k (field_count - c.loop-k.k) (field_count - (c.loop-k.k + 1)) c.number_at.result (omega arith) (c.number_at.ensures ∙ rw (at, room) (sym (field_in-room s c.loop-k.k))) ∙ c.loop-k.invariant.2)
+    let read = c.number_at.ensures ∙ rw (at, room) (sym (field_in-room s c.loop-k.k)) in (
+      search rules,
+      rw add-one (omega (arith, offset_step (map_of s) c.loop-k.k)),
+      fill_next (field_in s) c.loop-k.found c.loop-k.k (field_count - c.loop-k.k) (field_count - (c.loop-k.k + 1)) c.number_at.result (omega arith) read
+          ∙ c.loop-k.invariant.2,
+    )
 
 pub returns : goal.returns
 returns c = sym (fill_none _ _ c.loop-k.k (field_count - c.loop-k.k) (omega arith)) ∙ c.loop-k.invariant.2

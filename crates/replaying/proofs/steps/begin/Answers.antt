@@ -1,7 +1,7 @@
 -- The length is looked at first, then what is found at the front; a whole item is opened as the set-up.
 use mathlib.Core.Path.{refl, sym, ◌∙◌}
 use native.Mathlib.Omega.{arith}
-use Rattle.items.proofs.StreamLaws.{Within, found_within}
+use Rattle.items.proofs.StreamLaws.{found_within}
 use Rattle.replaying.proofs.StepLaws.{does_as, does_end, ended_not_on, ended-next, one_line, no_line, begin_long, begin_whole, begin_cut, begin_end, open_next}
 use Rattle.replaying.proofs.steps.begin.Goals as goal
 
@@ -15,21 +15,15 @@ returns-then-stream-gt-LONGEST_STREAM c =
 
 pub slice_bounds-open_setup-count : goal.slice_bounds-open_setup-count
 slice_bounds-open_setup-count c =
-    let within : (Within c.args.stream.now 0 c.in-Whole.from c.in-Whole.end) =
-    found_within _ _ _ _ (sym c.next_item-found.ensures ∙ c.in-Whole.is) in
-    within.in_order
+    (found_within _ _ _ _ (sym c.next_item-found.ensures ∙ c.in-Whole.is)).in_order
 
 pub slice_bounds-open_setup-start : goal.slice_bounds-open_setup-start
 slice_bounds-open_setup-start c =
-    let within : (Within c.args.stream.now 0 c.in-Whole.from c.in-Whole.end) =
-    found_within _ _ _ _ (sym c.next_item-found.ensures ∙ c.in-Whole.is) in
-    within.in_order
+    (found_within _ _ _ _ (sym c.next_item-found.ensures ∙ c.in-Whole.is)).in_order
 
 pub slice_bounds-open_setup-end : goal.slice_bounds-open_setup-end
 slice_bounds-open_setup-end c =
-    let within : (Within c.args.stream.now 0 c.in-Whole.from c.in-Whole.end) =
-    found_within _ _ _ _ (sym c.next_item-found.ensures ∙ c.in-Whole.is) in
-    within.in_stream
+    (found_within _ _ _ _ (sym c.next_item-found.ensures ∙ c.in-Whole.is)).in_stream
 
 pub returns-in-Whole : goal.returns-in-Whole
 returns-in-Whole c =

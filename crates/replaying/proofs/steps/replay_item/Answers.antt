@@ -2,27 +2,21 @@
 use mathlib.Core.Path.{refl, sym, ◌∙◌}
 use native.Mathlib.Omega.{arith}
 use Rattle.image.specs.Valid.{book_in}
-use Rattle.items.proofs.StreamLaws.{Within, found_within}
+use Rattle.items.proofs.StreamLaws.{found_within}
 use Rattle.replaying.proofs.StepLaws.{does_go_on, does_as, does_end, ended_not_on, one_line, no_line, step_whole, step_cut, step_end}
 use Rattle.replaying.proofs.steps.replay_item.Goals as goal
 
 pub slice_bounds-answer_item-count : goal.slice_bounds-answer_item-count
 slice_bounds-answer_item-count c =
-    let within : (Within c.args.stream.now c.args.at c.in-Whole.from c.in-Whole.end) =
-    found_within _ _ _ _ (sym c.next_item-found.ensures ∙ c.in-Whole.is) in
-    within.in_order
+    (found_within _ _ _ _ (sym c.next_item-found.ensures ∙ c.in-Whole.is)).in_order
 
 pub slice_bounds-answer_item-start : goal.slice_bounds-answer_item-start
 slice_bounds-answer_item-start c =
-    let within : (Within c.args.stream.now c.args.at c.in-Whole.from c.in-Whole.end) =
-    found_within _ _ _ _ (sym c.next_item-found.ensures ∙ c.in-Whole.is) in
-    within.in_order
+    (found_within _ _ _ _ (sym c.next_item-found.ensures ∙ c.in-Whole.is)).in_order
 
 pub slice_bounds-answer_item-end : goal.slice_bounds-answer_item-end
 slice_bounds-answer_item-end c =
-    let within : (Within c.args.stream.now c.args.at c.in-Whole.from c.in-Whole.end) =
-    found_within _ _ _ _ (sym c.next_item-found.ensures ∙ c.in-Whole.is) in
-    within.in_stream
+    (found_within _ _ _ _ (sym c.next_item-found.ensures ∙ c.in-Whole.is)).in_stream
 
 pub returns-in-Whole : goal.returns-in-Whole
 returns-in-Whole c =

@@ -1,13 +1,12 @@
 -- Each test of the code is that of a check, in the order of the checks.
-use Prim.Native.Nat.{◌+◌, ◌*◌, ◌≤◌}
+use Prim.Native.Nat.{◌+◌, ◌*◌}
 use mathlib.Core.Path.{◌≡◌, refl, sym, ap, ◌∙◌}
 use mathlib.Core.Option.{none, some}
-use mathlib.Core.Bool.{false}
 use native.Mathlib.Omega.{arith}
 use lib.ListN.{length}
 use borrow.Author.Tests.{not-true, not-false}
-use Rattle.rules.specs.Verdicts.{applies, checked}
-use Rattle.rules.specs.Requests.{kind_number, strip, head_length, row_length, strip_count, unreadable, map_check}
+use Rattle.rules.specs.Verdicts.{checked}
+use Rattle.rules.specs.Requests.{head_length, row_length, strip_count}
 use Rattle.rules.proofs.Checks.Clearing.{checked-same}
 use Rattle.strip_rows.proofs.StripLaws.{head_short, count_outside, fails_2, fails_4, fails_5, fails_21, rows_decide}
 use Rattle.strip_rows.proofs.record.strip_fault.Goals as goal
@@ -17,50 +16,37 @@ returns-then-no_map c = sym (ap checked (fails_2 c.args.bytes.now (sym c.no_map.
 
 pub map_fault-requires : goal.map_fault-requires
 map_fault-requires c =
-    let fine : unreadable c.args.bytes.now ≡ false =
-    sym c.no_map.ensures ∙ c.if-no_map.false in
-    (fine, refl)
+    (sym c.no_map.ensures ∙ c.if-no_map.false, refl)
 
 pub returns-in-Fails : goal.returns-in-Fails
 returns-in-Fails c =
-    let fine : unreadable c.args.bytes.now ≡ false =
-    sym c.no_map.ensures ∙ c.if-no_map.false in
+    let fine = sym c.no_map.ensures ∙ c.if-no_map.false in
     sym (ap checked (fails_4 c.args.bytes.now fine _ (checked-same _ (some _) (sym c.map_fault.ensures ∙ c.in-Fails.is))))
 
 pub returns-then-bytes-lt-HEAD_LENGTH : goal.returns-then-bytes-lt-HEAD_LENGTH
 returns-then-bytes-lt-HEAD_LENGTH c =
-    let fine : unreadable c.args.bytes.now ≡ false =
-    sym c.no_map.ensures ∙ c.if-no_map.false in
-    let mapped : applies (map_check (kind_number strip) c.args.bytes.now) ≡ none =
-    checked-same _ none (sym c.map_fault.ensures ∙ c.in_default.is) in
+    let fine = sym c.no_map.ensures ∙ c.if-no_map.false in
+    let mapped = checked-same _ none (sym c.map_fault.ensures ∙ c.in_default.is) in
     sym (ap checked (fails_5 c.args.bytes.now fine mapped (head_short c.args.bytes.now c.if-bytes-lt-HEAD_LENGTH.true)))
 
 pub overflow_mul-n : goal.overflow_mul-n
 overflow_mul-n c =
-    let few : c.row_count-n.result ≤ 255 =
-    omega (arith, c.row_count-n.ensures, c.type_inv.bytes 3) in
-    omega (arith, few)
+    omega (arith, c.row_count-n.ensures, c.type_inv.bytes 3)
 
 pub overflow_add-n : goal.overflow_add-n
 overflow_add-n c =
-    let few : c.row_count-n.result ≤ 255 =
-    omega (arith, c.row_count-n.ensures, c.type_inv.bytes 3) in
-    omega (arith, few)
+    omega (arith, c.row_count-n.ensures, c.type_inv.bytes 3)
 
 pub returns-then-bytes-n : goal.returns-then-bytes-n
 returns-then-bytes-n c =
-    let fine : unreadable c.args.bytes.now ≡ false =
-    sym c.no_map.ensures ∙ c.if-no_map.false in
-    let mapped : applies (map_check (kind_number strip) c.args.bytes.now) ≡ none =
-    checked-same _ none (sym c.map_fault.ensures ∙ c.in_default.is) in
+    let fine = sym c.no_map.ensures ∙ c.if-no_map.false in
+    let mapped = checked-same _ none (sym c.map_fault.ensures ∙ c.in_default.is) in
     sym (ap checked (fails_5 c.args.bytes.now fine mapped (rw c.row_count-n.ensures at c.if-bytes-n.true)))
 
 pub returns-then-n : goal.returns-then-n
 returns-then-n c =
-    let fine : unreadable c.args.bytes.now ≡ false =
-    sym c.no_map.ensures ∙ c.if-no_map.false in
-    let mapped : applies (map_check (kind_number strip) c.args.bytes.now) ≡ none =
-    checked-same _ none (sym c.map_fault.ensures ∙ c.in_default.is) in
+    let fine = sym c.no_map.ensures ∙ c.if-no_map.false in
+    let mapped = checked-same _ none (sym c.map_fault.ensures ∙ c.in_default.is) in
     let sized : length c.args.bytes.now
     ≡ head_length + row_length * strip_count c.args.bytes.now =
     rw (← c.row_count-n.ensures) c.if-bytes-n.false in
@@ -69,10 +55,8 @@ returns-then-n c =
 
 pub returns : goal.returns
 returns c =
-    let fine : unreadable c.args.bytes.now ≡ false =
-    sym c.no_map.ensures ∙ c.if-no_map.false in
-    let mapped : applies (map_check (kind_number strip) c.args.bytes.now) ≡ none =
-    checked-same _ none (sym c.map_fault.ensures ∙ c.in_default.is) in
+    let fine = sym c.no_map.ensures ∙ c.if-no_map.false in
+    let mapped = checked-same _ none (sym c.map_fault.ensures ∙ c.in_default.is) in
     let sized : length c.args.bytes.now
     ≡ head_length + row_length * strip_count c.args.bytes.now =
     rw (← c.row_count-n.ensures) c.if-bytes-n.false in

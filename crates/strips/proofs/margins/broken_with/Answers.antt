@@ -1,19 +1,15 @@
 -- The search over all hours is that over the hours that are left, whatever pending rows the table has beside those of the book.
-use mathlib.Core.Path.{◌≡◌, ◌∙◌, sym, ap}
-use mathlib.Core.Bool.{true, not}
-use mathlib.Core.List.{List, ◌++◌}
+use mathlib.Core.Path.{◌∙◌, sym, ap}
+use mathlib.Core.Bool.{not}
 use native.Mathlib.Omega.{arith}
 use Rattle.rules.specs.declared.Counts.{Counts}
-use Rattle.rules.specs.declared.Row.{Row}
-use Rattle.rules.specs.Basics.{Each}
-use Rattle.rules.specs.Registration.{pending}
 use Rattle.image.specs.Valid.{book_in}
-use Rattle.book.specs.Waits.{WaitsOf}
+use Rattle.book.specs.Members.{IsHour}
 use Rattle.book.proofs.StateLaws.{book_length}
 use Rattle.book.proofs.BookRows.{setup_tabled, counts_in_lem, margins_read, accounts_read, hours_few}
 use Rattle.registration.specs.Margins.{broken}
 use Rattle.registration.proofs.SearchLaws.{find_done, find_here, find_next}
-use Rattle.registration.proofs.MarginLaws.{breaks_with, broken_by_hours, breaks_with_tested}
+use Rattle.registration.proofs.MarginLaws.{broken_by_hours, breaks_with_tested}
 use Rattle.strips.proofs.margins.broken_with.Goals as goal
 
 pub counts-n-requires : goal.counts-n-requires
@@ -40,17 +36,14 @@ account_hour-held-requires c =
 
 pub loop-hour-preserved : goal.loop-hour-preserved
 loop-hour-preserved c =
-    let tested : (added : List Row) → Each (λ r. pending r ≡ true) added
-    → WaitsOf ((book_in c.args.book.now).part.rows ++ added) c.args.number c.args.waits.now
-    → breaks_with (book_in c.args.book.now).setup (book_in c.args.book.now).part.rows added c.args.number c.loop-hour.hour
-    ≡ not c.keeps_margins.result =
-    λ added waits w. let own = margins_read _ c.requires.0 _ c.args.number c.loop-hour.hour c.margins-own.ensures in
-    breaks_with_tested _ c.requires.0 added _ c.loop-hour.hour _ _ _ _ waits w (c.loop-hour.invariant.0, omega (arith, c.loop-hour.invariant.2)) own c.account_hour-held.ensures c.keeps_margins.ensures in (
+    let own = margins_read _ c.requires.0 _ c.args.number c.loop-hour.hour c.margins-own.ensures in
+    let hour : IsHour (book_in c.args.book.now) c.loop-hour.hour = (c.loop-hour.invariant.0, omega (arith, c.loop-hour.invariant.2)) in (
       omega arith,
       omega arith,
       c.loop-hour.invariant.2,
       c.loop-hour.invariant.3,
-      λ added waits w. c.loop-hour.invariant.4 added waits w ∙ find_next _ _ _ _ (omega arith) (tested added waits w ∙ ap not c.if-keeps_margins.true),
+      λ added waits w. let test = breaks_with_tested _ c.requires.0 added _ _ _ _ _ _ waits w hour own c.account_hour-held.ensures c.keeps_margins.ensures in
+          c.loop-hour.invariant.4 added waits w ∙ find_next _ _ _ _ (omega arith) (test ∙ ap not c.if-keeps_margins.true),
     )
 
 pub returns-then-n-hour : goal.returns-then-n-hour
@@ -58,10 +51,7 @@ returns-then-n-hour c added waits w = ap broken (sym (c.loop-hour.invariant.4 ad
 
 pub returns-else-keeps_margins : goal.returns-else-keeps_margins
 returns-else-keeps_margins c added waits w =
-    let tested : (added : List Row) → Each (λ r. pending r ≡ true) added
-    → WaitsOf ((book_in c.args.book.now).part.rows ++ added) c.args.number c.args.waits.now
-    → breaks_with (book_in c.args.book.now).setup (book_in c.args.book.now).part.rows added c.args.number c.loop-hour.hour
-    ≡ not c.keeps_margins.result =
-    λ added waits w. let own = margins_read _ c.requires.0 _ c.args.number c.loop-hour.hour c.margins-own.ensures in
-    breaks_with_tested _ c.requires.0 added _ c.loop-hour.hour _ _ _ _ waits w (c.loop-hour.invariant.0, omega (arith, c.loop-hour.invariant.2)) own c.account_hour-held.ensures c.keeps_margins.ensures in
-    ap broken (sym (c.loop-hour.invariant.4 added waits w ∙ find_here _ _ _ (omega arith) (tested added waits w ∙ ap not c.if-keeps_margins.false)))
+    let own = margins_read _ c.requires.0 _ c.args.number c.loop-hour.hour c.margins-own.ensures in
+    let hour : IsHour (book_in c.args.book.now) c.loop-hour.hour = (c.loop-hour.invariant.0, omega (arith, c.loop-hour.invariant.2)) in
+    let test = breaks_with_tested _ c.requires.0 added _ _ _ _ _ _ waits w hour own c.account_hour-held.ensures c.keeps_margins.ensures in
+    ap broken (sym (c.loop-hour.invariant.4 added waits w ∙ find_here _ _ _ (omega arith) (test ∙ ap not c.if-keeps_margins.false)))

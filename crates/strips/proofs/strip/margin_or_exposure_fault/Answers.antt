@@ -1,9 +1,6 @@
 -- The margins are tested first and then the exposure, both with every row in, as the refusals are ranked.
-use mathlib.Core.Path.{◌≡◌, sym, ◌∙◌}
-use Rattle.rules.specs.Registration.{broken_by}
-use Rattle.image.specs.Valid.{book_in}
-use Rattle.registration.specs.Margins.{broken}
-use Rattle.strips.specs.Ready.{strip_requests, proposed_rows, proposer}
+use mathlib.Core.Path.{sym, ◌∙◌}
+use Rattle.strips.specs.Ready.{strip_requests}
 use Rattle.wire.proofs.NumberLaws.{bytes_known}
 use Rattle.strips.proofs.ReadyLaws.{proposer_known, proposed-pending}
 use Rattle.strips.proofs.DecidingLaws.{margin_decides, covered_decides, uncovered_decides}
@@ -16,21 +13,18 @@ broken_with-requires c =
 
 pub returns-in-Hour : goal.returns-in-Hour
 returns-in-Hour c =
-    let searched : let b = book_in c.args.book.now in
-    c.broken_with.result ≡ broken (broken_by b.setup b.part.rows (proposed_rows c.args.bytes.now c.args.n) (proposer c.args.bytes.now c.args.n)) =
-    rw c.requires.known_book.2 at (c.broken_with.ensures (proposed_rows c.args.bytes.now c.args.n) (proposed-pending (strip_requests c.args.bytes.now c.args.n)) (rw c.requires.known_book.2 c.fill_all_waits.ensures)) in
+    let pending-rows = proposed-pending (strip_requests c.args.bytes.now c.args.n) in
+    let searched = (rw c.requires.known_book.2 at (c.broken_with.ensures _ pending-rows (rw c.requires.known_book.2 c.fill_all_waits.ensures))) in
     margin_decides _ _ c.requires.addable _ (sym c.in-Hour.is ∙ searched)
 
 pub returns-then-covered_with_strip : goal.returns-then-covered_with_strip
 returns-then-covered_with_strip c =
-    let searched : let b = book_in c.args.book.now in
-    c.broken_with.result ≡ broken (broken_by b.setup b.part.rows (proposed_rows c.args.bytes.now c.args.n) (proposer c.args.bytes.now c.args.n)) =
-    rw c.requires.known_book.2 at (c.broken_with.ensures (proposed_rows c.args.bytes.now c.args.n) (proposed-pending (strip_requests c.args.bytes.now c.args.n)) (rw c.requires.known_book.2 c.fill_all_waits.ensures)) in
+    let pending-rows = proposed-pending (strip_requests c.args.bytes.now c.args.n) in
+    let searched = (rw c.requires.known_book.2 at (c.broken_with.ensures _ pending-rows (rw c.requires.known_book.2 c.fill_all_waits.ensures))) in
     covered_decides _ _ c.requires.addable (sym c.in_default.is ∙ searched) _ (rw c.requires.known_book.2 at c.covered_with_strip.ensures) c.if-covered_with_strip.true
 
 pub returns : goal.returns
 returns c =
-    let searched : let b = book_in c.args.book.now in
-    c.broken_with.result ≡ broken (broken_by b.setup b.part.rows (proposed_rows c.args.bytes.now c.args.n) (proposer c.args.bytes.now c.args.n)) =
-    rw c.requires.known_book.2 at (c.broken_with.ensures (proposed_rows c.args.bytes.now c.args.n) (proposed-pending (strip_requests c.args.bytes.now c.args.n)) (rw c.requires.known_book.2 c.fill_all_waits.ensures)) in
+    let pending-rows = proposed-pending (strip_requests c.args.bytes.now c.args.n) in
+    let searched = (rw c.requires.known_book.2 at (c.broken_with.ensures _ pending-rows (rw c.requires.known_book.2 c.fill_all_waits.ensures))) in
     uncovered_decides _ _ c.requires.addable (sym c.in_default.is ∙ searched) _ (rw c.requires.known_book.2 at c.covered_with_strip.ensures) c.if-covered_with_strip.false

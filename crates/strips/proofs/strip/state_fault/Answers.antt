@@ -1,16 +1,11 @@
 -- The tests of a strip are made in rank, so that the first that fails is the refusal.
 use Prim.Native.Nat.{◌-◌}
-use mathlib.Core.Path.{◌≡◌, sym, ap, ◌∙◌}
+use mathlib.Core.Path.{sym, ◌∙◌}
 use native.Mathlib.Omega.{arith}
-use Rattle.rules.specs.declared.Request.{Request}
-use Rattle.rules.specs.Basics.{any_passes}
 use Rattle.rules.specs.Requests.{head_length}
-use Rattle.rules.specs.Registration.{has_twin}
-use Rattle.image.specs.Valid.{book_in}
-use Rattle.strip_rows.proofs.RowSteps.{first_register, first_request}
-use Rattle.strips.specs.Ready.{strip_requests, proposer}
+use Rattle.strip_rows.proofs.RowSteps.{first_register, first_proposer}
 use Rattle.strips.proofs.ReadyLaws.{requests_length}
-use Rattle.strips.proofs.StandingLaws.{standing_twin}
+use Rattle.strips.proofs.StandingLaws.{standing_found}
 use Rattle.strips.proofs.DecidingLaws.{later_decides, standing_decides, twins_decide, no_room_decides}
 use Rattle.strips.proofs.strip.state_fault.Goals as goal
 
@@ -26,13 +21,9 @@ any_is_alike-requires c = (c.requires.0, c.requires.1.is_strip.rows)
 
 pub returns-then-any_is_alike : goal.returns-then-any_is_alike
 returns-then-any_is_alike c =
-    let proposes : c.row_request-first.result.account ≡ proposer c.args.bytes.now c.args.n =
-    ap (λ (q : Request). q.account) (first_request _ head_length c.args.n (c.args.n - 1) (omega (arith, c.requires.1.is_strip.some_rows)) c.row_request-first.ensures) in
-    let stands : c.any_is_alike.result ≡ any_passes (has_twin (book_in c.args.book.now).part.rows) (strip_requests c.args.bytes.now c.args.n) =
-    (rw proposes at c.any_is_alike.ensures)
-    ∙ standing_twin (book_in c.args.book.now).part.rows (strip_requests c.args.bytes.now c.args.n) _ c.requires.1.one_proposer in
-    let in-phase : (book_in c.args.book.now).phase ≡ 1 =
-    sym c.phase.ensures ∙ c.if-phase-ne-REGISTRATION.false in
+    let proposes = first_proposer _ head_length c.args.n (c.args.n - 1) (omega (arith, c.requires.1.is_strip.some_rows)) c.row_request-first.ensures in
+    let stands = standing_found _ _ _ c.requires.1.one_proposer proposes c.any_is_alike.ensures in
+    let in-phase = sym c.phase.ensures ∙ c.if-phase-ne-REGISTRATION.false in
     standing_decides _ _ in-phase (sym stands ∙ c.if-any_is_alike.true)
 
 pub has_twins-requires : goal.has_twins-requires
@@ -40,36 +31,24 @@ has_twins-requires c = c.requires.1.is_strip.rows
 
 pub returns-then-has_twins : goal.returns-then-has_twins
 returns-then-has_twins c =
-    let proposes : c.row_request-first.result.account ≡ proposer c.args.bytes.now c.args.n =
-    ap (λ (q : Request). q.account) (first_request _ head_length c.args.n (c.args.n - 1) (omega (arith, c.requires.1.is_strip.some_rows)) c.row_request-first.ensures) in
-    let stands : c.any_is_alike.result ≡ any_passes (has_twin (book_in c.args.book.now).part.rows) (strip_requests c.args.bytes.now c.args.n) =
-    (rw proposes at c.any_is_alike.ensures)
-    ∙ standing_twin (book_in c.args.book.now).part.rows (strip_requests c.args.bytes.now c.args.n) _ c.requires.1.one_proposer in
-    let in-phase : (book_in c.args.book.now).phase ≡ 1 =
-    sym c.phase.ensures ∙ c.if-phase-ne-REGISTRATION.false in
+    let proposes = first_proposer _ head_length c.args.n (c.args.n - 1) (omega (arith, c.requires.1.is_strip.some_rows)) c.row_request-first.ensures in
+    let stands = standing_found _ _ _ c.requires.1.one_proposer proposes c.any_is_alike.ensures in
+    let in-phase = sym c.phase.ensures ∙ c.if-phase-ne-REGISTRATION.false in
     twins_decide _ _ in-phase (sym stands ∙ c.if-any_is_alike.false) (sym c.has_twins.ensures ∙ c.if-has_twins.true)
 
 pub returns-then-row_count-n-gt-MOST_ROWS : goal.returns-then-row_count-n-gt-MOST_ROWS
 returns-then-row_count-n-gt-MOST_ROWS c =
-    let proposes : c.row_request-first.result.account ≡ proposer c.args.bytes.now c.args.n =
-    ap (λ (q : Request). q.account) (first_request _ head_length c.args.n (c.args.n - 1) (omega (arith, c.requires.1.is_strip.some_rows)) c.row_request-first.ensures) in
-    let stands : c.any_is_alike.result ≡ any_passes (has_twin (book_in c.args.book.now).part.rows) (strip_requests c.args.bytes.now c.args.n) =
-    (rw proposes at c.any_is_alike.ensures)
-    ∙ standing_twin (book_in c.args.book.now).part.rows (strip_requests c.args.bytes.now c.args.n) _ c.requires.1.one_proposer in
-    let in-phase : (book_in c.args.book.now).phase ≡ 1 =
-    sym c.phase.ensures ∙ c.if-phase-ne-REGISTRATION.false in
+    let proposes = first_proposer _ head_length c.args.n (c.args.n - 1) (omega (arith, c.requires.1.is_strip.some_rows)) c.row_request-first.ensures in
+    let stands = standing_found _ _ _ c.requires.1.one_proposer proposes c.any_is_alike.ensures in
+    let in-phase = sym c.phase.ensures ∙ c.if-phase-ne-REGISTRATION.false in
     no_room_decides _ _ in-phase (sym stands ∙ c.if-any_is_alike.false) (sym c.has_twins.ensures ∙ c.if-has_twins.false)
     (omega (arith, c.row_count.ensures.meaning, requests_length c.args.bytes.now head_length c.args.n))
 
 pub margin_or_exposure_fault-requires : goal.margin_or_exposure_fault-requires
 margin_or_exposure_fault-requires c =
-    let proposes : c.row_request-first.result.account ≡ proposer c.args.bytes.now c.args.n =
-    ap (λ (q : Request). q.account) (first_request _ head_length c.args.n (c.args.n - 1) (omega (arith, c.requires.1.is_strip.some_rows)) c.row_request-first.ensures) in
-    let stands : c.any_is_alike.result ≡ any_passes (has_twin (book_in c.args.book.now).part.rows) (strip_requests c.args.bytes.now c.args.n) =
-    (rw proposes at c.any_is_alike.ensures)
-    ∙ standing_twin (book_in c.args.book.now).part.rows (strip_requests c.args.bytes.now c.args.n) _ c.requires.1.one_proposer in
-    let in-phase : (book_in c.args.book.now).phase ≡ 1 =
-    sym c.phase.ensures ∙ c.if-phase-ne-REGISTRATION.false in
+    let proposes = first_proposer _ head_length c.args.n (c.args.n - 1) (omega (arith, c.requires.1.is_strip.some_rows)) c.row_request-first.ensures in
+    let stands = standing_found _ _ _ c.requires.1.one_proposer proposes c.any_is_alike.ensures in
+    let in-phase = sym c.phase.ensures ∙ c.if-phase-ne-REGISTRATION.false in
     record {
       known_book = (c.requires.0, c.requires.1, proposes);
       addable = record {
