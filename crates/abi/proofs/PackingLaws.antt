@@ -3,8 +3,7 @@ use Prim.Native.Nat.{ℕ, ◌+◌, ◌*◌, ◌/◌, ◌%◌, ◌<◌}
 use mathlib.Core.Path.{◌≡◌, ap, ◌∙◌}
 use native.Mathlib.Omega.{arith}
 use mathlib.Core.List.{List}
-use Rattle.rules.specs.declared.Outcome.{Outcome}
-use Rattle.rules.specs.Verdicts.{Numbers, ReadOut, numbers}
+use Rattle.rules.specs.Verdicts.{Numbers, ReadOut, numbers, Verdict}
 use Rattle.rules.specs.Calls.{Answer, Gives}
 use Rattle.abi.specs.Packing.{packed, unpacked, Packs, GivesPacked}
 use Rattle.abi.specs.Lending.{lent_numbers, lent_into, Lends}
@@ -28,7 +27,7 @@ unfolding packed
 packs number first second x a b c e = record { one_number = ap packed e; says_again = apart number first second a b c ∙ e }
 
 -- an answer whose outcome is packed
-pub given-packed : (a : Answer (List ℕ)) (o : Outcome) (r : ℕ) (book results balances : List ℕ) → Gives a o book results balances → Packs (numbers o) r
+pub given-packed : (a : Answer (List ℕ)) (o : Verdict) (r : ℕ) (book results balances : List ℕ) → Gives a o book results balances → Packs (numbers o) r
     → GivesPacked a r book results balances
 given-packed a o r book results balances g p =
     record {
@@ -39,6 +38,6 @@ given-packed a o r book results balances g p =
     }
 
 -- a reading that is put into a buffer, with its outcome packed
-pub lends_packed : {A : Type 0} (say : A → List ℕ) (x : ReadOut A) (buffer : List ℕ) (o : Outcome) (r : ℕ) (left : List ℕ)
+pub lends_packed : {A : Type 0} (say : A → List ℕ) (x : ReadOut A) (buffer : List ℕ) (o : Verdict) (r : ℕ) (left : List ℕ)
     → numbers o ≡ lent_numbers say x buffer → left ≡ lent_into say x buffer → Packs (numbers o) r → Lends say x buffer r left
 lends_packed say x buffer o r left e l p = record { numbers_packed = rw e at p; buffer_left = l }

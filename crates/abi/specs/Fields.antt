@@ -4,10 +4,9 @@ use Rattle.std.specs.Prelude.{ℕ, List, length, eqb, if◌then◌else◌}
 use Rattle.wire.specs.Numbers.{number_at}
 use Rattle.wire.specs.Parts.{pack}
 use Rattle.units.specs.Units.{kwh, cents, cents_per_mwh}
-use Rattle.rules.specs.declared.Outcome.{Outcome}
 use Rattle.rules.specs.declared.Request.{Request}
 use Rattle.rules.specs.declared.Refusal.TheVariants.{WrongLength}
-use Rattle.rules.specs.Verdicts.{refused}
+use Rattle.rules.specs.Verdicts.{refused, Verdict}
 use Rattle.rules.specs.Requests.{widths, fields_of, write_outcome, written}
 
 -- the sum of the widths
@@ -38,7 +37,7 @@ request_in s =
     }
 
 -- the record writer on such bytes: 5 where they are not 34, else 3 and 10
-unfoldable pub fields_outcome : List ℕ → List ℕ → Outcome
+unfoldable pub fields_outcome : List ℕ → List ℕ → Verdict
 fields_outcome s buffer = if eqb (length s) fields_size then write_outcome (request_in s) buffer else refused WrongLength
 
 -- a refusal changes no byte of the buffer

@@ -14,14 +14,14 @@ ghost use Rattle.abi.specs.Fields.{request_bytes, fields_outcome, fields_written
 use crate::fields::{FIELDS_SIZE, request_in};
 use crate::lending::{lend_exposure, lend_net, lend_request};
 use crate::packing::pack;
-use rules::{Outcome, Refusal, Verdict};
+use rules::Refusal;
 
 // Opens a book from the bytes of a set-up.
 pub fn energy_book_open(setup: &[u8], book: &mut [u8]) -> u64
     ensures answer { Packs (numbers (open_outcome setup.now book.old)) result }
     ensures filled { book.new ≡ open_bytes setup.now book.old }
 {
-    pack(day::interface::open(setup, book))
+    pack(day::interface::open(setup, book).verdict)
 }
 
 // Whether bytes are a book.
@@ -43,7 +43,7 @@ pub fn energy_book_call(
         (call_on book.old bytes.now prices.now results.old balances.old)
         result book.new results.new balances.new }
 {
-    pack(day::calls::call(bytes, book, prices, results, balances))
+    pack(day::calls::call(bytes, book, prices, results, balances).verdict)
 }
 
 // The net position of an account in an hour, as a signed figure in the first 8 bytes of the buffer.
@@ -79,17 +79,15 @@ pub fn energy_book_read(bytes: &[u8], fields: &mut [u8]) -> u64
 }
 
 // The writer's answer to the request that the fields say, or 5 where they are not 34 bytes.
-fn write_fields(fields: &[u8], buffer: &mut [u8]) -> Outcome
+fn write_fields(fields: &[u8], buffer: &mut [u8]) -> Result<u16, Refusal>
     ensures answer { result ≡ fields_outcome fields.now buffer.old }
     ensures filled { buffer.new ≡ fields_written fields.now buffer.old }
 {
     if fields.len() != FIELDS_SIZE {
-        return Outcome {
-            verdict: Verdict::Refused(Refusal::WrongLength),
-        };
+        return Err(Refusal::WrongLength);
     }
     let request = request_in(fields);
-    day::interface::write(request, buffer)
+    day::interface::write(request, buffer).verdict
 }
 
 // Writes the record of the request that the fields say into the first bytes of the buffer.

@@ -8,25 +8,21 @@ ghost use Rattle.abi.specs.Fields.{request_bytes};
 ghost use Rattle.abi.specs.Lending.{lent_outcome, lent_bytes, lent_numbers, lent_into, net_bytes, exposure_bytes};
 
 use crate::fields::request_bytes;
-use rules::{ExposureReading, NetReading, Outcome, Position, Reading, Refusal, Verdict};
-use wire::numbers::u64_bytes;
+use rules::{Position, Refusal, Request};
+use units::MilliCents;
 use wire::regions::copy_in;
-use wire::signed::minus_u64;
+use wire::signed::SignedWord;
 
 // Fills the first bytes of the buffer, or refuses by 10.
-fn lend(said: &[u8], buffer: &mut [u8]) -> Outcome
+fn lend(said: &[u8], buffer: &mut [u8]) -> Result<u16, Refusal>
     ensures answer { result ≡ lent_outcome said.now buffer.old }
     ensures filled { buffer.new ≡ lent_bytes said.now buffer.old }
 {
     if buffer.len() < said.len() {
-        return Outcome {
-            verdict: Verdict::Refused(Refusal::BufferShort),
-        };
+        return Err(Refusal::BufferShort);
     }
     copy_in(buffer, 0, said);
-    Outcome {
-        verdict: Verdict::Accepted { number: 0 },
-    }
+    Ok(0)
 }
 
 // A position as a signed word.
@@ -35,54 +31,36 @@ fn position_word(p: Position) -> u64
 {
     match p {
         Position::Long(x) => x.0 as u64,
-        Position::Short(x) => minus_u64(x.0 as u64),
+        Position::Short(x) => (x.0 as u64).minus(),
     }
 }
 
 // A net position: 8 bytes, signed.
-pub fn lend_net(reading: NetReading, figure: &mut [u8]) -> Outcome
+pub fn lend_net(reading: Result<Position, Refusal>, figure: &mut [u8]) -> Result<u16, Refusal>
     ensures answer { numbers result ≡ lent_numbers net_bytes (net_read_out reading) figure.old }
     ensures filled { figure.new ≡ lent_into net_bytes (net_read_out reading) figure.old }
 {
-    match reading {
-        NetReading::Unread(r) => Outcome {
-            verdict: Verdict::Refused(r),
-        },
-        NetReading::Read(p) => {
-            let said = u64_bytes(position_word(p));
-            lend(&said, figure)
-        }
-    }
+    let position = reading?;
+    lend(&position_word(position).to_le_bytes(), figure)
 }
 
 // An exposure: 8 bytes.
-pub fn lend_exposure(reading: ExposureReading, figure: &mut [u8]) -> Outcome
+pub fn lend_exposure(
+    reading: Result<MilliCents, Refusal>,
+    figure: &mut [u8],
+) -> Result<u16, Refusal>
     ensures answer { numbers result ≡ lent_numbers exposure_bytes (exposure_read_out reading) figure.old }
     ensures filled { figure.new ≡ lent_into exposure_bytes (exposure_read_out reading) figure.old }
 {
-    match reading {
-        ExposureReading::Unread(r) => Outcome {
-            verdict: Verdict::Refused(r),
-        },
-        ExposureReading::Read(x) => {
-            let said = u64_bytes(x.0);
-            lend(&said, figure)
-        }
-    }
+    let exposure = reading?;
+    lend(&exposure.0.to_le_bytes(), figure)
 }
 
 // A request: its fields in 34 bytes.
-pub fn lend_request(reading: Reading, fields: &mut [u8]) -> Outcome
+pub fn lend_request(reading: Result<Request, Refusal>, fields: &mut [u8]) -> Result<u16, Refusal>
     ensures answer { numbers result ≡ lent_numbers request_bytes (request_read_out reading) fields.old }
     ensures filled { fields.new ≡ lent_into request_bytes (request_read_out reading) fields.old }
 {
-    match reading {
-        Reading::Unread(r) => Outcome {
-            verdict: Verdict::Refused(r),
-        },
-        Reading::Read(q) => {
-            let said = request_bytes(q);
-            lend(&said, fields)
-        }
-    }
+    let request = reading?;
+    lend(&request_bytes(request), fields)
 }

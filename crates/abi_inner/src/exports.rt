@@ -25,7 +25,7 @@ pub fn energy_book_call_in(
         result book.new results.new balances.new }
     ensures still { is_book book.new ≡ true }
 {
-    pack(day::calls::call_in(bytes, book, prices, results, balances))
+    pack(day::calls::call_in(bytes, book, prices, results, balances).verdict)
 }
 
 // As `energy_book_net`, on bytes that are known to be a book.

@@ -1,8 +1,8 @@
 -- What an ask answers and leaves, by what the register of its fields would be refused for.
+use Rattle.std.specs.Prelude.{None, Some}
 use Prim.Native.Nat.{ℕ, ◌+◌}
 use mathlib.Core.Path.{◌≡◌, refl, ◌∙◌}
 use mathlib.Core.List.{List}
-use mathlib.Core.Option.{none, some}
 use mathlib.Core.Bool.{true}
 use native.Mathlib.Omega.{arith}
 use lib.ListN.{length}
@@ -27,11 +27,11 @@ as_register_lem b q = refl
 
 module _ (s : List ℕ) (q : Request) (h : is_sound s ≡ true) where
   -- a refusal changes nothing
-  pub ask_refused : (r : Refusal) → decided register (book_in s) q ≡ some r → Answered ask s q (refused r) s
+  pub ask_refused : (r : Refusal) → decided register (book_in s) q ≡ Some r → Answered ask s q (refused r) s
   ask_refused r e = refused_answered ask s q h r (as_register_lem (book_in s) q ∙ e)
 
   -- an accepted one stands
-  pub ask_accepted : (t : List ℕ) (n : ℕ) → decided register (book_in s) q ≡ none → row_ok (book_in s).setup (proposed q) ≡ true
+  pub ask_accepted : (t : List ℕ) (n : ℕ) → decided register (book_in s) q ≡ None → row_ok (book_in s).setup (proposed q) ≡ true
       → n ≡ length (book_in s).part.rows → t ≡ book_bytes (apply (stand_ask (proposed q)) (book_in s)) → Answered ask s q (accepted (n + 1)) t
   unfolding given
   ask_accepted t n e row count w =

@@ -1,8 +1,8 @@
 -- What the state refuses a commit for, in a book: 11, then 23, and nothing else; and what an accepted one writes.
+use Rattle.std.specs.Prelude.{None, Some}
 use Prim.Native.Nat.{ℕ, ◌+◌, ◌≤◌, ◌<◌}
 use mathlib.Core.Path.{◌≡◌, refl, ap, ◌∙◌}
 use mathlib.Core.List.{List, [], ◌∷◌}
-use mathlib.Core.Option.{none, some}
 use mathlib.Core.Bool.{true, false}
 use native.Mathlib.Omega.{arith}
 use lib.ListN.{length}
@@ -38,22 +38,22 @@ asks_stand_lem s h = valid_stands (book_in s) (book_is_image most_hours book_siz
 
 module _ (b : Book) (q : Request) (stand : asks_stand b ≡ true) (counts : q.account ≤ most_accounts) where
   -- nothing else refuses it where its ask stands
-  pub commit_clear : stands_with (proposed q) (ask_at b q.account) ≡ true → decided commit b q ≡ none
+  pub commit_clear : stands_with (proposed q) (ask_at b q.account) ≡ true → decided commit b q ≡ None
   unfolding decided
   commit_clear asked = commit_passes b q stand counts asked
 
   -- refusal 23: no such ask stands
-  pub no_standing_ask : b.phase ≡ 1 → stands_with (proposed q) (ask_at b q.account) ≡ false → decided commit b q ≡ some NoStandingAsk
+  pub no_standing_ask : b.phase ≡ 1 → stands_with (proposed q) (ask_at b q.account) ≡ false → decided commit b q ≡ Some NoStandingAsk
   unfolding decided first_to_apply
   no_standing_ask first e = commit_decided b q stand counts ∙ rw (first, e)
 
 -- an accepted row has a number
-pub few_rows : (b : Book) (q : Request) → decided commit b q ≡ none → length b.part.rows < most_rows
+pub few_rows : (b : Book) (q : Request) → decided commit b q ≡ None → length b.part.rows < most_rows
 few_rows b q d = omega (arith, passed_15 b (q ∷ []) commit refl (decided_clear commit b q d))
 
 -- the row is all that is written
 pub committed_answered : (s t : List ℕ) (h : is_sound s ≡ true) (q : Request) (n : ℕ) → Ready commit (book_in s) q
-    → decided commit (book_in s) q ≡ none → n ≡ length (book_in s).part.rows → n < most_rows
+    → decided commit (book_in s) q ≡ None → n ≡ length (book_in s).part.rows → n < most_rows
     → t ≡ row_appended s n (proposed q)
     → Answered commit s q (accepted (n + 1)) t
 unfolding given

@@ -1,19 +1,16 @@
 -- What the place of an account holds, an ask put there, and all places cleared: each is a piece of the image.
+use Rattle.std.specs.Prelude.{Some}
 use Prim.Native.Nat.{ℕ, ◌-◌, ◌≤◌}
-use mathlib.Core.Path.{◌≡◌, refl, sym, ap, ◌∙◌}
+use mathlib.Core.Path.{◌≡◌, ap, ◌∙◌}
 use mathlib.Core.List.{List}
-use mathlib.Core.Option.{some}
-use mathlib.Core.Bool.{Bool, true, false, ◌&&◌}
+use mathlib.Core.Bool.{true}
 use native.Mathlib.Omega.{arith}
 use lib.ListN.{take, drop}
-use lib.Dec.{eqb}
-use borrow.Author.Tests.{eqb-true}
 use Rattle.wire.specs.Regions.{splice}
 use Rattle.wire.specs.Parts.{zeros}
 use Rattle.rules.specs.declared.Row.{Row}
 use Rattle.rules.specs.Limits.{most_accounts, most_hours, book_size}
 use Rattle.rules.specs.Books.{Book, with_asks, ask_at, no_asks}
-use Rattle.rules.specs.Registration.{pending, same_terms, stands_with}
 use Rattle.rules.specs.Calls.{apply, stand_ask}
 use Rattle.image.specs.Layout.{row_width, asks_offset, asks_size, ask_offset}
 use Rattle.image.specs.Image.{row_bytes, ask_bytes, row_in, ask_in}
@@ -34,29 +31,18 @@ module _ (s : List ℕ) (h : is_sound s ≡ true) where
 
   -- the ask of an account is what the row in its place says
   pub ask_in_place : (a at : ℕ) (r : Row) → 1 ≤ a → a ≤ most_accounts → at ≡ ask_offset most_hours a → r ≡ row_in (take row_width (drop at s))
-      → ask_at here a ≡ asked_for r
+      → asked_for r ≡ ask_at here a
   unfolding ask_in
   ask_in_place a at r low high e w =
       let k = book_is_sound s h in
       let held : take row_width (drop at s) ≡ ask_bytes (ask_at here a) =
       ap (λ (t : List ℕ). take row_width (drop at t)) (book_image s h)
       ∙ ask_read most_hours book_size here (book_fits s h) a at low (omega (arith, k.asks_all)) e in
-      sym (ask_back here.setup k.setup_sound a (ask_at here a) (k.asks_sound a low high)) ∙ ap ask_in (sym held) ∙ ap asked_for (sym w)
+      ap asked_for w ∙ ap ask_in held ∙ ask_back here.setup k.setup_sound a (ask_at here a) (k.asks_sound a low high)
 
   -- an ask that stands is pending
-  pub asked_pending : (a : ℕ) (r : Row) → 1 ≤ a → a ≤ most_accounts → ask_at here a ≡ some r → AskRow here.setup a r
+  pub asked_pending : (a : ℕ) (r : Row) → 1 ≤ a → a ≤ most_accounts → ask_at here a ≡ Some r → AskRow here.setup a r
   asked_pending a r low high e = rw e at ((book_is_sound s h).asks_sound a low high)
-
-  -- whether an ask stands with the terms of a row
-  pub stands_tested : (row r : Row) → 1 ≤ row.proposer → row.proposer ≤ most_accounts → ask_at here row.proposer ≡ asked_for r
-      → (pending r && same_terms r row) ≡ stands_with row (ask_at here row.proposer)
-  stands_tested row r low high e = go (eqb r.status 0) refl
-    where
-      go : (t : Bool) → eqb r.status 0 ≡ t → (pending r && same_terms r row) ≡ stands_with row (ask_at here row.proposer)
-      go true z = rw (e, z, eqb-true r.status 0 z)
-      go false z =
-          let there : ask_at here row.proposer ≡ some r = e ∙ rw z in
-          rw (there, (asked_pending row.proposer r low high there).waits)
 
   -- the proposer of a row in range has a place
   pub proposer_placed : (row : Row) → row_ok here.setup row ≡ true → (1 ≤ row.proposer) × (row.proposer ≤ most_accounts)

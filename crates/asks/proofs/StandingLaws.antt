@@ -1,13 +1,13 @@
 -- The asks of a book tested one by one: a place without an ask passes, and an ask where register would accept its row.
+use Rattle.std.specs.Prelude.{Option, None, Some}
 use Prim.Native.Nat.{ℕ, ◌+◌, ◌≤◌, ◌<◌}
 use mathlib.Core.Path.{◌≡◌, refl, sym, ap, ◌∙◌}
 use mathlib.Core.List.{List, [], ◌∷◌, ◌++◌}
-use mathlib.Core.Option.{Option, none, some}
 use mathlib.Core.Bool.{Bool, true, false, not}
 use native.Mathlib.Omega.{arith}
 use lib.ListN.{length, take, drop, length-drop, take-append-drop}
 use lib.Seq.{drop-drop, length-take-le}
-use borrow.Author.Tests.{eqb-true, eq-eqb, ne_eqb, not-true, not-false}
+use borrow.Author.Tests.{eqb-true, not-true, not-false}
 use Rattle.wire.specs.Regions.{zeros_from, splice}
 use Rattle.wire.specs.Parts.{zeros}
 use Rattle.wire.proofs.RegionLaws.{splice_take_drop}
@@ -34,7 +34,6 @@ use Rattle.book.proofs.Answers.{in_wrong_phase}
 use Rattle.registration.specs.Proposing.{Proposing}
 use Rattle.registration.specs.Cover.{covered_with_row}
 use Rattle.registration.proofs.RegisterLaws.{no_number_left, margin_breaks, row_uncovered, covered_with_row_lem}
-use Rattle.image.specs.Image.{asked_for}
 use Rattle.asks.specs.Standing.{some_ask_twin}
 use Rattle.asks.proofs.PlaceLaws.{asked_pending, cleared_written}
 use Rattle.asks.proofs.TwinLaws.{none_twin}
@@ -61,63 +60,55 @@ module _ (s : List ℕ) (h : is_sound s ≡ true) where
       one_book most_hours book_size b (with_asks b no_asks) (book_ok_lem s h) (book_sound _ (cleared_sound b (book_is_sound s h))) (sym (book_image s h) ∙ none_written) in
       ap asks_stand same ∙ cleared_stands b
 
-  module _ (a : ℕ) (r : Row) (low : 1 ≤ a) (high : a ≤ most_accounts) (held : ask_at (book_in s) a ≡ asked_for r) where
-    -- a place without an ask passes
-    pub none_stands : r.status ≡ 0 → true ≡ ask_stands (book_in s) (ask_at (book_in s) a)
-    none_stands e = rw (held, eq-eqb r.status 0 e)
+  module _ (a : ℕ) (r : Row) (low : 1 ≤ a) (high : a ≤ most_accounts) (there : ask_at (book_in s) a ≡ Some r) where
+    -- its row is a pending one of the book
+    pub ask_row : AskRow (book_in s).setup a r
+    ask_row = asked_pending s h a r low high there
 
-    module _ (other : r.status ≡ 0 → ⊥) where
-      there : ask_at (book_in s) a ≡ some r
-      there = held ∙ rw (ne_eqb r.status 0 other)
+    pub ask_in_range : row_ok (book_in s).setup r ≡ true
+    ask_in_range = row_sound (book_in s).setup r ask_row.row_sound
 
-      -- its row is a pending one of the book
-      pub ask_row : AskRow (book_in s).setup a r
-      ask_row = asked_pending s h a r low high there
+    -- and the one that its register proposes
+    proposes_it : proposed (register_of r) ≡ r
+    proposes_it = ap (λ (n : ℕ). with_status n r) (sym (eqb-true r.status 1 ask_row.waits))
 
-      pub ask_in_range : row_ok (book_in s).setup r ≡ true
-      ask_in_range = row_sound (book_in s).setup r ask_row.row_sound
+    -- register would accept it, or not
+    passes : decided register (book_in s) (register_of r) ≡ None → true ≡ ask_stands (book_in s) (ask_at (book_in s) a)
+    unfolding decided would_register
+    passes e = rw there (sym (ap (λ (o : Option Refusal). not (is_some o)) e))
 
-      -- and the one that its register proposes
-      proposes_it : proposed (register_of r) ≡ r
-      proposes_it = ap (λ (n : ℕ). with_status n r) (sym (eqb-true r.status 1 ask_row.waits))
+    falls : (why : Refusal) → decided register (book_in s) (register_of r) ≡ Some why → false ≡ ask_stands (book_in s) (ask_at (book_in s) a)
+    unfolding decided would_register
+    falls why e = rw there (sym (ap (λ (o : Option Refusal). not (is_some o)) e))
 
-      -- register would accept it, or not
-      passes : decided register (book_in s) (register_of r) ≡ none → true ≡ ask_stands (book_in s) (ask_at (book_in s) a)
-      unfolding decided would_register
-      passes e = rw there (sym (ap (λ (o : Option Refusal). not (is_some o)) e))
+    -- past the phase of registration register would refuse it
+    pub later_falls : ((book_in s).phase ≡ 1 → ⊥) → false ≡ ask_stands (book_in s) (ask_at (book_in s) a)
+    later_falls n = falls _ (in_wrong_phase (book_in s) (register_of r) register n)
 
-      falls : (why : Refusal) → decided register (book_in s) (register_of r) ≡ some why → false ≡ ask_stands (book_in s) (ask_at (book_in s) a)
-      unfolding decided would_register
-      falls why e = rw there (sym (ap (λ (o : Option Refusal). not (is_some o)) e))
+    module _ (alone : some_ask_twin (book_in s) ≡ false) (first : (book_in s).phase ≡ 1) where
+      no_twin : any_passes (alike r.proposer r.counterparty r.code) (book_in s).part.rows ≡ false
+      no_twin = none_twin (book_in s) alone r (ap (ask_at (book_in s)) ask_row.own ∙ there)
 
-      -- past the phase of registration register would refuse it
-      pub later_falls : ((book_in s).phase ≡ 1 → ⊥) → false ≡ ask_stands (book_in s) (ask_at (book_in s) a)
-      later_falls n = falls _ (in_wrong_phase (book_in s) (register_of r) register n)
+      -- and where no number is left
+      pub full_falls : most_rows ≤ length (book_in s).part.rows → false ≡ ask_stands (book_in s) (ask_at (book_in s) a)
+      full_falls full = falls _ (no_number_left (book_in s) (register_of r) first no_twin full)
 
-      module _ (alone : some_ask_twin (book_in s) ≡ false) (first : (book_in s).phase ≡ 1) where
-        no_twin : any_passes (alike r.proposer r.counterparty r.code) (book_in s).part.rows ≡ false
-        no_twin = none_twin (book_in s) alone r (ap (ask_at (book_in s)) ask_row.own ∙ there)
+      module _ (room : length (book_in s).part.rows < most_rows) where
+        proposing_it : Proposing (book_in s) (register_of r)
+        proposing_it =
+            record { proposes = rw proposes_it ask_in_range; in_registration = first; no_twin = no_twin; has_room = room }
 
-        -- and where no number is left
-        pub full_falls : most_rows ≤ length (book_in s).part.rows → false ≡ ask_stands (book_in s) (ask_at (book_in s) a)
-        full_falls full = falls _ (no_number_left (book_in s) (register_of r) first no_twin full)
+        -- and where it breaks a margin
+        pub broken_falls : not (is_some (broken_by (book_in s).setup (book_in s).part.rows (r ∷ []) r.proposer)) ≡ false
+            → false ≡ ask_stands (book_in s) (ask_at (book_in s) a)
+        broken_falls e =
+            let (hour, found) = some_of (broken_by (book_in s).setup (book_in s).part.rows (r ∷ []) r.proposer) (not-false _ e) in
+            falls _ (margin_breaks (book_in s) (register_of r) proposing_it hour (rw proposes_it found))
 
-        module _ (room : length (book_in s).part.rows < most_rows) where
-          proposing_it : Proposing (book_in s) (register_of r)
-          proposing_it =
-              record { proposes = rw proposes_it ask_in_range; in_registration = first; no_twin = no_twin; has_room = room }
-
-          -- and where it breaks a margin
-          pub broken_falls : not (is_some (broken_by (book_in s).setup (book_in s).part.rows (r ∷ []) r.proposer)) ≡ false
-              → false ≡ ask_stands (book_in s) (ask_at (book_in s) a)
-          broken_falls e =
-              let (hour, found) = some_of (broken_by (book_in s).setup (book_in s).part.rows (r ∷ []) r.proposer) (not-false _ e) in
-              falls _ (margin_breaks (book_in s) (register_of r) proposing_it hour (rw proposes_it found))
-
-          -- else the guarantee decides
-          pub covered_decides : not (is_some (broken_by (book_in s).setup (book_in s).part.rows (r ∷ []) r.proposer)) ≡ true → (t : Bool)
-              → t ≡ covered_with_row (book_in s) r (operator_of (book_in s).setup r.proposer) → t ≡ ask_stands (book_in s) (ask_at (book_in s) a)
-          covered_decides kept true test =
-              passes (covered_with_row_lem (book_in s) (register_of r) proposing_it (rw proposes_it (none_of _ (not-true _ kept))) true (rw proposes_it test) refl)
-          covered_decides kept false test =
-              falls _ (row_uncovered (book_in s) (register_of r) proposing_it (rw proposes_it (none_of _ (not-true _ kept))) false (rw proposes_it test) refl)
+        -- else the guarantee decides
+        pub covered_decides : not (is_some (broken_by (book_in s).setup (book_in s).part.rows (r ∷ []) r.proposer)) ≡ true → (t : Bool)
+            → t ≡ covered_with_row (book_in s) r (operator_of (book_in s).setup r.proposer) → t ≡ ask_stands (book_in s) (ask_at (book_in s) a)
+        covered_decides kept true test =
+            passes (covered_with_row_lem (book_in s) (register_of r) proposing_it (rw proposes_it (none_of _ (not-true _ kept))) true (rw proposes_it test) refl)
+        covered_decides kept false test =
+            falls _ (row_uncovered (book_in s) (register_of r) proposing_it (rw proposes_it (none_of _ (not-true _ kept))) false (rw proposes_it test) refl)

@@ -1,12 +1,12 @@
 -- Rows beside the asks of their proposers: which is a twin, and what that says of the asks.
+use Rattle.std.specs.Prelude.{Option, None, Some}
 use Prim.Native.Nat.{ℕ, ◌≤◌, ◌<◌}
 use mathlib.Core.Path.{◌≡◌, refl, sym, ap, ◌∙◌}
 use mathlib.Core.List.{List, [], ◌∷◌}
-use mathlib.Core.Option.{Option, none, some}
 use mathlib.Core.Bool.{Bool, true, false, not, ◌&&◌}
 use lib.ListN.{length, get_or}
 use lib.Dec.{eqb}
-use borrow.Author.Tests.{eqb-true, eq-eqb, not-true}
+use borrow.Author.Tests.{eq-eqb, not-true}
 use Rattle.rules.specs.declared.Row.{Row}
 use Rattle.rules.specs.Basics.{any_passes, Each}
 use Rattle.rules.specs.Limits.{most_accounts}
@@ -22,33 +22,30 @@ use Rattle.rules.proofs.Rows.RowTests.{alike_true}
 use Rattle.image.specs.Valid.{is_sound, book_in}
 use Rattle.image.proofs.Sound.Soundness.{every_up_to}
 use Rattle.book.proofs.BookRows.{rows_tabled}
-use Rattle.image.specs.Image.{asked_for}
 use Rattle.asks.specs.Standing.{twin_of, is_ask_twin, some_ask_twin}
 use Rattle.asks.proofs.PlaceLaws.{asked_pending}
 
--- a row beside what is in its proposer's place
-pub twin_tested : (s : List ℕ) → is_sound s ≡ true → (r x : Row) → 1 ≤ r.proposer → r.proposer ≤ most_accounts
-    → ask_at (book_in s) r.proposer ≡ asked_for x
-    → (pending x && pending r && eqb r.counterparty x.counterparty && eqb r.code x.code) ≡ is_ask_twin (book_in s) r
+-- a row beside the ask of its proposer
+pub twin_tested : (s : List ℕ) → is_sound s ≡ true → (r x : Row) → 1 ≤ r.proposer → r.proposer ≤ most_accounts → ask_at (book_in s) r.proposer ≡ Some x
+    → (pending r && eqb r.counterparty x.counterparty && eqb r.code x.code) ≡ is_ask_twin (book_in s) r
 unfolding is_ask_twin alike
-twin_tested s h r x low high e = go (eqb x.status 0) refl
+twin_tested s h r x low high there =
+    let k = asked_pending s h r.proposer x low high there in
+    rw (there, eq-eqb r.proposer x.proposer (sym k.own)) (own (pending r))
   where
-    go : (t : Bool) → eqb x.status 0 ≡ t
-        → (pending x && pending r && eqb r.counterparty x.counterparty && eqb r.code x.code) ≡ is_ask_twin (book_in s) r
-    go true z = rw (e, z, eqb-true x.status 0 z)
-    go false z =
-        let there : ask_at (book_in s) r.proposer ≡ some x = e ∙ rw z in
-        let k = asked_pending s h r.proposer x low high there in
-        rw (there, k.waits, eq-eqb r.proposer x.proposer (sym k.own)) (own (pending r))
-      where
-        own : (t : Bool) → (t && eqb r.counterparty x.counterparty && eqb r.code x.code)
-            ≡ (t && true && eqb r.counterparty x.counterparty && eqb r.code x.code)
-        own true = refl
-        own false = refl
+    own : (t : Bool) → (t && eqb r.counterparty x.counterparty && eqb r.code x.code)
+        ≡ (t && true && eqb r.counterparty x.counterparty && eqb r.code x.code)
+    own true = refl
+    own false = refl
+
+-- without one it is no twin
+pub none_asked : (b : Book) (r : Row) → ask_at b r.proposer ≡ None → false ≡ is_ask_twin b r
+unfolding is_ask_twin
+none_asked b r e = rw e
 
 module _ (b : Book) where
   -- where no row is a twin of its proposer's ask, an ask has none
-  pub none_twin : some_ask_twin b ≡ false → (x : Row) → ask_at b x.proposer ≡ some x
+  pub none_twin : some_ask_twin b ≡ false → (x : Row) → ask_at b x.proposer ≡ Some x
       → any_passes (alike x.proposer x.counterparty x.code) b.part.rows ≡ false
   unfolding is_ask_twin
   none_twin e x held = none_any _ (each_map (λ r f. go r (alike x.proposer x.counterparty x.code r) refl f) (any_none _ _ e))
@@ -63,7 +60,7 @@ module _ (b : Book) where
 
   -- where every ask stands, none has one
   module _ (stand : asks_stand b ≡ true) where
-    free_of_twins : (a : ℕ) (x : Row) → 1 ≤ a → a ≤ most_accounts → ask_at b a ≡ some x
+    free_of_twins : (a : ℕ) (x : Row) → 1 ≤ a → a ≤ most_accounts → ask_at b a ≡ Some x
         → any_passes (has_twin b.part.rows) (register_of x ∷ []) ≡ false
     unfolding asks_stand would_register
     free_of_twins a x low high e =
@@ -76,8 +73,8 @@ module _ (b : Book) where
     not_twin r low high i e inside = go (ask_at b r.proposer) refl
       where
         go : (o : Option Row) → ask_at b r.proposer ≡ o → is_ask_twin b r ≡ false
-        go none held = rw held
-        go (some x) held =
+        go None held = rw held
+        go (Some x) held =
             let alone = (first_and_rest (any_none _ _ (free_of_twins r.proposer x low high held))).0 in
             rw held (rw e (each_at no_row i (any_none _ b.part.rows alone) inside))
 

@@ -1,6 +1,5 @@
 -- What tells whether register would accept the asks that stand (document 02, note 4): the twins among the rows, and sums that all asks share.
-use Rattle.std.specs.Prelude.{ℕ, ◌+◌, ◌≤◌, ◌≡◌, List, Bool, false, length, get_or}
-use Rattle.std.proofs.Math.Option.{Option, none, some}
+use Rattle.std.specs.Prelude.{ℕ, ◌+◌, ◌≤◌, ◌≡◌, List, Bool, false, length, get_or, Option, None, Some}
 use Rattle.rules.specs.declared.Row.{Row}
 use Rattle.rules.specs.Basics.{any_passes}
 use Rattle.rules.specs.Limits.{most_operators, most_hours}
@@ -12,8 +11,8 @@ use Rattle.tables.specs.Sums.{SumsOf}
 
 -- the row is a twin of the ask, if one stands
 abbrev pub twin_of : Option Row → Row → Bool
-twin_of none r = false
-twin_of (some x) r = alike x.proposer x.counterparty x.code r
+twin_of None r = false
+twin_of (Some x) r = alike x.proposer x.counterparty x.code r
 
 -- the row is a twin of its proposer's ask
 unfoldable pub is_ask_twin : Book → Row → Bool

@@ -8,43 +8,37 @@ ghost use Rattle.book.specs.Kinds.{decided, outcome_on, book_after, Ready};
 use crate::places::stands;
 use book::state::{phase, row_count};
 use registration::register::{append_row, proposed_row};
-use rules::phases::REGISTRATION;
-use rules::{Checked, Outcome, Refusal, Request, Verdict};
+use rules::phases::Phase;
+use rules::{Refusal, Request};
 
 // What commit is refused for.
-fn commit_fault(book: &[u8], request: Request) -> Checked
+fn commit_fault(book: &[u8], request: Request) -> Result<(), Refusal>
     requires known_book { is_book book.now ≡ true }
     requires ready { Ready commit (book_in book.now) request }
     ensures { result ≡ checked (decided commit (book_in book.now) request) }
 {
-    if phase(book) != REGISTRATION {
-        return Checked::Fails(Refusal::WrongPhase);
+    if phase(book) != Phase::Registration {
+        return Err(Refusal::WrongPhase);
     }
     let row = proposed_row(request);
     // In a book register would accept each ask that stands.
     if stands(book, row) {
-        return Checked::Clear;
+        return Ok(());
     }
-    Checked::Fails(Refusal::NoStandingAsk)
+    Err(Refusal::NoStandingAsk)
 }
 
 // Kind 13: the row that was asked for is pending under the next number.
-pub fn commit(book: &mut [u8], request: Request) -> Outcome
+pub fn commit(book: &mut [u8], request: Request) -> Result<u16, Refusal>
     requires known_book { is_book book.old ≡ true }
     requires ready { Ready commit (book_in book.old) request }
     ensures answer { result ≡ outcome_on commit (book_in book.old) request }
     ensures bytes { book.new ≡ book_bytes (book_after commit (book_in book.old) request) }
     ensures still { is_sound book.new ≡ true }
 {
-    if let Checked::Fails(r) = commit_fault(book, request) {
-        return Outcome {
-            verdict: Verdict::Refused(r),
-        };
-    }
+    commit_fault(book, request)?;
     let n = row_count(book);
     let row = proposed_row(request);
     append_row(book, n, row);
-    Outcome {
-        verdict: Verdict::Accepted { number: n + 1 },
-    }
+    Ok(n + 1)
 }

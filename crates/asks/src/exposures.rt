@@ -19,11 +19,9 @@ fn fill_exposures(exposures: &mut [u64], book: &[u8], table: &[u32])
     ensures { OperatorExposures (book_in book.now) exposures.new }
 {
     let n = counts(book);
-    let mut number: u8 = 1;
-    while number <= n.operators {
+    for number in 1..=n.operators {
         let owed = exposure_of(book, table, PERIODS, number);
         exposures[number as usize] = owed.0;
-        number = number + 1;
     }
 }
 

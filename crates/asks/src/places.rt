@@ -5,20 +5,22 @@ ghost use Rattle.rules.specs.Books.{with_asks, ask_at, no_asks};
 ghost use Rattle.rules.specs.Registration.{stands_with};
 ghost use Rattle.rules.specs.Calls.{apply, stand_ask};
 ghost use Rattle.image.specs.Valid.{is_sound, is_book, book_in, book_bytes, row_ok};
-ghost use Rattle.image.specs.Image.{asked_for};
 
 use image::layout::{ASKS_OFFSET, ASKS_SIZE};
 use image::rows::{ask_offset, row_at, row_bytes, same_terms};
 use rules::Row;
-use rules::statuses::PENDING;
 use wire::regions::{clear_at, copy_in};
 
-// The row in the place of an account: its status is 0 where no ask stands.
-pub fn asked_row(book: &[u8], number: u8) -> Row
+// The row that is asked for by an account, if an ask of it stands.
+pub fn asked_row(book: &[u8], number: u8) -> Option<Row>
     requires { (is_sound book.now ≡ true) × (1 ≤ number) × (number ≤ most_accounts) }
-    ensures { ask_at (book_in book.now) number ≡ asked_for result }
+    ensures { result ≡ ask_at (book_in book.now) number }
 {
-    row_at(book, ask_offset(number))
+    let row = row_at(book, ask_offset(number));
+    if row.status == 0 {
+        return None;
+    }
+    Some(row)
 }
 
 // Whether an ask with the terms of the row stands for its proposer.
@@ -26,8 +28,10 @@ pub fn stands(book: &[u8], row: Row) -> bool
     requires { (is_sound book.now ≡ true) × (1 ≤ row.proposer) × (row.proposer ≤ most_accounts) }
     ensures { result ≡ stands_with row (ask_at (book_in book.now) row.proposer) }
 {
-    let asked = asked_row(book, row.proposer);
-    (asked.status == PENDING) & same_terms(asked, row)
+    let Some(asked) = asked_row(book, row.proposer) else {
+        return false;
+    };
+    same_terms(asked, row)
 }
 
 // The row stands as the ask of its proposer, in place of an earlier one.

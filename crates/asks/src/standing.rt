@@ -21,7 +21,7 @@ use registration::cover::covered_in_force;
 use rules::Row;
 use rules::hours::keeps_margins;
 use rules::limits::{MOST_ACCOUNTS, PERIODS};
-use rules::phases::REGISTRATION;
+use rules::phases::Phase;
 use setup::entries::margins;
 use tables::sums::account_hour;
 use units::MilliCents;
@@ -36,14 +36,11 @@ fn keeps_margins_with(book: &[u8], table: &[u32], row: Row) -> bool
         result ≡ not (is_some (broken_by b.setup b.part.rows (row ∷ []) row.proposer)) }
 {
     let account = row.proposer;
-    let mut hour: u8 = row.first;
-    while hour <= row.last {
+    for hour in row.first..=row.last {
         let own = margins(book, account, hour);
         let before = account_hour(table, PERIODS, account, hour);
         let after = before.after_trade(row, account, hour);
-        if keeps_margins(own, after) {
-            hour = hour + 1;
-        } else {
+        if !keeps_margins(own, after) {
             return false;
         }
     }
@@ -59,7 +56,7 @@ fn covered_with(book: &[u8], exposures: &[u64], sums: &[u64], operators: &[u8], 
     let operator = operator_of(book, row.proposer);
     let standing = MilliCents(exposures[operator as usize]);
     let added = sale_of(book, sums, operators, operator, row);
-    covered_in_force(book, standing.plus(added), operator)
+    covered_in_force(book, standing + added, operator)
 }
 
 // Whether register would accept the ask of an account, if one stands. No row is a twin of an ask.
@@ -75,11 +72,10 @@ fn ask_stands(
     requires known_book { (some_ask_twin (book_in book.now) ≡ false) × (1 ≤ number) × (number ≤ most_accounts) }
     ensures { let b = book_in book.now in result ≡ ask_stands b (ask_at b number) }
 {
-    let row = asked_row(book, number);
-    if row.status == 0 {
+    let Some(row) = asked_row(book, number) else {
         return true;
-    }
-    if phase(book) != REGISTRATION {
+    };
+    if phase(book) != Phase::Registration {
         return false;
     }
     if MOST_ROWS <= row_count(book) as usize {
@@ -100,11 +96,8 @@ fn each_stands(book: &[u8], table: &[u32]) -> bool
     let exposures = operator_exposures(book, table);
     let sums = price_sums(book);
     let operators = account_operators(book);
-    let mut number: u8 = 1;
-    while number <= MOST_ACCOUNTS {
-        if ask_stands(book, table, &exposures, &sums, &operators, number) {
-            number = number + 1;
-        } else {
+    for number in 1..=MOST_ACCOUNTS {
+        if !ask_stands(book, table, &exposures, &sums, &operators, number) {
             return false;
         }
     }

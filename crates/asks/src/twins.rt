@@ -15,11 +15,10 @@ fn is_ask_twin(book: &[u8], number: u16) -> bool
     ensures { let b = book_in book.now in result ≡ is_ask_twin b (numbered_row b number) }
 {
     let row = row_at(book, row_offset(number));
-    let asked = asked_row(book, row.proposer);
-    (asked.status == PENDING)
-        & (row.status == PENDING)
-        & (row.counterparty == asked.counterparty)
-        & (row.code == asked.code)
+    let Some(asked) = asked_row(book, row.proposer) else {
+        return false;
+    };
+    (row.status == PENDING) & (row.counterparty == asked.counterparty) & (row.code == asked.code)
 }
 
 // Whether some row of the book is.
@@ -27,13 +26,9 @@ pub fn any_ask_twin(book: &[u8]) -> bool
     requires { is_sound book.now ≡ true }
     ensures { result ≡ some_ask_twin (book_in book.now) }
 {
-    let rows = row_count(book);
     let mut found = false;
-    let mut number: u16 = 1;
-    while number <= rows {
-        let here = is_ask_twin(book, number);
-        found = found | here;
-        number = number + 1;
+    for number in 1..=row_count(book) {
+        found |= is_ask_twin(book, number);
     }
     found
 }

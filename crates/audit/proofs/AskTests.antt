@@ -1,9 +1,9 @@
 -- The asks' section is that of its image exactly where each place has an ask or zeros. As code tests them, the places pass exactly where
 -- that is so and each ask is in range. Where the whole section is zero, they pass.
+use Rattle.std.specs.Prelude.{Option, None, Some}
 use Prim.Native.Nat.{ℕ, suc, ◌+◌, ◌-◌, ◌*◌, ◌≤◌, ◌<◌}
 use mathlib.Core.Path.{◌≡◌, refl, sym, ap, ◌∙◌}
 use mathlib.Core.List.{List, [], ◌∷◌, map, append-nil}
-use mathlib.Core.Option.{Option, none, some}
 use mathlib.Core.Bool.{Bool, true, false, ◌&&◌, and-true}
 use native.Mathlib.Omega.{arith}
 use lib.ListN.{length, get_or, take, drop, replicate, length-map, length-drop, get_or-replicate}
@@ -69,8 +69,8 @@ module _ (s : List ℕ) (at : ℕ) where
   place_exact l e = go (ask_in place) refl
     where
       go : (o : Option Row) → ask_in place ≡ o → ask_exact s at ≡ true
-      go none f = rw f (zeros_tested row_width s at l (sym e ∙ ap ask_bytes f))
-      go (some r) f = rw f
+      go None f = rw f (zeros_tested row_width s at l (sym e ∙ ap ask_bytes f))
+      go (Some r) f = rw f
 
   exact_place : Bytes s → at + row_width ≤ length s → ask_exact s at ≡ true → ask_bytes (ask_in place) ≡ place
   unfolding ask_in
@@ -106,11 +106,11 @@ module _ (top : ℕ) (s : List ℕ) where
   asks_count : length asks ≡ most_accounts
   asks_count = length-map places ask_in ∙ length-chunks row_width most_accounts room
 
-  ask_there : (a : ℕ) → 1 ≤ a → a ≤ most_accounts → nth asks a none ≡ ask_in (place s (ask_offset top a))
+  ask_there : (a : ℕ) → 1 ≤ a → a ≤ most_accounts → nth asks a None ≡ ask_in (place s (ask_offset top a))
   unfolding entries
   ask_there a low high =
-      ap (λ (cs : List (List ℕ)). nth (map ask_in cs) a none) (chunks_front row_width most_accounts asks_size (drop (asks_offset top) s) (omega arith))
-      ∙ nth_entry row_width ask_in most_accounts a (asks_offset top) s none low high
+      ap (λ (cs : List (List ℕ)). nth (map ask_in cs) a None) (chunks_front row_width most_accounts asks_size (drop (asks_offset top) s) (omega arith))
+      ∙ nth_entry row_width ask_in most_accounts a (asks_offset top) s None low high
 
   place_there : (i : ℕ) → i < most_accounts → get_or places i [] ≡ place s (asks_offset top + row_width * i)
   place_there i h = chunk_at row_width most_accounts room i h ∙ inner row_width (row_width * i) asks_size (asks_offset top) s (omega arith)
@@ -119,7 +119,7 @@ module _ (top : ℕ) (s : List ℕ) where
   pub asks_valid_lem : asks_ok (setup_of s) asks ≡ true → asks_exact top s ≡ true → asks_valid top s ≡ true
   unfolding asks_exact asks_valid
   asks_valid_lem h t =
-      let w = (and_both (eqb (length asks) most_accounts) (every (λ a. ask_ok (setup_of s) a (nth asks a none)) (up_to most_accounts))).0 h in
+      let w = (and_both (eqb (length asks) most_accounts) (every (λ a. ask_ok (setup_of s) a (nth asks a None)) (up_to most_accounts))).0 h in
       up_to_every _ most_accounts (λ a low high.
       place_valid s (ask_offset top a) a
       ∙ (and_both _ _).1 (rw (ask_there a low high) at (every_up_to _ most_accounts w.1 a low high), every_up_to _ most_accounts t a low high))
@@ -129,7 +129,7 @@ module _ (top : ℕ) (s : List ℕ) where
   valid_asks h =
       let both : (a : ℕ) → 1 ≤ a → a ≤ most_accounts → (ask_ok (setup_of s) a (ask_in (place s (ask_offset top a))) ≡ true) × (ask_exact s (ask_offset top a) ≡ true) =
       λ a low high. (and_both _ _).0 (sym (place_valid s (ask_offset top a) a) ∙ every_up_to _ most_accounts h a low high) in (
-        (and_both (eqb (length asks) most_accounts) (every (λ a. ask_ok (setup_of s) a (nth asks a none)) (up_to most_accounts))).1
+        (and_both (eqb (length asks) most_accounts) (every (λ a. ask_ok (setup_of s) a (nth asks a None)) (up_to most_accounts))).1
             (eq-eqb _ _ asks_count, up_to_every _ most_accounts (λ a low high. rw (ask_there a low high) (both a low high).0)),
         up_to_every _ most_accounts (λ a low high. (both a low high).1),
       )

@@ -1,20 +1,23 @@
--- The tests of a row and of a schedule as code joins them, from the left, by the counts of a set-up; and a loop that tests entry after
--- entry.
-use Prim.Native.Nat.{ℕ, ◌+◌, ◌^◌, ◌≤◌, ◌<◌}
-use mathlib.Core.Path.{◌≡◌, ◌∙◌}
-use mathlib.Core.Bool.{Bool, not, ◌&&◌}
+-- The tests of a row and of a schedule as code joins them, from the left, by the counts of a set-up; and a test of every number below n,
+-- as one of entries side by side is.
+use Prim.Native.Nat.{ℕ, zero, suc, ◌+◌, ◌*◌, ◌^◌, ◌≤◌, ◌<◌}
+use mathlib.Core.Path.{◌≡◌, sym, ◌∙◌}
+use mathlib.Core.Bool.{Bool, not, ◌&&◌, and_assoc, and-true}
 use mathlib.Core.List.{List, [], ◌∷◌}
+use native.Mathlib.Nat.{mul-add}
+use native.Mathlib.Numerals.{add-one}
+use native.Mathlib.Omega.{arith}
 use lib.ListN.{take, drop}
 use lib.Dec.{eqb, leb}
 use borrow.Author.Tests.{lt-ltb}
 use Rattle.rules.specs.declared.Row.{Row}
 use Rattle.rules.specs.declared.Schedule.{Schedule}
-use Rattle.rules.specs.Basics.{all_of, every, within}
+use Rattle.rules.specs.Basics.{all_of, every, within, counting}
 use Rattle.rules.specs.Limits.{most_energy, most_price}
 use Rattle.rules.specs.Books.{Setup, account_count, point_count, periods}
 use Rattle.rules.proofs.Basics.Tests.{chained, chained_all}
 use Rattle.image.specs.Valid.{row_ok, schedule_ok}
-use Rattle.image.proofs.Reading.RowsFrom.{cells_from, every_done, every_step}
+use Rattle.image.proofs.Reading.RowsFrom.{cells_from, from_done, from_step}
 
 -- the tests of a row but its first, and but that of its code
 abbrev pub row_rest : ℕ → ℕ → Row → List Bool
@@ -44,19 +47,29 @@ pub schedule_by_counts : (u : Setup) (x : Schedule) (points hours : ℕ) → poi
 unfolding schedule_ok all_of
 schedule_by_counts u x points hours p h = chained_all (within 1 x.point points) (schedule_rest hours x) ∙ rw (p, h)
 
--- ---- a loop that tests entry after entry
+-- ---- a test of every number below n
 
--- the test of all entries is what was tested so far, with the test of the n entries that are left from k on
-pub record TestsLeft {A : Type 0} (read : List ℕ → A) (w : ℕ) (test : A → Bool) (s : List ℕ) (all ok : Bool) (k n : ℕ) : Type 0 where
-  pub together : all ≡ (ok && every test (cells_from read w s k n))
+module _ (p : ℕ → Bool) where
+  -- none is left
+  pub passed_all : (ok : Bool) (n from : ℕ) → n ≤ 0 → (ok && every p (counting n from)) ≡ ok
+  unfolding every counting
+  passed_all ok zero from h = and-true ok
+  passed_all ok (suc n) from h = absurd (omega arith)
 
-module _ {A : Type 0} {read : List ℕ → A} {w : ℕ} {test : A → Bool} {s : List ℕ} {all ok : Bool} {k n : ℕ} (left : TestsLeft read w test s all ok k n)
-  where
-    -- the first that is left is tested
-    pub tested_next : (m : ℕ) {x : A} {t : Bool} → n ≡ m + 1 → x ≡ read (take w (drop k s)) → t ≡ test x
-        → TestsLeft read w test s all (ok && t) (k + w) m
-    tested_next m e found said = record { together = every_step read w ok test s k n m e found said left.together }
+  -- and one more is tested
+  pub passed_next : (ok t : Bool) (n m from : ℕ) → n ≡ m + 1 → t ≡ p from
+      → (ok && every p (counting n from)) ≡ ((ok && t) && every p (counting m (from + 1)))
+  unfolding every counting
+  passed_next ok t n m from e d = rw (e, add-one m, add-one from, d) (sym (and_assoc ok _ _))
 
-    -- none is left
-    pub tested_all : n ≤ 0 → ok ≡ all
-    tested_all h = every_done read w ok test s k n h left.together
+-- a test of entries side by side is one of their numbers
+module _ {A : Type 0} (read : List ℕ → A) (w : ℕ) (test : A → Bool) (s : List ℕ) (at : ℕ) where
+  tests_from : (n k : ℕ) → every test (cells_from read w s (at + w * k) n) ≡ every (λ i. test (read (take w (drop (at + w * i) s)))) (counting n k)
+  unfolding every counting
+  tests_from zero k = rw (from_done read w s (at + w * k) 0 (omega arith))
+  tests_from (suc n) k =
+      let next : at + w * k + w ≡ at + w * (k + 1) = omega (arith, mul-add w k 1) in
+      rw (from_step read w s (at + w * k) (suc n) n (omega arith), next, tests_from n (k + 1), add-one k)
+
+  pub tests_by_number : (n : ℕ) → every test (cells_from read w s at n) ≡ every (λ i. test (read (take w (drop (at + w * i) s)))) (counting n 0)
+  tests_by_number n = let e : at + w * 0 ≡ at = omega arith in rw e at (tests_from n 0)

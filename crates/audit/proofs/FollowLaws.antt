@@ -1,12 +1,14 @@
 -- Saved rows followed by present ones, row by row as both stand in bytes.
-use Prim.Native.Nat.{ℕ, ◌+◌, ◌≤◌, ◌<◌}
-use mathlib.Core.Path.{◌≡◌, refl, sym}
-use mathlib.Core.Bool.{Bool, false, ◌&&◌, ◌||◌, and_assoc, and-true, and-false}
+use Prim.Native.Nat.{ℕ, zero, suc, ◌+◌, ◌*◌, ◌≤◌, ◌<◌}
+use mathlib.Core.Path.{◌≡◌, refl}
+use mathlib.Core.Bool.{Bool, false, ◌&&◌, ◌||◌, and-false}
 use mathlib.Core.List.{List, [], ◌∷◌}
+use native.Mathlib.Numerals.{add-one}
 use native.Mathlib.Omega.{arith}
 use lib.ListN.{length, take, drop}
 use lib.Dec.{eqb}
 use Rattle.rules.specs.declared.Row.{Row}
+use Rattle.rules.specs.Basics.{every, counting}
 use Rattle.rules.specs.Registration.{pending, same_terms}
 use Rattle.image.specs.Image.{row_in}
 use Rattle.image.specs.Valid.{follows}
@@ -28,12 +30,27 @@ follows-more (x ∷ xs) (y ∷ ys) h = rw (follows-more xs ys (omega arith)) (an
 pub follows_short : (s : List ℕ) (i k n q : ℕ) → q < n → follows (rows_from s i n) (rows_from s k q) ≡ false
 follows_short s i k n q h = follows-more _ _ (rw (length_rows s k q, length_rows s i n) h)
 
-pub follows_done : (ok : Bool) (s : List ℕ) (i n : ℕ) (ys : List Row) → n ≤ 0 → (ok && follows (rows_from s i n) ys) ≡ ok
-unfolding follows
-follows_done ok s i n ys h = rw (rows_done s i n h) (and-true ok)
+-- no more saved rows than present ones: each is compared with the present one of its number
+module _ (s : List ℕ) (from at : ℕ) where
+  row_of : ℕ → ℕ → Row
+  row_of start i = row_in (take row_width (drop (start + row_width * i) s))
 
-pub follows-step : (ok : Bool) (s : List ℕ) (i k n q n' q' : ℕ) → n ≡ n' + 1 → q ≡ q' + 1
-    → (ok && follows (rows_from s i n) (rows_from s k q))
-    ≡ ((ok && row_follows (row_in (take row_width (drop i s))) (row_in (take row_width (drop k s)))) && follows (rows_from s (i + row_width) n') (rows_from s (k + row_width) q'))
-unfolding follows
-follows-step ok s i k n q n' q' d e = rw (rows_step s i n n' d, rows_step s k q q' e) (sym (and_assoc ok _ _))
+  next : (start k : ℕ) → start + row_width * k + row_width ≡ start + row_width * (k + 1)
+  next start k = omega arith
+
+  follows_from : (m n k : ℕ) → m ≤ n
+      → follows (rows_from s (from + row_width * k) m) (rows_from s (at + row_width * k) n) ≡ every (λ i. row_follows (row_of from i) (row_of at i)) (counting m k)
+  unfolding follows every counting row_of
+  follows_from zero n k h = rw (rows_done s (from + row_width * k) 0 (omega arith))
+  follows_from (suc m) zero k h = absurd (omega arith)
+  follows_from (suc m) (suc n) k h =
+      rw (rows_step s (from + row_width * k) (suc m) m (omega arith), rows_step s (at + row_width * k) (suc n) n (omega arith), next from k, next at k, follows_from m n (k + 1) (omega arith), add-one k)
+
+  pub follows_by_number : (m n : ℕ) → m ≤ n
+      → follows (rows_from s from m) (rows_from s at n)
+      ≡ every (λ i. row_follows (row_in (take row_width (drop (from + row_width * i) s))) (row_in (take row_width (drop (at + row_width * i) s)))) (counting m 0)
+  unfolding row_of
+  follows_by_number m n h =
+      let e : from + row_width * 0 ≡ from = omega arith in
+      let d : at + row_width * 0 ≡ at = omega arith in
+      rw (e, d) at (follows_from m n 0 h)

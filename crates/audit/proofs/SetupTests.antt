@@ -1,10 +1,10 @@
 -- The set-up's section of a book is that of its image exactly where it passes its tests: zeros past the set-up, and no guarantee in it;
 -- and then the set-up is sound exactly where opening would accept its bytes.
+use Rattle.std.specs.Prelude.{None}
 use Prim.Native.Nat.{ℕ, zero, suc, ◌+◌, ◌-◌, ◌*◌, ◌≤◌}
 use mathlib.Core.Path.{◌≡◌, refl, sym, ap, ◌∙◌}
 use mathlib.Core.Logic.{◌↔◌}
 use mathlib.Core.List.{List, ◌∷◌, map}
-use mathlib.Core.Option.{none}
 use mathlib.Core.Bool.{true, ◌&&◌}
 use native.Mathlib.Nat.{zero-add}
 use native.Mathlib.Omega.{arith}
@@ -140,7 +140,7 @@ module _ (s : List ℕ) (b : Bytes s) (l : setup_room ≤ length s) where
   again h =
       sym (ap (λ (c : Counts). take (setup_length c) (take setup_room s)) (counts_first_bytes setup_room s (omega arith)) ∙ take-take (setup_length (counts_in s)) setup_room s h)
 
-  pub setup_sound_in : setup_refusal whole ≡ none → setup_ok (setup_of (take setup_room s)) ≡ true
+  pub setup_sound_in : setup_refusal whole ≡ None → setup_ok (setup_of (take setup_room s)) ≡ true
   setup_sound_in h =
       let k = sound_setup (setup_of whole) (accepted_sound whole h) in
       let e = ap setup_length (counts_of_setup whole ∙ counts_first_bytes (setup_length (counts_in s)) s (omega arith)) in
@@ -148,7 +148,7 @@ module _ (s : List ℕ) (b : Bytes s) (l : setup_room ≤ length s) where
       front_sound (take setup_room s) (ap setup_refusal (sym (again short)) ∙ h)
 
   pub setup_accepted_in : no_guarantees s (operators_offset (counts_in s)) (counts_in s).operators ≡ true → setup_ok (setup_of (take setup_room s)) ≡ true
-      → setup_refusal whole ≡ none
+      → setup_refusal whole ≡ None
   setup_accepted_in g h =
       let k = sound_setup (setup_of (take setup_room s)) h in
       let short = inside s b l k in

@@ -9,8 +9,7 @@ use native.Mathlib.Omega.{arith}
 use lib.ListN.{length, get_or, set, take, drop}
 use lib.Seq.{get_or-set_same, get_or-set_other}
 use lib.Dec.{ltb, eqb}
-use borrow.Author.Count.{below_more}
-use borrow.Author.Tests.{ltb-true, ltb-false, eqb-true, eqb-false, eq-eqb, ne_eqb}
+use borrow.Author.Tests.{ltb-true, ltb-false, eqb-true, eqb-false, eq-eqb}
 use Rattle.wire.specs.Numbers.{Bytes}
 use Rattle.wire.proofs.NumberLaws.{number_at_small}
 use Rattle.rules.specs.declared.Row.{Row}
@@ -24,110 +23,87 @@ use Rattle.image.specs.Cells.{rows_from}
 use Rattle.image.specs.Layout.{row_width}
 use Rattle.image.proofs.Reading.RowBytes.{row_at}
 use Rattle.image.proofs.Reading.RowsFrom.{rows_done, rows_step}
-use Rattle.audit.specs.Twins.{pair_of, mark_of, key_among, keys_apart, Keyed}
+use Rattle.audit.specs.declared.twins.Key.{Key}
+use Rattle.audit.specs.declared.twins.Keys.{Keys}
+use Rattle.audit.specs.Twins.{pair_of, key_of, key_at, mark_of, same_key, key_among, keys_apart, Keyed}
 
 -- ---- the loops over keys
 
-pub among_done : (found : Bool) (codes pairs : List ℕ) (code pair k n : ℕ) → n ≤ 0 → (found || key_among codes pairs code pair k n) ≡ found
+pub among_done : (found : Bool) (keys : Keys) (x : Key) (k n : ℕ) → n ≤ 0 → (found || key_among keys x k n) ≡ found
 unfolding key_among
-among_done true codes pairs code pair k n h = refl
-among_done false codes pairs code pair k zero h = refl
-among_done false codes pairs code pair k (suc n) h = absurd (omega arith)
+among_done true keys x k n h = refl
+among_done false keys x k zero h = refl
+among_done false keys x k (suc n) h = absurd (omega arith)
 
-pub among_step : (found : Bool) (codes pairs : List ℕ) (code pair k n m : ℕ) → n ≡ m + 1
-    → (found || key_among codes pairs code pair k n)
-    ≡ ((found || (eqb (get_or codes k 0) code && eqb (get_or pairs k 0) pair)) || key_among codes pairs code pair (k + 1) m)
+pub among_step : (found : Bool) (keys : Keys) (x : Key) (k n m : ℕ) → n ≡ m + 1
+    → (found || key_among keys x k n) ≡ ((found || same_key (key_at keys k) x) || key_among keys x (k + 1) m)
 unfolding key_among
-among_step found codes pairs code pair k n m e = rw (e, add-one m) (sym (or_assoc found _ _))
+among_step found keys x k n m e = rw (e, add-one m) (sym (or_assoc found _ _))
 
-pub apart_done : (codes pairs : List ℕ) (k n : ℕ) → n ≤ 0 → keys_apart codes pairs k n ≡ true
+pub apart_done : (keys : Keys) (k n : ℕ) → n ≤ 0 → keys_apart keys k n ≡ true
 unfolding keys_apart
-apart_done codes pairs k zero h = refl
-apart_done codes pairs k (suc n) h = absurd (omega arith)
+apart_done keys k zero h = refl
+apart_done keys k (suc n) h = absurd (omega arith)
 
 -- the key at k is among those after it
-pub apart_found : (codes pairs : List ℕ) (k n m : ℕ) → n ≡ m + 1
-    → key_among codes pairs (get_or codes k 0) (get_or pairs k 0) (k + 1) m ≡ true → keys_apart codes pairs k n ≡ false
+pub apart_found : (keys : Keys) (k n m : ℕ) → n ≡ m + 1 → key_among keys (key_at keys k) (k + 1) m ≡ true → keys_apart keys k n ≡ false
 unfolding keys_apart
-apart_found codes pairs k n m e h = rw (e, add-one m, keys_apart, h)
+apart_found keys k n m e h = rw (e, add-one m, keys_apart, h)
 
 -- and where it is not, those after it are left
-pub apart_next : (codes pairs : List ℕ) (k n m : ℕ) → n ≡ m + 1
-    → key_among codes pairs (get_or codes k 0) (get_or pairs k 0) (k + 1) m ≡ false → keys_apart codes pairs k n ≡ keys_apart codes pairs (k + 1) m
+pub apart_next : (keys : Keys) (k n m : ℕ) → n ≡ m + 1 → key_among keys (key_at keys k) (k + 1) m ≡ false
+    → keys_apart keys k n ≡ keys_apart keys (k + 1) m
 unfolding keys_apart
-apart_next codes pairs k n m e h = rw (e, add-one m, keys_apart, h)
+apart_next keys k n m e h = rw (e, add-one m, keys_apart, h)
 
 -- two among the last are two among all
-pub apart_before : (codes pairs : List ℕ) (j k m : ℕ) → keys_apart codes pairs (k + j) m ≡ false → keys_apart codes pairs k (j + m) ≡ false
+pub apart_before : (keys : Keys) (j k m : ℕ) → keys_apart keys (k + j) m ≡ false → keys_apart keys k (j + m) ≡ false
 unfolding keys_apart
-apart_before codes pairs zero k m h = rw (zero-add m, ← add-zero k) h
-apart_before codes pairs (suc j) k m h =
+apart_before keys zero k m h = rw (zero-add m, ← add-zero k) h
+apart_before keys (suc j) k m h =
     let e : k + suc j ≡ k + 1 + j = omega arith in
-    rw (suc-add, keys_apart, apart_before codes pairs j (k + 1) m (rw e at h), and-false)
+    rw (suc-add, keys_apart, apart_before keys j (k + 1) m (rw e at h), and-false)
 
 -- ---- marks
 
 -- the keys from i on, before n, have each left a 1 at their mark
-pub record Marked (codes pairs : List ℕ) (i n : ℕ) (seen : List ℕ) : Type 0 where
-  pub mark_at : (k : ℕ) → i ≤ k → k < n → get_or seen (mark_of (get_or codes k 0) (get_or pairs k 0)) 0 ≡ 1
+pub record Marked (keys : Keys) (i n : ℕ) (seen : List ℕ) : Type 0 where
+  pub mark_at : (k : ℕ) → i ≤ k → k < n → get_or seen (mark_of (key_at keys k)) 0 ≡ 1
 
-pub none_marked : (codes pairs : List ℕ) (n : ℕ) (seen : List ℕ) → Marked codes pairs n n seen
-none_marked codes pairs n seen = record { mark_at = λ k l b. absurd (omega arith) }
+pub none_marked : (keys : Keys) (n : ℕ) (seen : List ℕ) → Marked keys n n seen
+none_marked keys n seen = record { mark_at = λ k l b. absurd (omega arith) }
 
 -- a 1 is put at the mark of the key at i
-pub mark-more : (codes pairs : List ℕ) (i j n : ℕ) (seen : List ℕ) (m : ℕ) → j ≡ i + 1 → m ≡ mark_of (get_or codes i 0) (get_or pairs i 0)
-    → m < length seen → Marked codes pairs j n seen → Marked codes pairs i n (set seen m 1)
-mark-more codes pairs i j n seen m y e l h = record { mark_at = λ k a b. go k a b (ltb i k) refl (eqb (at k) m) refl }
+pub mark-more : (keys : Keys) (i j n : ℕ) (seen : List ℕ) (m : ℕ) → j ≡ i + 1 → m ≡ mark_of (key_at keys i)
+    → m < length seen → Marked keys j n seen → Marked keys i n (set seen m 1)
+mark-more keys i j n seen m y e l h = record { mark_at = λ k a b. go k a b (ltb i k) refl (eqb (at k) m) refl }
   where
     at : ℕ → ℕ
-    at k = mark_of (get_or codes k 0) (get_or pairs k 0)
+    at k = mark_of (key_at keys k)
 
     go : (k : ℕ) → i ≤ k → k < n → (t : Bool) → ltb i k ≡ t → (u : Bool) → eqb (at k) m ≡ u → get_or (set seen m 1) (at k) 0 ≡ 1
     go k a b t f true g = rw (eqb-true (at k) m g) (get_or-set_same seen m 1 0 l)
     go k a b true f false g = get_or-set_other seen m (at k) 1 0 (eqb-false _ _ g) ∙ h.mark_at k (omega (arith, ltb-true i k f)) b
     go k a b false f false g = let d : i ≡ k = omega (arith, ltb-false i k f) in absurd (eqb-false _ _ g (sym (rw d at e)))
 
+-- keys that are the same have the same mark
+same_mark : (x y : Key) → same_key x y ≡ true → mark_of x ≡ mark_of y
+unfolding mark_of
+same_mark x y e =
+    let w = (and_both (eqb x.code y.code) (eqb x.pair y.pair)).0 e in rw (eqb-true x.code y.code w.0, eqb-true x.pair y.pair w.1)
+
 -- where 0 stands at a key's mark, it is not among those that have left one
-pub unmarked : (codes pairs : List ℕ) (i n : ℕ) (seen : List ℕ) (code pair : ℕ) → Marked codes pairs i n seen → get_or seen (mark_of code pair) 0 ≡ 0
-    → (k m : ℕ) → i ≤ k → k + m ≡ n → key_among codes pairs code pair k m ≡ false
+pub unmarked : (keys : Keys) (i n : ℕ) (seen : List ℕ) (x : Key) → Marked keys i n seen → get_or seen (mark_of x) 0 ≡ 0
+    → (k m : ℕ) → i ≤ k → k + m ≡ n → key_among keys x k m ≡ false
 unfolding key_among
-unmarked codes pairs i n seen code pair h z k zero a e = refl
-unmarked codes pairs i n seen code pair h z k (suc m) a e =
-    (or_neither _ _).1 (other _ refl, unmarked codes pairs i n seen code pair h z (k + 1) m (omega arith) (omega arith))
+unmarked keys i n seen x h z k zero a e = refl
+unmarked keys i n seen x h z k (suc m) a e =
+    (or_neither _ _).1 (other _ refl, unmarked keys i n seen x h z (k + 1) m (omega arith) (omega arith))
   where
-    other : (t : Bool) → (eqb (get_or codes k 0) code && eqb (get_or pairs k 0) pair) ≡ t → t ≡ false
+    other : (t : Bool) → same_key (key_at keys k) x ≡ t → t ≡ false
     other false f = refl
     other true f =
-        let w = (and_both (eqb (get_or codes k 0) code) (eqb (get_or pairs k 0) pair)).0 f in
-        let o : get_or seen (mark_of code pair) 0 ≡ 1 = rw (eqb-true (get_or codes k 0) code w.0, eqb-true (get_or pairs k 0) pair w.1) at (h.mark_at k a (omega arith)) in
-        absurd (omega arith)
-
--- ---- keys filled in
-
-pub pair_pending : (i : ℕ) (r : Row) → r.status ≡ 1 → r.proposer * 256 + r.counterparty ≡ pair_of i r
-pair_pending i r e = rw e
-
-pub pair_other : (i : ℕ) (r : Row) → (r.status ≡ 1 → ⊥) → 65536 + i ≡ pair_of i r
-pair_other i r e = rw (ne_eqb r.status 1 e)
-
-pub no_keys : (s : List ℕ) (at : ℕ) (codes pairs : List ℕ) → Keyed s at 0 codes pairs
-no_keys s at codes pairs = record { code_at = λ k h. absurd (omega arith); pair_at = λ k h. absurd (omega arith) }
-
--- what stands at each place below i, and what is put at i, stands at each place below i + 1
-filled : (f : ℕ → ℕ) (xs : List ℕ) (i v : ℕ) → i < length xs → v ≡ f i → ((k : ℕ) → k < i → get_or xs k 0 ≡ f k)
-    → (k : ℕ) → k < i + 1 → get_or (set xs i v) k 0 ≡ f k
-filled f xs i v l e h =
-    below_more _ i (λ k b. get_or-set_other xs i k v 0 (λ d. omega arith) ∙ h k b) (get_or-set_same xs i v 0 l ∙ e)
-
-pub keys_more : (s : List ℕ) (at i : ℕ) (codes pairs : List ℕ) (code pair : ℕ) → i < length codes → i < length pairs
-    → code ≡ (row_in (take row_width (drop (at + row_width * i) s))).code
-    → pair ≡ pair_of i (row_in (take row_width (drop (at + row_width * i) s)))
-    → Keyed s at i codes pairs → Keyed s at (i + 1) (set codes i code) (set pairs i pair)
-keys_more s at i codes pairs code pair hc hp ec ep h =
-    record {
-      code_at = filled (λ k. (row_in (take row_width (drop (at + row_width * k) s))).code) codes i code hc ec h.code_at;
-      pair_at = filled (λ k. pair_of k (row_in (take row_width (drop (at + row_width * k) s)))) pairs i pair hp ep h.pair_at;
-    }
+        let o : get_or seen (mark_of x) 0 ≡ 1 = rw (same_mark (key_at keys k) x f) at (h.mark_at k a (omega arith)) in absurd (omega arith)
 
 -- ---- the same key
 
@@ -154,8 +130,8 @@ module _ (x r : Row) (k i : ℕ) (apart : k ≡ i → ⊥) (px : Parties x) (pr 
       let g : 65536 + k ≡ r.proposer * 256 + r.counterparty = rw (e, f) at h in absurd (omega (arith, pr.proposer_byte, pr.counterparty_byte))
   pair_alike false false e f h = let g : 65536 + k ≡ 65536 + i = rw (e, f) at h in absurd (apart (omega arith))
 
-  pub same_key : (eqb x.code r.code && eqb (pair_of k x) (pair_of i r)) ≡ (pending r && alike r.proposer r.counterparty r.code x)
-  same_key = test_same _ _ there back
+  pub same_where : (eqb x.code r.code && eqb (pair_of k x) (pair_of i r)) ≡ (pending r && alike r.proposer r.counterparty r.code x)
+  same_where = test_same _ _ there back
     where
       there : (eqb x.code r.code && eqb (pair_of k x) (pair_of i r)) ≡ true → (pending r && alike r.proposer r.counterparty r.code x) ≡ true
       there h =
@@ -184,7 +160,7 @@ any_each true p x xs = go (p x) refl
     go true e = rw (e, any_passes)
     go false e = rw (e, any_passes)
 
-module _ {s : List ℕ} (bytes : Bytes s) (at n : ℕ) (codes pairs : List ℕ) (keyed : Keyed s at n codes pairs) where
+module _ {s : List ℕ} (bytes : Bytes s) (at n : ℕ) (keys : Keys) (keyed : Keyed s at n keys) where
   abbrev row : ℕ → Row
   row k = row_in (take row_width (drop (at + row_width * k) s))
 
@@ -192,21 +168,21 @@ module _ {s : List ℕ} (bytes : Bytes s) (at n : ℕ) (codes pairs : List ℕ) 
   next k = omega arith
 
   among_rows : (i k m : ℕ) → i < k → k + m ≡ n
-      → key_among codes pairs (row i).code (pair_of i (row i)) k m
+      → key_among keys (key_of i (row i)) k m
       ≡ (pending (row i) && any_passes (alike (row i).proposer (row i).counterparty (row i).code) (rows_from s (at + row_width * k) m))
   unfolding key_among any_passes
   among_rows i k zero l e = rw (rows_done s (at + row_width * k) 0 (omega arith)) (sym (and-false (pending (row i))))
   among_rows i k (suc m) l e =
       let h : k < n = omega arith in
-      rw (keyed.code_at k h, keyed.pair_at k h, same_key (row k) (row i) k i (λ d. omega arith) (parties bytes (at + row_width * k)) (parties bytes (at + row_width * i)), among_rows i (k + 1) m (omega arith) (omega arith), rows_step s (at + row_width * k) (suc m) m (omega arith), next k)
+      rw (keyed.code_at k h, keyed.pair_at k h, same_where (row k) (row i) k i (λ d. omega arith) (parties bytes (at + row_width * k)) (parties bytes (at + row_width * i)), among_rows i (k + 1) m (omega arith) (omega arith), rows_step s (at + row_width * k) (suc m) m (omega arith), next k)
       (sym (any_each (pending (row i)) (alike (row i).proposer (row i).counterparty (row i).code) (row k) (rows_from s (at + row_width * (k + 1)) m)))
 
-  apart_rows : (k m : ℕ) → k + m ≡ n → keys_apart codes pairs k m ≡ no_twins (rows_from s (at + row_width * k) m)
+  apart_rows : (k m : ℕ) → k + m ≡ n → keys_apart keys k m ≡ no_twins (rows_from s (at + row_width * k) m)
   unfolding keys_apart no_twins
   apart_rows k zero e = rw (rows_done s (at + row_width * k) 0 (omega arith))
   apart_rows k (suc m) e =
       let h : k < n = omega arith in
       rw (keyed.code_at k h, keyed.pair_at k h, among_rows k (k + 1) m (omega arith) (omega arith), rows_step s (at + row_width * k) (suc m) m (omega arith), next k, apart_rows (k + 1) m (omega arith))
 
-  pub keys_apart_rows : keys_apart codes pairs 0 n ≡ no_twins (rows_from s at n)
+  pub keys_apart_rows : keys_apart keys 0 n ≡ no_twins (rows_from s at n)
   keys_apart_rows = let e : at + row_width * 0 ≡ at = omega arith in rw e at (apart_rows 0 n (omega arith))

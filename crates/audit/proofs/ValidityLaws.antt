@@ -1,9 +1,9 @@
 -- The set-up's section as code tests it: opening accepts its bytes and no guarantee stands in them exactly where it stands.
-use Prim.Native.Nat.{ℕ, zero, suc, ◌+◌, ◌-◌, ◌≤◌, ◌<◌}
+use Rattle.std.specs.Prelude.{Option, None}
+use Prim.Native.Nat.{ℕ, zero, suc, ◌+◌, ◌-◌, ◌*◌, ◌≤◌, ◌<◌}
 use mathlib.Core.Path.{◌≡◌, refl, sym, ap, ◌∙◌}
 use mathlib.Core.List.{List, [], ◌∷◌}
-use mathlib.Core.Option.{Option, none}
-use mathlib.Core.Bool.{Bool, true, false, not, ◌&&◌, and_assoc, and-true}
+use mathlib.Core.Bool.{Bool, true, false, not, ◌&&◌}
 use native.Mathlib.Numerals.{add-one}
 use native.Mathlib.Omega.{arith}
 use lib.ListN.{length, take, replicate, length-replicate}
@@ -14,7 +14,7 @@ use Rattle.units.specs.declared.Cents.{Cents}
 use Rattle.units.specs.Units.{cents}
 use Rattle.rules.specs.declared.Counts.{Counts}
 use Rattle.rules.specs.declared.Refusal.{Refusal}
-use Rattle.rules.specs.Basics.{all_of, is_some, Each, nil, cons}
+use Rattle.rules.specs.Basics.{all_of, every, counting, is_some, Each, nil, cons}
 use Rattle.rules.specs.Limits.{thousand, book_size, most_hours}
 use Rattle.rules.specs.Books.{Setup, operator_count}
 use Rattle.rules.specs.Opening.{counts_in, operators_offset, setup_length, setup_of, operators_of, setup_refusal, guarantee_width, operator_entry}
@@ -39,17 +39,19 @@ pub fails_with : (t : Bool) {u : Bool} → (t ≡ true → u ≡ true) → u ≡
 fails_with true f e = sym (f refl) ∙ e
 fails_with false f e = refl
 
--- ---- the loop over the operators
+-- ---- the operators by their numbers
 
-pub no_guarantees_done : (ok : Bool) (s : List ℕ) (at n : ℕ) → n ≤ 0 → (ok && no_guarantees s at n) ≡ ok
-unfolding no_guarantees
-no_guarantees_done ok s at zero h = and-true ok
-no_guarantees_done ok s at (suc n) h = absurd (omega arith)
+no_guarantees_from : (s : List ℕ) (at n k : ℕ)
+    → no_guarantees s (at + operator_entry * k) n ≡ every (λ i. zeros_from s (at + operator_entry * i) guarantee_width) (counting n k)
+unfolding no_guarantees every counting
+no_guarantees_from s at zero k = refl
+no_guarantees_from s at (suc n) k =
+    let next : at + operator_entry * k + operator_entry ≡ at + operator_entry * (k + 1) = omega arith in
+    rw (next, no_guarantees_from s at n (k + 1), add-one k)
 
-pub no_guarantees-step : {t : Bool} (ok : Bool) (s : List ℕ) (at n m : ℕ) → n ≡ m + 1 → t ≡ zeros_from s at guarantee_width
-    → (ok && no_guarantees s at n) ≡ ((ok && t) && no_guarantees s (at + operator_entry) m)
-unfolding no_guarantees
-no_guarantees-step ok s at n m e h = rw (e, add-one m, h) (sym (and_assoc ok _ _))
+pub no_guarantees_by_number : (s : List ℕ) (at n : ℕ)
+    → no_guarantees s at n ≡ every (λ i. zeros_from s (at + operator_entry * i) guarantee_width) (counting n 0)
+no_guarantees_by_number s at n = let e : at + operator_entry * 0 ≡ at = omega arith in rw e at (no_guarantees_from s at n 0)
 
 -- ---- a set-up that stands is known
 
@@ -99,7 +101,7 @@ too_long s n size l d e h =
 -- ---- by what opening would say of its bytes
 
 module _ (s : List ℕ) (b : Bytes s) (l : length s ≡ book_size) (size : ℕ) (e : size ≡ setup_length (counts_in s)) where
-  accepted_here : not (is_some (setup_refusal (take size s))) ≡ true → setup_refusal (take (setup_length (counts_in s)) s) ≡ none
+  accepted_here : not (is_some (setup_refusal (take size s))) ≡ true → setup_refusal (take (setup_length (counts_in s)) s) ≡ None
   accepted_here t = ap (λ (n : ℕ). setup_refusal (take n s)) (sym e) ∙ none_of (setup_refusal (take size s)) (not-true _ t)
 
   pub refused_setup : not (is_some (setup_refusal (take size s))) ≡ false → false ≡ setup_valid s
@@ -108,10 +110,6 @@ module _ (s : List ℕ) (b : Bytes s) (l : length s ≡ book_size) (size : ℕ) 
       sym (fails_with (setup_valid s) (λ t.
       let n = setup_accepted_in s b (omega arith) (holds_at 1 (setup_valid_tests s) t) (holds_at 0 (setup_valid_tests s) t) in
       ap (λ (o : Option Refusal). not (is_some o)) (ap (λ (m : ℕ). setup_refusal (take m s)) e ∙ n)) f)
-
-  -- a set-up that stands has room
-  pub long_setup : setup_room < size → false ≡ setup_valid s
-  long_setup h = too_long s (counts_in s) size l refl e h
 
   pub accepted_setup : {lodged zero : Bool} → not (is_some (setup_refusal (take size s))) ≡ true
       → lodged ≡ no_guarantees s (operators_offset (counts_in s)) (counts_in s).operators → zero ≡ zeros_from s size (setup_room - size)

@@ -34,11 +34,8 @@ pub fn asks_valid(book: &[u8]) -> bool
     if all_zero(book, ASKS_OFFSET, ASKS_SIZE) {
         return true;
     }
-    let mut number: u8 = 1;
-    while number <= MOST_ACCOUNTS {
-        if ask_valid(book, number) {
-            number = number + 1;
-        } else {
+    for number in 1..=MOST_ACCOUNTS {
+        if !ask_valid(book, number) {
             return false;
         }
     }

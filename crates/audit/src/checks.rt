@@ -1,6 +1,6 @@
 // The tests of rows, schedules and guarantees, one by one and side by side in bytes.
-ghost use Rattle.std.specs.Prelude.{◌≡◌, not, ◌+◌, ◌*◌, ◌≤◌, length, leb};
-ghost use Rattle.rules.specs.Basics.{any_passes, every};
+ghost use Rattle.std.specs.Prelude.{◌≡◌, ℕ, Bool, not, ◌+◌, ◌*◌, ◌≤◌, ◌<◌, length, leb};
+ghost use Rattle.rules.specs.Basics.{any_passes, every, counting};
 ghost use Rattle.rules.specs.Limits.{most_guarantee};
 ghost use Rattle.rules.specs.Books.{Setup, account_count, point_count, periods};
 ghost use Rattle.rules.specs.Registration.{pending};
@@ -17,7 +17,7 @@ use rules::sides::{BUYS, INJECTS, SELLS, WITHDRAWS};
 use rules::statuses::{PENDING, WITHDRAWN};
 use rules::{Row, Schedule};
 use setup::counts::GUARANTEE_WIDTH;
-use wire::numbers::get_u64;
+use wire::numbers::get;
 
 // Every field of the row is in range, and its two accounts differ.
 pub fn row_ok(r: Row, accounts: u8, hours: u8) -> bool
@@ -44,20 +44,27 @@ pub fn schedule_ok(x: Schedule, points: u8, hours: u8) -> bool
         & (x.price.0 <= MOST_PRICE)
 }
 
+// The test passes at each number below `n`. No number is passed over, not even after one that fails, so that many are tested at once.
+pub(crate) fn all_pass<F: Fn(usize) -> bool>(n: usize, test: F) -> bool
+    requires { (i : ℕ) → i < n → F.pre test i }
+    ensures { (p : ℕ → Bool) → ((i : ℕ) → i < n → (t : Bool) → F.post test i t → t ≡ p i) → result ≡ every p (counting n 0) }
+{
+    let mut ok = true;
+    for i in 0..n {
+        ok = ok & test(i);
+    }
+    ok
+}
+
 // Each of the `n` rows from `at` on is in range.
 pub fn rows_ok(s: &[u8], at: usize, n: usize, accounts: u8, hours: u8) -> bool
     requires { at + row_width * n ≤ length s.now }
     ensures { (u : Setup) → account_count u ≡ accounts → periods u ≡ hours → result ≡ every (row_ok u) (rows_from s.now at n) }
 {
-    let mut ok = true;
-    let mut k = at;
-    let mut left = n;
-    while 0 < left {
-        ok = ok & row_ok(row_at(s, k), accounts, hours);
-        k = k + ROW_WIDTH;
-        left = left - 1;
-    }
-    ok
+    all_pass(
+        n,
+        |i| row_ok(row_at(s, at + ROW_WIDTH * i), accounts, hours),
+    )
 }
 
 // Each of the `n` schedules from `at` on is in range.
@@ -65,15 +72,10 @@ pub fn schedules_ok(s: &[u8], at: usize, n: usize, points: u8, hours: u8) -> boo
     requires { at + schedule_width * n ≤ length s.now }
     ensures { (u : Setup) → point_count u ≡ points → periods u ≡ hours → result ≡ every (schedule_ok u) (schedules_from s.now at n) }
 {
-    let mut ok = true;
-    let mut k = at;
-    let mut left = n;
-    while 0 < left {
-        ok = ok & schedule_ok(schedule_at(s, k), points, hours);
-        k = k + SCHEDULE_WIDTH;
-        left = left - 1;
-    }
-    ok
+    all_pass(
+        n,
+        |i| schedule_ok(schedule_at(s, at + SCHEDULE_WIDTH * i), points, hours),
+    )
 }
 
 // None of the `n` rows from `at` on is pending.
@@ -81,16 +83,7 @@ pub fn none_pending(s: &[u8], at: usize, n: usize) -> bool
     requires { at + row_width * n ≤ length s.now }
     ensures { result ≡ not (any_passes pending (rows_from s.now at n)) }
 {
-    let mut ok = true;
-    let mut k = at;
-    let mut left = n;
-    while 0 < left {
-        let r = row_at(s, k);
-        ok = ok & (r.status != PENDING);
-        k = k + ROW_WIDTH;
-        left = left - 1;
-    }
-    ok
+    all_pass(n, |i| row_at(s, at + ROW_WIDTH * i).status != PENDING)
 }
 
 // None of the `n` guarantees from `at` on is too great.
@@ -98,14 +91,8 @@ pub fn guarantees_ok(s: &[u8], at: usize, n: usize) -> bool
     requires { at + guarantee_width * n ≤ length s.now }
     ensures { result ≡ every (λ g. leb g.0 most_guarantee) (guarantees_from s.now at n) }
 {
-    let mut ok = true;
-    let mut k = at;
-    let mut left = n;
-    while 0 < left {
-        let g = get_u64(s, k);
-        ok = ok & (g <= MOST_GUARANTEE);
-        k = k + GUARANTEE_WIDTH;
-        left = left - 1;
-    }
-    ok
+    all_pass(
+        n,
+        |i| get::<u64>(s, at + GUARANTEE_WIDTH * i) <= MOST_GUARANTEE,
+    )
 }

@@ -18,7 +18,7 @@ use tables::exposure::exposure_of;
 use tables::margins::margins_kept;
 use tables::sums::{fill, nets_match};
 use units::Cents;
-use wire::numbers::{get_u16, get_u64};
+use wire::numbers::get;
 use wire::regions::all_zero;
 
 // None of the guarantees is too great, and only zeros follow them.
@@ -51,8 +51,8 @@ fn operator_covered(book: &[u8], at: usize, table: &[u32], top: usize, number: u
 {
     let exposed = exposure_of(book, table, top, number);
     let entry = operator(book, number);
-    let guarantee = Cents(get_u64(book, at + GUARANTEE_WIDTH * (number as usize - 1)));
-    exposed.at_most(guarantee.available(entry.maintenance))
+    let guarantee = Cents(get::<u64>(book, at + GUARANTEE_WIDTH * (number as usize - 1)));
+    exposed <= guarantee.available(entry.maintenance)
 }
 
 // Whether that is so of every operator.
@@ -61,11 +61,8 @@ fn operators_covered(book: &[u8], at: usize, table: &[u32], top: usize) -> bool
     ensures { let s = book.now in ForRowsSummedIn top table.now (λ rows. result ≡ operators_covered (setup_of s) (part_with s at rows)) }
 {
     let n = counts(book);
-    let mut number: u8 = 1;
-    while number <= n.operators {
-        if operator_covered(book, at, table, top, number) {
-            number = number + 1;
-        } else {
+    for number in 1..=n.operators {
+        if !operator_covered(book, at, table, top, number) {
             return false;
         }
     }
@@ -95,7 +92,7 @@ pub fn part_valid(book: &[u8], at: usize, top: usize, table: &mut [u32]) -> bool
     ensures sums { result ≡ true → SumsOf top (rows_of book.now at) table.new }
 {
     let c = counts(book);
-    let rows = get_u16(book, at + ROW_COUNT_OFFSET) as usize;
+    let rows = get::<u16>(book, at + ROW_COUNT_OFFSET) as usize;
     if MOST_ROWS < rows {
         return false;
     }

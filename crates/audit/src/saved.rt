@@ -5,6 +5,7 @@ ghost use Rattle.image.specs.Valid.{follows};
 ghost use Rattle.image.specs.Cells.{rows_from};
 ghost use Rattle.image.specs.Layout.{row_width};
 
+use crate::checks::all_pass;
 use image::layout::ROW_WIDTH;
 use image::rows::{row_at, same_terms};
 use rules::Row;
@@ -25,15 +26,11 @@ pub fn rows_follow(s: &[u8], from: usize, m: usize, at: usize, n: usize) -> bool
     if n < m {
         return false;
     }
-    let mut ok = true;
-    let mut i = from;
-    let mut k = at;
-    let mut left = m;
-    while 0 < left {
-        ok = ok & row_follows(row_at(s, i), row_at(s, k));
-        i = i + ROW_WIDTH;
-        k = k + ROW_WIDTH;
-        left = left - 1;
-    }
-    ok
+    all_pass(
+        m,
+        |i| row_follows(
+            row_at(s, from + ROW_WIDTH * i),
+            row_at(s, at + ROW_WIDTH * i),
+        ),
+    )
 }

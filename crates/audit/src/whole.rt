@@ -10,7 +10,7 @@ ghost use Rattle.audit.specs.Exact.{no_guarantees};
 ghost use Rattle.audit.specs.Validity.{setup_valid, SetupKnown, SavedCounted, row_count, rows_of, saved_part_valid, saved_followed, schedules_valid, phase_valid};
 
 use crate::asks::asks_valid;
-use crate::checks::{none_pending, schedules_ok};
+use crate::checks::{all_pass, none_pending, schedules_ok};
 use crate::part::part_valid;
 use crate::saved::rows_follow;
 use image::layout::{
@@ -18,13 +18,13 @@ use image::layout::{
     SAVED_OFFSET, SCHEDULE_COUNT_OFFSET, SCHEDULE_WIDTH, SCHEDULES_OFFSET, SETUP_ROOM,
     SPARE_OFFSET,
 };
-use rules::Checked;
+use rules::Refusal;
 use rules::limits::{MOST_SCHEDULES, PERIODS};
 use rules::phases::{REGISTRATION, SETTLED};
 use setup::counts::{GUARANTEE_WIDTH, OPERATOR_ENTRY, counts, length_of, operators_offset};
 use setup::fault::fault;
 use tables::sums::clear;
-use wire::numbers::get_u16;
+use wire::numbers::get;
 use wire::regions::all_zero;
 
 // Whether opening would accept these set-up bytes.
@@ -32,8 +32,8 @@ fn is_accepted(setup: &[u8]) -> bool
     ensures { result ≡ not (is_some (setup_refusal setup.now)) }
 {
     match fault(setup) {
-        Checked::Clear => true,
-        Checked::Fails(_) => false,
+        Ok(()) => true,
+        Err(_) => false,
     }
 }
 
@@ -42,15 +42,7 @@ fn no_guarantees(s: &[u8], at: usize, n: usize) -> bool
     requires { at + operator_entry * n ≤ length s.now }
     ensures { result ≡ no_guarantees s.now at n }
 {
-    let mut ok = true;
-    let mut k = at;
-    let mut left = n;
-    while 0 < left {
-        ok = ok & all_zero(s, k, GUARANTEE_WIDTH);
-        k = k + OPERATOR_ENTRY;
-        left = left - 1;
-    }
-    ok
+    all_pass(n, |i| all_zero(s, at + OPERATOR_ENTRY * i, GUARANTEE_WIDTH))
 }
 
 // The set-up in the book is one that opening would accept, with no guarantee in it and zeros behind it.
@@ -77,7 +69,7 @@ fn schedules_valid(book: &[u8]) -> bool
     ensures { result ≡ schedules_valid book.now }
 {
     let c = counts(book);
-    let n = get_u16(book, SCHEDULE_COUNT_OFFSET) as usize;
+    let n = get::<u16>(book, SCHEDULE_COUNT_OFFSET) as usize;
     if MOST_SCHEDULES < n {
         return false;
     }
@@ -97,8 +89,8 @@ fn phase_valid(book: &[u8]) -> bool
 {
     let phase = book[PHASE_OFFSET];
     let flag = book[FLAG_OFFSET];
-    let schedules = get_u16(book, SCHEDULE_COUNT_OFFSET);
-    let rows = get_u16(book, PRESENT_OFFSET + ROW_COUNT_OFFSET) as usize;
+    let schedules = get::<u16>(book, SCHEDULE_COUNT_OFFSET);
+    let rows = get::<u16>(book, PRESENT_OFFSET + ROW_COUNT_OFFSET) as usize;
     let quiet = none_pending(book, PRESENT_OFFSET + ROWS_OFFSET, rows);
     let first = phase == REGISTRATION;
     ((REGISTRATION <= phase) & (phase <= SETTLED) & (flag <= 1))
@@ -129,8 +121,8 @@ fn saved_followed(book: &[u8]) -> bool
     if book[FLAG_OFFSET] == 0 {
         return true;
     }
-    let saved = get_u16(book, SAVED_OFFSET + ROW_COUNT_OFFSET) as usize;
-    let rows = get_u16(book, PRESENT_OFFSET + ROW_COUNT_OFFSET) as usize;
+    let saved = get::<u16>(book, SAVED_OFFSET + ROW_COUNT_OFFSET) as usize;
+    let rows = get::<u16>(book, PRESENT_OFFSET + ROW_COUNT_OFFSET) as usize;
     rows_follow(
         book,
         SAVED_OFFSET + ROWS_OFFSET,

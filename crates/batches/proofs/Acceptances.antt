@@ -1,23 +1,20 @@
 -- What an accepted call of each kind writes: the bytes are the image of the book, so that the write laws of images apply, and the
 -- checks that it passed keep the book sound.
+use Rattle.std.specs.Prelude.{None}
 use Prim.Native.Nat.{ℕ, ◌+◌, ◌-◌}
-use mathlib.Core.Path.{◌≡◌, refl, sym, ap, ◌∙◌}
+use mathlib.Core.Path.{◌≡◌, refl, ap, ◌∙◌}
 use mathlib.Core.List.{List, [], ◌∷◌}
-use mathlib.Core.Option.{none, some}
-use mathlib.Core.Bool.{Bool, true}
+use mathlib.Core.Bool.{true}
 use native.Mathlib.Omega.{arith}
 use lib.ListN.{length}
 use Rattle.wire.specs.Numbers.{le}
 use Rattle.wire.specs.Regions.{splice}
 use Rattle.wire.specs.Parts.{sweep}
 use Rattle.rules.specs.declared.Request.{Request}
-use Rattle.rules.specs.declared.Checked.{Checked}
-use Rattle.rules.specs.declared.Checked.TheVariants.{Clear, Fails}
 use Rattle.rules.specs.Limits.{most_hours, book_size}
-use Rattle.rules.specs.Verdicts.{accepted, checked}
+use Rattle.rules.specs.Verdicts.{accepted}
 use Rattle.rules.specs.Requests.{open_batch, undo, keep, close_gate}
 use Rattle.rules.specs.Calls.{restored, given, save_part, restore_part, drop_saved, shut_gate}
-use Rattle.rules.proofs.Checks.Clearing.{checked-same}
 use Rattle.rules.proofs.Checks.Passed.{passed_11, passed_12, passed_13}
 use Rattle.image.specs.Layout.{row_width, phase_offset, present_offset, saved_offset, row_offset}
 use Rattle.image.specs.Valid.{is_sound, book_in}
@@ -27,13 +24,13 @@ use Rattle.image.proofs.Writing.BookWrites.{write_saved, write_restored, write_d
 use Rattle.image.proofs.Keeping.KeepsChanges.{apply_keeps}
 use Rattle.book.specs.Kinds.{decided}
 use Rattle.book.proofs.StateLaws.{book_image, book_fits, book_is_sound}
-use Rattle.book.proofs.Answers.{decided_clear, AnsweredAll, accepted_answered, answered_all, refused_all}
+use Rattle.book.proofs.Answers.{decided_clear, AnsweredAll, accepted_answered, answered_all}
 use Rattle.batches.specs.Rooms.{part_copied}
-use Rattle.batches.specs.Saving.{is_clear, answer_to, saved_if, batch_opened, batch_ended}
+use Rattle.batches.specs.Saving.{batch_opened, batch_ended}
 
 module _ (s t : List ℕ) (h : is_sound s ≡ true) where
   -- 5: the present part copied over the saved one, and the flag
-  pub opened_answered : ((q : Request) → decided open_batch (book_in s) q ≡ none)
+  pub opened_answered : ((q : Request) → decided open_batch (book_in s) q ≡ None)
       → t ≡ batch_opened s → AnsweredAll open_batch s (accepted 0) t
   unfolding given
   opened_answered d e =
@@ -43,16 +40,8 @@ module _ (s t : List ℕ) (h : is_sound s ≡ true) where
       ∙ write_saved most_hours book_size (book_in s) (book_fits s h) (omega arith))
       (apply_keeps save_part (book_in s) (book_is_sound s h) (passed_11 (book_in s) (q ∷ []) open_batch (decided_clear open_batch (book_in s) q (d q)))))
 
-  -- by what is wrong with it
-  pub opening_answered : (fault : Checked) → ((q : Request) → fault ≡ checked (decided open_batch (book_in s) q))
-      → {clear : Bool} → clear ≡ is_clear fault → t ≡ saved_if clear s → AnsweredAll open_batch s (answer_to fault) t
-  opening_answered Clear d f e = opened_answered (λ q. checked-same _ none (sym (d q))) (rw f at e)
-  opening_answered (Fails r) d f e =
-      let same : t ≡ s = (rw f at e) in
-      rw same (refused_all open_batch s r h (λ q. checked-same _ (some r) (sym (d q))))
-
   -- 6: the saved part copied over the present one and cleared, and the flag
-  pub undone_answered : (n : ℕ) → ((q : Request) → decided undo (book_in s) q ≡ none)
+  pub undone_answered : (n : ℕ) → ((q : Request) → decided undo (book_in s) q ≡ None)
       → n ≡ length (book_in s).part.rows - length (restored (book_in s).saved (book_in s).part).rows
       → t ≡ batch_ended (part_copied s (saved_offset most_hours) present_offset) → AnsweredAll undo s (accepted n) t
   unfolding given
@@ -67,7 +56,7 @@ module _ (s t : List ℕ) (h : is_sound s ≡ true) where
       (apply_keeps restore_part (book_in s) (book_is_sound s h) (passed_11 (book_in s) (q ∷ []) undo clear)))
 
   -- 7: the saved part cleared, and the flag
-  pub kept_answered : ((q : Request) → decided keep (book_in s) q ≡ none) → t ≡ batch_ended s → AnsweredAll keep s (accepted 0) t
+  pub kept_answered : ((q : Request) → decided keep (book_in s) q ≡ None) → t ≡ batch_ended s → AnsweredAll keep s (accepted 0) t
   unfolding given
   kept_answered d e =
       answered_all keep s (accepted 0) t (λ q. accepted_answered keep s q h t 0 (d q) refl
@@ -77,7 +66,7 @@ module _ (s t : List ℕ) (h : is_sound s ≡ true) where
       (apply_keeps drop_saved (book_in s) (book_is_sound s h) (passed_11 (book_in s) (q ∷ []) keep (decided_clear keep (book_in s) q (d q)))))
 
   -- 8: a loop over the rows, and the phase
-  pub closed_answered : (n : ℕ) → ((q : Request) → decided close_gate (book_in s) q ≡ none) → n ≡ length (book_in s).part.rows
+  pub closed_answered : (n : ℕ) → ((q : Request) → decided close_gate (book_in s) q ≡ None) → n ≡ length (book_in s).part.rows
       → t ≡ splice (sweep ended row_width s (present_offset + row_offset 0) n) phase_offset (le 1 2)
       → AnsweredAll close_gate s (accepted 0) t
   unfolding given

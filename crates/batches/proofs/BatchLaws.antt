@@ -1,10 +1,10 @@
 -- A part copied or cleared in two stretches: up to its last row, and from its net positions on. Between them it is zero already, as laws say
 -- of both parts of a book.
+use Rattle.std.specs.Prelude.{Option, None, Some}
 use Prim.Native.Nat.{ℕ, ◌+◌, ◌-◌, ◌*◌, ◌≤◌}
 use mathlib.Core.Path.{◌≡◌, refl, sym, ap, ◌∙◌}
 use mathlib.Core.List.{List, ◌++◌, append_assoc}
 use mathlib.Core.Logic.{◌⊎◌, ⊎_elim, inl, inr}
-use mathlib.Core.Option.{Option, none, some}
 use mathlib.Core.Bool.{true}
 use native.Mathlib.Omega.{arith}
 use lib.ListN.{length, take, drop, length-append, length-drop, take-append-drop}
@@ -156,7 +156,7 @@ part_rest p f =
     ∙ take_all (gap n) (zeros (gap n)) (omega (arith, length-zeros (gap n)))
 
 -- without a batch the saved part is zero
-saved_none : (b : Book) → Fits b → b.saved ≡ none → (j m : ℕ) → j + m ≤ size
+saved_none : (b : Book) → Fits b → b.saved ≡ None → (j m : ℕ) → j + m ≤ size
     → take m (drop (saved_offset most_hours + j) (image most_hours book_size b)) ≡ zeros m
 unfolding image sections sections_with saved_bytes
 saved_none b f e j m l =
@@ -172,13 +172,13 @@ module _ (s : List ℕ) (h : is_sound s ≡ true) where
       ∙ present_read most_hours book_size b (book_fits s h) (row_offset n) (gap n) (present_offset + row_offset n) (omega (arith, row_count_high s h)) refl
       ∙ rw e (part_rest b.part (book_fits s h).part_fits)
 
-  none_saved_rows : (book_in s).saved ≡ none → (n : ℕ) → n ≤ most_rows → NoRowsPast s (saved_offset most_hours) n
+  none_saved_rows : (book_in s).saved ≡ None → (n : ℕ) → n ≤ most_rows → NoRowsPast s (saved_offset most_hours) n
   unfolding NoRowsPast
   none_saved_rows o n few =
       ap (λ (t : List ℕ). take (gap n) (drop (saved_offset most_hours + row_offset n) t)) (book_image s h)
       ∙ saved_none (book_in s) (book_fits s h) o (row_offset n) (gap n) (omega arith)
 
-  saved_end : (p : Part) → (book_in s).saved ≡ some p → PartFits p → NoRowsPast s (saved_offset most_hours) (length p.rows)
+  saved_end : (p : Part) → (book_in s).saved ≡ Some p → PartFits p → NoRowsPast s (saved_offset most_hours) (length p.rows)
   unfolding NoRowsPast
   saved_end p e f =
       let i : ℕ = length p.rows in
@@ -208,8 +208,8 @@ module _ (s : List ℕ) (h : is_sound s ≡ true) where
   saved_past_rows n e = go (book_in s).saved refl
     where
       go : (o : Option Part) → (book_in s).saved ≡ o → NoRowsPast s (saved_offset most_hours) n
-      go none f = none_saved_rows f n (omega (arith, row_count_high s h))
-      go (some p) f = saved_past_present (rw f) n e
+      go None f = none_saved_rows f n (omega (arith, row_count_high s h))
+      go (Some p) f = saved_past_present (rw f) n e
 
 -- a copy over the present part leaves the saved one
 pub saved_room_left : (s x : List ℕ) (n : ℕ) → length s ≡ book_size → n ≤ most_rows → NoRowsPast s (saved_offset most_hours) n

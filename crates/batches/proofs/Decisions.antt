@@ -1,8 +1,8 @@
 -- What the state refuses kinds 5 to 8 for: of the checks that these kinds have, the first that applies.
+use Rattle.std.specs.Prelude.{Err, Ok, None, Some}
 use Prim.Native.Nat.{ℕ}
 use mathlib.Core.Path.{◌≡◌, refl, sym, ◌∙◌}
 use mathlib.Core.List.{[], ◌∷◌}
-use mathlib.Core.Option.{none, some}
 use mathlib.Core.Bool.{Bool, true, false, ◌||◌}
 use native.Mathlib.Omega.{arith}
 use lib.Dec.{eqb}
@@ -10,10 +10,8 @@ use borrow.Author.Tests.{eq-eqb}
 use Rattle.rules.specs.declared.Request.{Request}
 use Rattle.rules.specs.declared.Refusal.{Refusal}
 use Rattle.rules.specs.declared.Refusal.TheVariants.{BatchOpen, NoBatch}
-use Rattle.rules.specs.declared.Checked.{Checked}
-use Rattle.rules.specs.declared.Checked.TheVariants.{Clear, Fails}
 use Rattle.rules.specs.Basics.{is_some}
-use Rattle.rules.specs.Verdicts.{first_to_apply, checked}
+use Rattle.rules.specs.Verdicts.{first_to_apply, checked, Checked}
 use Rattle.rules.specs.Books.{Book}
 use Rattle.rules.specs.Requests.{Kind, open_batch, undo, keep, close_gate, kind_number, request_of}
 use Rattle.rules.specs.Calls.{◌one_of◌, phase_of, state_checks}
@@ -41,26 +39,26 @@ module _ (P : Kind → Type 0) (i j k : Kind) where
 module _ (b : Book) (q : Request) where
   module _ (first : b.phase ≡ 1) where
     -- refusal 12 of opening a batch and of closing the gate
-    pub with_batch : (k : Kind) → k one_of (open_batch ∷ close_gate ∷ []) ≡ true → is_some b.saved ≡ true → decided k b q ≡ some BatchOpen
+    pub with_batch : (k : Kind) → k one_of (open_batch ∷ close_gate ∷ []) ≡ true → is_some b.saved ≡ true → decided k b q ≡ Some BatchOpen
     unfolding decided state_checks first_to_apply
     with_batch k m o =
-        of_two (λ i. decided i b q ≡ some BatchOpen) open_batch close_gate k m (rw (eq-eqb _ 1 first, o)) (rw (eq-eqb _ 1 first, o))
+        of_two (λ i. decided i b q ≡ Some BatchOpen) open_batch close_gate k m (rw (eq-eqb _ 1 first, o)) (rw (eq-eqb _ 1 first, o))
 
-    pub outside_batch : (k : Kind) → k one_of (open_batch ∷ close_gate ∷ []) ≡ true → is_some b.saved ≡ false → decided k b q ≡ none
+    pub outside_batch : (k : Kind) → k one_of (open_batch ∷ close_gate ∷ []) ≡ true → is_some b.saved ≡ false → decided k b q ≡ None
     unfolding decided state_checks first_to_apply
     outside_batch k m o =
-        of_two (λ i. decided i b q ≡ none) open_batch close_gate k m (rw (eq-eqb _ 1 first, o)) (rw (eq-eqb _ 1 first, o))
+        of_two (λ i. decided i b q ≡ None) open_batch close_gate k m (rw (eq-eqb _ 1 first, o)) (rw (eq-eqb _ 1 first, o))
 
     -- refusal 13 of undo and of keep
-    pub without_batch : (k : Kind) → k one_of (undo ∷ keep ∷ []) ≡ true → is_some b.saved ≡ false → decided k b q ≡ some NoBatch
+    pub without_batch : (k : Kind) → k one_of (undo ∷ keep ∷ []) ≡ true → is_some b.saved ≡ false → decided k b q ≡ Some NoBatch
     unfolding decided state_checks first_to_apply
     without_batch k m o =
-        of_two (λ i. decided i b q ≡ some NoBatch) undo keep k m (rw (eq-eqb _ 1 first, o)) (rw (eq-eqb _ 1 first, o))
+        of_two (λ i. decided i b q ≡ Some NoBatch) undo keep k m (rw (eq-eqb _ 1 first, o)) (rw (eq-eqb _ 1 first, o))
 
-    pub inside_batch : (k : Kind) → k one_of (undo ∷ keep ∷ []) ≡ true → is_some b.saved ≡ true → decided k b q ≡ none
+    pub inside_batch : (k : Kind) → k one_of (undo ∷ keep ∷ []) ≡ true → is_some b.saved ≡ true → decided k b q ≡ None
     unfolding decided state_checks first_to_apply
     inside_batch k m o =
-        of_two (λ i. decided i b q ≡ none) undo keep k m (rw (eq-eqb _ 1 first, o)) (rw (eq-eqb _ 1 first, o))
+        of_two (λ i. decided i b q ≡ None) undo keep k m (rw (eq-eqb _ 1 first, o)) (rw (eq-eqb _ 1 first, o))
 
 -- the phase of the two kinds that want no open batch, and of the two that want one
 pub phase_outside : (k : Kind) → k one_of (open_batch ∷ close_gate ∷ []) ≡ true → phase_of k ≡ 1
@@ -70,21 +68,21 @@ pub phase_inside : (k : Kind) → k one_of (undo ∷ keep ∷ []) ≡ true → p
 phase_inside k m = of_two (λ i. phase_of i ≡ 1) undo keep k m refl refl
 
 -- what undo and keep accept has a batch open
-pub ending_finds_batch : (k : Kind) (b : Book) (q : Request) → k one_of (undo ∷ keep ∷ []) ≡ true → decided k b q ≡ none → is_some b.saved ≡ true
+pub ending_finds_batch : (k : Kind) (b : Book) (q : Request) → k one_of (undo ∷ keep ∷ []) ≡ true → decided k b q ≡ None → is_some b.saved ≡ true
 ending_finds_batch k b q m =
-    of_two (λ i. decided i b q ≡ none → is_some b.saved ≡ true) undo keep k m
+    of_two (λ i. decided i b q ≡ None → is_some b.saved ≡ true) undo keep k m
     (λ d. let (p, e) = passed_13 b (q ∷ []) undo refl (decided_clear undo b q d) in rw e)
     (λ d. let (p, e) = passed_13 b (q ∷ []) keep refl (decided_clear keep b q d) in rw e)
 
 -- ---- what the check of a kind found
 
 module _ (k : Kind) (b : Book) (fault : Checked) (each : (q : Request) → fault ≡ checked (decided k b q)) where
-  pub refused_for : {r : Refusal} → fault ≡ Fails r → (q : Request) → decided k b q ≡ some r
-  refused_for e q = checked-same _ (some _) (sym (each q) ∙ e)
+  pub refused_for : {r : Refusal} → fault ≡ Err r → (q : Request) → decided k b q ≡ Some r
+  refused_for e q = checked-same _ (Some _) (sym (each q) ∙ e)
 
-  pub nothing_decided : fault ≡ Clear → (q : Request) → decided k b q ≡ none
-  nothing_decided e q = checked-same _ none (sym (each q) ∙ e)
+  pub nothing_decided : fault ≡ (Ok tt) → (q : Request) → decided k b q ≡ None
+  nothing_decided e q = checked-same _ None (sym (each q) ∙ e)
 
   -- undo and keep find a batch open
-  pub finds_batch : k one_of (undo ∷ keep ∷ []) ≡ true → fault ≡ Clear → is_some b.saved ≡ true
+  pub finds_batch : k one_of (undo ∷ keep ∷ []) ≡ true → fault ≡ (Ok tt) → is_some b.saved ≡ true
   finds_batch m e = ending_finds_batch k b (request_of []) m (nothing_decided e (request_of []))

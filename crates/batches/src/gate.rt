@@ -13,18 +13,18 @@ use crate::saving::outside_batch;
 use book::state::row_count;
 use image::layout::{PHASE_OFFSET, PRESENT_OFFSET, ROW_WIDTH, ROWS_OFFSET};
 use image::rows::STATUS_OFFSET;
+use rules::Refusal;
 use rules::phases::SCHEDULES;
 use rules::statuses::{PENDING, WITHDRAWN};
-use rules::{Checked, Outcome, Verdict};
-use wire::numbers::{get_u8, put_u8};
+use wire::numbers::{get, put};
 
 // Withdraws the row at `at` if it is pending.
 fn end_row(s: &mut [u8], at: usize)
     requires { at + row_width ≤ length s.old }
     ensures { s.new ≡ splice s.old at (ended (take row_width (drop at s.old))) }
 {
-    if get_u8(s, at + STATUS_OFFSET) == PENDING {
-        put_u8(s, at + STATUS_OFFSET, WITHDRAWN);
+    if get::<u8>(s, at + STATUS_OFFSET) == PENDING {
+        put(s, at + STATUS_OFFSET, WITHDRAWN);
     }
 }
 
@@ -33,31 +33,21 @@ fn end_rows(s: &mut [u8], from: usize, n: u16)
     requires { from + row_width * n ≤ length s.old }
     ensures { s.new ≡ sweep ended row_width s.old from n }
 {
-    let mut at = from;
-    let mut left = n;
-    while 0 < left {
-        end_row(s, at);
-        at = at + ROW_WIDTH;
-        left = left - 1;
+    for i in 0..n as usize {
+        end_row(s, from + ROW_WIDTH * i);
     }
 }
 
 // Kind 8: withdraws all pending rows and goes over to schedules.
-pub fn close_gate(book: &mut [u8]) -> Outcome
+pub fn close_gate(book: &mut [u8]) -> Result<u16, Refusal>
     requires { is_sound book.old ≡ true }
     ensures answer { (q : Request) → result ≡ outcome_on close_gate (book_in book.old) q }
     ensures bytes { (q : Request) → book.new ≡ book_bytes (book_after close_gate (book_in book.old) q) }
     ensures still { is_sound book.new ≡ true }
 {
-    if let Checked::Fails(r) = outside_batch(book) {
-        return Outcome {
-            verdict: Verdict::Refused(r),
-        };
-    }
+    outside_batch(book)?;
     let n = row_count(book);
     end_rows(book, PRESENT_OFFSET + ROWS_OFFSET, n);
-    put_u8(book, PHASE_OFFSET, SCHEDULES);
-    Outcome {
-        verdict: Verdict::Accepted { number: 0 },
-    }
+    put(book, PHASE_OFFSET, SCHEDULES);
+    Ok(0)
 }

@@ -1,9 +1,9 @@
 -- The bytes of a book hold its set-up and its rows at their places, and what they say is in range: all that the sums, the margins and the
 -- exposure ask of such bytes.
+use Rattle.std.specs.Prelude.{Option}
 use Prim.Native.Nat.{ℕ, zero, suc, ◌+◌, ◌*◌, ◌≤◌}
 use mathlib.Core.Path.{◌≡◌, sym, ap, ◌∙◌}
 use mathlib.Core.List.{List, []}
-use mathlib.Core.Option.{Option}
 use mathlib.Core.Bool.{true}
 use native.Mathlib.Omega.{arith}
 use lib.ListN.{length, get_or, take, drop, replicate}
@@ -16,8 +16,7 @@ use Rattle.rules.specs.declared.Margins.{Margins}
 use Rattle.rules.specs.declared.Counts.{Counts}
 use Rattle.rules.specs.declared.Row.{Row}
 use Rattle.rules.specs.declared.Refusal.{Refusal}
-use Rattle.rules.specs.declared.Checked.{Checked}
-use Rattle.rules.specs.Verdicts.{Check, first_to_apply, checked}
+use Rattle.rules.specs.Verdicts.{Check, first_to_apply, checked, Checked}
 use Rattle.rules.specs.Basics.{Each, entries}
 use Rattle.rules.specs.Limits.{most_price, most_rows, most_hours, most_accounts, book_size}
 use Rattle.rules.specs.Books.{Setup, Book, no_account, no_row, operator_of, counts_of, operator_count, account_count, periods, margins_at}

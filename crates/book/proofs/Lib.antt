@@ -21,6 +21,8 @@ pub mod WorthParts
 pub mod ShortLaws
 -- HourlyLaws: the hourly exposure as the sum of its two parts.
 pub mod HourlyLaws
+-- PhaseLaws: phases compared, by their numbers.
+pub mod PhaseLaws
 -- Answers: what a refusal and an acceptance answer on the bytes of a book.
 pub mod Answers
 -- Readiness: what a request in range passed.

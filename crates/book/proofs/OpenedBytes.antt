@@ -1,9 +1,9 @@
 -- What opening writes is the image of the book that it opens: over zeros, the set-up with no guarantees, the phase, and the
 -- guarantees in the present part; all other sections of a fresh book are zeros.
+use Rattle.std.specs.Prelude.{None}
 use Prim.Native.Nat.{ℕ, zero, suc, ◌+◌, ◌-◌, ◌*◌, ◌≤◌}
 use mathlib.Core.Path.{◌≡◌, refl, sym, ap, ◌∙◌}
 use mathlib.Core.List.{List, [], ◌∷◌, ◌++◌, map, append_assoc}
-use mathlib.Core.Option.{none}
 use native.Mathlib.Nat.{mul-zero, add-zero}
 use native.Mathlib.Omega.{arith}
 use lib.ListN.{length, set, take, drop, replicate, length-append, length-drop, take-append-drop}
@@ -138,7 +138,7 @@ guarantees_cleared_setup u gs rest g e =
 
 -- ---- a fresh book in bytes
 
-module _ (s : List ℕ) (b : Bytes s) (h : setup_refusal s ≡ none) where
+module _ (s : List ℕ) (b : Bytes s) (h : setup_refusal s ≡ None) where
   whole : setup_bytes (setup_of s) (guarantees_of s) ≡ s
   whole =
       let l = (accepted_shape s h).exact in
@@ -198,7 +198,7 @@ part_fresh top gs h =
     rw (a0, a1, a2, le_zero 2, slots_none row_width most_rows row_bytes length_row, nets_empty top)
 
 -- zeros, the set-up with no guarantees, phase 1, and the guarantees in the present part
-pub image-opened : (top size : ℕ) (s : List ℕ) → Bytes s → setup_refusal s ≡ none → used_size top ≤ size
+pub image-opened : (top size : ℕ) (s : List ℕ) → Bytes s → setup_refusal s ≡ None → used_size top ≤ size
     → splice (splice (splice (zeros size) 0 (stored_setup (setup_of s))) phase_offset (le 1 1)) present_offset (guarantees_bytes (guarantees_of s)) ≡ image top size (opened s)
 unfolding image sections sections_with saved_bytes opened
 image-opened top size s b h g =
@@ -223,7 +223,7 @@ image-opened top size s b h g =
     rw (a0, a1, a2, a3, part_fresh top (guarantees_of s) lg, le_zero 1, le_zero 2, slots_none schedule_width most_schedules schedule_bytes length-schedule, no_asks_zero)
 
 -- the same, as it is written: the set-up copied, its guarantees made zero, the phase, and the guarantees copied one by one
-pub opening_writes : (top size : ℕ) (s : List ℕ) → Bytes s → setup_refusal s ≡ none → used_size top ≤ size
+pub opening_writes : (top size : ℕ) (s : List ℕ) → Bytes s → setup_refusal s ≡ None → used_size top ≤ size
     → guarantees_put (splice (guarantees_cleared (splice (zeros size) 0 s) (operators_offset (counts_in s)) (counts_in s).operators) phase_offset (le 1 1))
     present_offset s (operators_offset (counts_in s)) (counts_in s).operators
     ≡ image top size (opened s)

@@ -1,19 +1,17 @@
--- Opening as code runs it: bytes are cleared one by one, what is left of the operators runs down, and the size of the buffer is
--- looked at before the set-up.
-use Prim.Native.Nat.{ℕ, zero, suc, ◌+◌, ◌*◌, ◌≤◌, ◌<◌}
-use mathlib.Core.Path.{◌≡◌, refl, sym, ap, ◌∙◌}
+-- Opening as code runs it: what is left of the operators runs down, and the size of the buffer is looked at before the set-up.
+use Rattle.std.specs.Prelude.{None, Some}
+use Prim.Native.Nat.{ℕ, zero, suc, ◌+◌, ◌*◌, ◌≤◌}
+use mathlib.Core.Path.{◌≡◌, refl}
 use mathlib.Core.List.{List}
-use mathlib.Core.Option.{none, some}
 use mathlib.Core.Bool.{true}
 use native.Mathlib.Numerals.{add-one}
 use native.Mathlib.Omega.{arith}
-use lib.ListN.{length, set, take, drop}
-use lib.Seq.{take_all, take-suc-set}
+use lib.ListN.{length, take, drop}
 use borrow.Author.Tests.{eq-eqb, ne_eqb}
 use Rattle.wire.specs.Numbers.{le, Bytes}
 use Rattle.wire.specs.Regions.{splice}
 use Rattle.wire.specs.Parts.{zeros}
-use Rattle.wire.proofs.ZeroLaws.{zeros_add, le_zero}
+use Rattle.wire.proofs.ZeroLaws.{le_zero}
 use Rattle.rules.specs.declared.Counts.{Counts}
 use Rattle.rules.specs.declared.Refusal.{Refusal}
 use Rattle.rules.specs.declared.Refusal.TheVariants.{NotABook}
@@ -30,16 +28,6 @@ use Rattle.image.proofs.Keeping.Opened.{opened_sound, opened_is_book}
 use Rattle.book.specs.Fresh.{guarantees_cleared, guarantees_put}
 use Rattle.book.specs.Answers.{open_bytes}
 use Rattle.book.proofs.OpenedBytes.{length_stored_opened, opening_writes}
-
--- ---- bytes cleared
-
-module _ (s : List ℕ) where
-  pub cleared_more : (i : ℕ) → i < length s → take i s ≡ zeros i → take (i + 1) (set s i 0) ≡ zeros (i + 1)
-  unfolding zeros
-  cleared_more i h e = rw (add-one i, take-suc-set s i 0 h, e) (zeros_add i 1 ∙ ap zeros (add-one i))
-
-  pub cleared_all : (i n : ℕ) → length s ≤ i → i ≡ n → take i s ≡ zeros i → s ≡ zeros n
-  cleared_all i n h k e = sym (take_all i s h) ∙ e ∙ ap zeros k
 
 -- ---- the guarantees made zero
 
@@ -74,7 +62,7 @@ pub record Openable (n : Counts) (s : List ℕ) : Type 0 where
   pub short : length s ≤ setup_room
   pub few : n.operators ≤ most_operators
 
-module _ (s : List ℕ) (b : Bytes s) (h : setup_refusal s ≡ none) where
+module _ (s : List ℕ) (b : Bytes s) (h : setup_refusal s ≡ None) where
   pub openable : {n : Counts} → n ≡ counts_in s → Openable n s
   unfolding opened
   openable e =
@@ -102,7 +90,7 @@ module _ (s : List ℕ) (b : Bytes s) (h : setup_refusal s ≡ none) where
 -- ---- what opening is refused for
 
 module _ (s book : List ℕ) where
-  pub other_size : (length book ≡ book_size → ⊥) → open_refusal s book ≡ some NotABook
+  pub other_size : (length book ≡ book_size → ⊥) → open_refusal s book ≡ Some NotABook
   unfolding open_refusal first_to_apply
   other_size h = rw (ne_eqb _ _ h)
 
@@ -111,16 +99,16 @@ module _ (s book : List ℕ) where
   setup_decides h = rw (eq-eqb _ _ h)
 
   -- a refusal is answered, and changes no byte
-  pub refused_unchanged : (r : Refusal) → open_refusal s book ≡ some r → (refused r ≡ open_outcome s book) × (book ≡ open_bytes s book)
+  pub refused_unchanged : (r : Refusal) → open_refusal s book ≡ Some r → (refused r ≡ open_outcome s book) × (book ≡ open_bytes s book)
   unfolding open_outcome open_bytes
   refused_unchanged r e = (rw e, rw e)
 
   -- without one the fresh book is there
-  pub accepted_fresh : {x : List ℕ} → open_refusal s book ≡ none → x ≡ book_bytes (opened s) → (accepted 0 ≡ open_outcome s book) × (x ≡ open_bytes s book)
+  pub accepted_fresh : {x : List ℕ} → open_refusal s book ≡ None → x ≡ book_bytes (opened s) → (accepted 0 ≡ open_outcome s book) × (x ≡ open_bytes s book)
   unfolding open_outcome open_bytes
   accepted_fresh e f = (rw e, rw e f)
 
   -- which is a book
-  pub open_leaves_a_book : open_refusal s book ≡ none → is_book (open_bytes s book) ≡ true
+  pub open_leaves_a_book : open_refusal s book ≡ None → is_book (open_bytes s book) ≡ true
   unfolding open_bytes open_refusal setup_refusal
   open_leaves_a_book h = rw h (opened_is_book s (clear_applies _ (clear _ h).1) _ book_size (omega arith))

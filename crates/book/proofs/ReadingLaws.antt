@@ -1,10 +1,9 @@
 -- What the readings answer, by the tests that code makes: the lowest bit that is out of range, else the figure. A net within the margins is
 -- read from its 4 bytes, as it is nearer to zero than 2^31.
-use Rattle.std.specs.Prelude.{if◌then◌else◌}
+use Rattle.std.specs.Prelude.{if◌then◌else◌, Ok, Err, Option, Some}
 use Prim.Native.Nat.{ℕ, ◌+◌, ◌-◌, ◌*◌, ◌%◌, ◌^◌, ◌≤◌}
 use mathlib.Core.Path.{◌≡◌, refl, sym, ap, ◌∙◌}
 use mathlib.Core.List.{List, [], ◌∷◌}
-use mathlib.Core.Option.{Option, some}
 use mathlib.Core.Bool.{Bool, true, false, not}
 use native.Mathlib.Omega.{arith}
 use lib.Dec.{leb, ltb}
@@ -15,8 +14,6 @@ use Rattle.units.specs.Units.{kwh, milli_cents}
 use Rattle.rules.specs.declared.Counts.{Counts}
 use Rattle.rules.specs.declared.Margins.{Margins}
 use Rattle.rules.specs.declared.AccountHour.{AccountHour}
-use Rattle.rules.specs.declared.NetReading.{NetReading}
-use Rattle.rules.specs.declared.ExposureReading.{ExposureReading}
 use Rattle.rules.specs.declared.Position.{Position}
 use Rattle.rules.specs.declared.Position.TheVariants.{Long, Short}
 use Rattle.rules.specs.declared.Refusal.{Refusal}
@@ -62,7 +59,7 @@ stored_position b s v e low high = go (ltb b s) refl
 
 -- ---- tests in rank
 
-applies_here : (t : Bool) (r : Refusal) (cs : List Check) → t ≡ true → first_to_apply ((t ⇒ r) ∷ cs) ≡ some r
+applies_here : (t : Bool) (r : Refusal) (cs : List Check) → t ≡ true → first_to_apply ((t ⇒ r) ∷ cs) ≡ Some r
 unfolding first_to_apply
 applies_here t r cs e = rw (e, first_to_apply)
 
@@ -139,11 +136,11 @@ module _ (s : List ℕ) (h : is_sound s ≡ true) (n : Counts) (e : n ≡ counts
     by_account : {o : Bool} → not (within 1 a n.accounts) ≡ o → not (within 1 a (account_count u)) ≡ o
     by_account x = ap (λ (m : ℕ). not (within 1 a m)) accounts_counted ∙ x
 
-    pub net_no_account : not (within 1 a n.accounts) ≡ true → net_reading (book_in s) a t ≡ NetReading.Unread (OutOfRange 1)
+    pub net_no_account : not (within 1 a n.accounts) ≡ true → net_reading (book_in s) a t ≡ Err (OutOfRange 1)
     unfolding net_reading
     net_no_account x = ap (λ (o : Option Refusal). net_reading_of o net) (applies_here _ _ _ (by_account x))
 
-    pub net_no_hour : not (within 1 a n.accounts) ≡ false → not (within 1 t n.hours) ≡ true → net_reading (book_in s) a t ≡ NetReading.Unread (OutOfRange 5)
+    pub net_no_hour : not (within 1 a n.accounts) ≡ false → not (within 1 t n.hours) ≡ true → net_reading (book_in s) a t ≡ Err (OutOfRange 5)
     unfolding net_reading
     net_no_hour x y = ap (λ (o : Option Refusal). net_reading_of o net) (applies_past _ _ _ (by_account x) ∙ applies_here _ _ [] (by_hour t y))
 
@@ -158,35 +155,35 @@ module _ (s : List ℕ) (h : is_sound s ≡ true) (n : Counts) (e : n ≡ counts
       net_in_table = net_has_place s h a t account_inside hour_inside
 
       pub net_stands : (v : ℕ) → v ≡ number_at s (present_offset + net_offset most_hours a t) 4
-          → net_reading (book_in s) a t ≡ NetReading.Read (if ltb v (2 ^ 31) then Long (kwh v) else Short (kwh (2 ^ 32 - v)))
+          → net_reading (book_in s) a t ≡ Ok (if ltb v (2 ^ 31) then Long (kwh v) else Short (kwh (2 ^ 32 - v)))
       unfolding net_reading
       net_stands v q =
           let near = net_near s h a t account_inside hour_inside in
           let stored = net_stored_lem s h a t account_inside hour_inside v q in
           ap (λ (o : Option Refusal). net_reading_of o net) (clear_applies (net_checks (book_in s) a t) (rw (by_account x), (rw (by_hour t y), tt)))
-          ∙ ap NetReading.Read (stored_position _ _ v stored near.0 near.1)
+          ∙ ap Ok (stored_position _ _ v stored near.0 near.1)
 
   by_operator : (o : ℕ) {x : Bool} → not (within 1 o n.operators) ≡ x → not (within 1 o (operator_count u)) ≡ x
   by_operator o x = ap (λ (m : ℕ). not (within 1 o m)) operators_counted ∙ x
 
   module _ (o : ℕ) where
-    pub exposure-no_operator : not (within 1 o n.operators) ≡ true → exposure_reading (book_in s) o ≡ ExposureReading.Unread (OutOfRange 9)
+    pub exposure-no_operator : not (within 1 o n.operators) ≡ true → exposure_reading (book_in s) o ≡ Err (OutOfRange 9)
     unfolding exposure_reading
     exposure-no_operator x =
         ap (λ (y : Option Refusal). exposure_reading_of y (exposure u (book_in s).part.rows o)) (applies_here _ _ _ (by_operator o x))
 
     pub exposure_stands : (m : MilliCents) → not (within 1 o n.operators) ≡ false → m.0 ≡ exposure (setup_of s) (book_in s).part.rows o
-        → exposure_reading (book_in s) o ≡ ExposureReading.Read m
+        → exposure_reading (book_in s) o ≡ Ok m
     unfolding exposure_reading
     exposure_stands m x y =
         ap (λ (z : Option Refusal). exposure_reading_of z (exposure u (book_in s).part.rows o)) (clear_applies (exposure_checks (book_in s) o) (rw (by_operator o x), tt))
-        ∙ ap (λ (z : ℕ). ExposureReading.Read (milli_cents z)) (ap (λ (z : Setup). exposure z (book_in s).part.rows o) (setup_in_lem s h) ∙ sym y)
+        ∙ ap (λ (z : ℕ). Ok (milli_cents z)) (ap (λ (z : Setup). exposure z (book_in s).part.rows o) (setup_in_lem s h) ∙ sym y)
 
   module _ (o t : ℕ) where
     abbrev money : ℕ
     money = hourly_exposure u (book_in s).part.rows o t
 
-    pub hourly_no_hour : not (within 1 t n.hours) ≡ true → hourly_exposure_reading (book_in s) o t ≡ ExposureReading.Unread (OutOfRange 5)
+    pub hourly_no_hour : not (within 1 t n.hours) ≡ true → hourly_exposure_reading (book_in s) o t ≡ Err (OutOfRange 5)
     unfolding hourly_exposure_reading
     hourly_no_hour x = ap (λ (y : Option Refusal). exposure_reading_of y money) (applies_here _ _ _ (by_hour t x))
 
@@ -194,15 +191,15 @@ module _ (s : List ℕ) (h : is_sound s ≡ true) (n : Counts) (e : n ≡ counts
       pub hourly_hour_inside : IsHour (book_in s) t
       hourly_hour_inside = (within_true 1 t (periods u)).0 (not-false _ (by_hour t x))
 
-      pub hourly-no_operator : not (within 1 o n.operators) ≡ true → hourly_exposure_reading (book_in s) o t ≡ ExposureReading.Unread (OutOfRange 9)
+      pub hourly-no_operator : not (within 1 o n.operators) ≡ true → hourly_exposure_reading (book_in s) o t ≡ Err (OutOfRange 9)
       unfolding hourly_exposure_reading
       hourly-no_operator y =
           ap (λ (z : Option Refusal). exposure_reading_of z money) (applies_past _ _ _ (by_hour t x) ∙ applies_here _ _ [] (by_operator o y))
 
       pub hourly_stands : (m : MilliCents) → not (within 1 o n.operators) ≡ false → m.0 ≡ money
-          → hourly_exposure_reading (book_in s) o t ≡ ExposureReading.Read m
+          → hourly_exposure_reading (book_in s) o t ≡ Ok m
       unfolding hourly_exposure_reading
       hourly_stands m y e =
           ap (λ (z : Option Refusal). exposure_reading_of z money)
           (clear_applies (hourly_exposure_checks (book_in s) o t) (rw (by_hour t x), (rw (by_operator o y), tt)))
-          ∙ ap (λ (z : ℕ). ExposureReading.Read (milli_cents z)) (sym e)
+          ∙ ap (λ (z : ℕ). Ok (milli_cents z)) (sym e)

@@ -1,8 +1,8 @@
 -- What the bytes of a book hold at each place: they are the image of that book, so that what the image has there is read.
+use Rattle.std.specs.Prelude.{Option, None, Some}
 use Prim.Native.Nat.{ℕ, zero, suc, ◌+◌, ◌-◌, ◌≤◌, ◌<◌}
 use mathlib.Core.Path.{◌≡◌, refl, sym, ap, ◌∙◌}
 use mathlib.Core.List.{List, [], ◌∷◌}
-use mathlib.Core.Option.{Option, none, some}
 use mathlib.Core.Bool.{true}
 use native.Mathlib.Omega.{arith}
 use lib.ListN.{length, get_or, take, drop}
@@ -28,8 +28,8 @@ use Rattle.book.specs.Members.{IsRow, numbered_row}
 
 -- the flag says whether a batch is open
 flag_open : (o : Option Part) → eqb (flag o) 1 ≡ is_some o
-flag_open none = refl
-flag_open (some p) = refl
+flag_open None = refl
+flag_open (Some p) = refl
 
 -- rows that follow others are no fewer
 follows_longer : (xs ys : List Row) → follows xs ys ≡ true → length xs ≤ length ys

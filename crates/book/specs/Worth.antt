@@ -1,5 +1,5 @@
 -- Exposure in two parts (document 01, "Registration"): what of the net positions lies below zero, and the pending sales, row by row.
-use Rattle.std.specs.Prelude.{ℕ, ◌+◌, ◌-◌, ◌*◌, ◌≤◌, ◌≡◌, List, [], ◌∷◌, true, ◌&&◌, length, get_or, eqb, if◌then◌else◌}
+use Rattle.std.specs.Prelude.{ℕ, ◌+◌, ◌-◌, ◌*◌, ◌≤◌, ◌≡◌, List, [], ◌∷◌, true, ◌&&◌, length, get_or, eqb, if◌then◌else◌, Option, None, Some}
 use Rattle.units.specs.Units.{kwh}
 use Rattle.rules.specs.declared.Row.{Row}
 use Rattle.rules.specs.declared.Net.{Net}
@@ -8,8 +8,6 @@ use Rattle.rules.specs.Limits.{most_energy, most_price, most_hours, most_account
 use Rattle.rules.specs.Books.{Setup, Book, estimate_at, operator_of, account_count, periods, selling_side}
 use Rattle.rules.specs.Registration.{pending, includes_hour, account_hour, after_trade, after_trades, of_operator}
 use Rattle.image.specs.Valid.{is_sound, book_in}
-use Rattle.book.specs.declared.worth.Added.{Added}
-use Rattle.book.specs.declared.worth.Added.TheVariants.{Nothing, One}
 
 -- ---- the accounts' operators, and the rows that are to be added
 
@@ -28,12 +26,12 @@ pub record OperatorInputs (s operators : List ℕ) : Type 0 where
   pub account_operators : AccountOperators (book_in s).setup operators
 
 -- what is to be added, as rows
-abbrev pub added_rows : Added → List Row
-added_rows Nothing = []
-added_rows (One r) = r ∷ []
+abbrev pub added_rows : Option Row → List Row
+added_rows None = []
+added_rows (Some r) = r ∷ []
 
 -- each row that is to be added has a quantity in range
-abbrev pub QuantityInRange : Added → Type 0
+abbrev pub QuantityInRange : Option Row → Type 0
 QuantityInRange added = Each (λ r. r.quantity.0 ≤ most_energy) (added_rows added)
 
 -- ---- net positions below zero
@@ -59,7 +57,7 @@ abbrev pub net_with : List Row → List Row → ℕ → ℕ → Net
 net_with rows added a h = (after_trades a h (account_hour rows a h) added).net
 
 -- the same of a book
-abbrev pub nets_with : Book → Added → ℕ → ℕ → Net
+abbrev pub nets_with : Book → Option Row → ℕ → ℕ → Net
 nets_with b added = net_with b.part.rows (added_rows added)
 
 -- what of a net position lies below zero after the trade

@@ -9,13 +9,13 @@ ghost use Rattle.book.specs.Worth.{OperatorInputs, most_short};
 ghost use Rattle.book.specs.Hourly.{account_short_in_hour, operator_short_in_hour, sale_in_hour, most_operator_short, most_sales};
 
 use crate::state::{row_count, row_offset};
-use crate::worth::{Added, account_operators, price, short_at};
+use crate::worth::{account_operators, price, short_at};
 use image::rows::row_at;
 use rules::hours::waiting;
 use rules::sides::SELLS;
 use setup::counts::counts;
 use units::{Kwh, MilliCents};
-use wire::numbers::get_u8;
+use wire::numbers::get;
 
 // ---- net positions below zero
 
@@ -27,7 +27,7 @@ fn short_of_account(book: &[u8], operators: &[u8], operator: u8, hour: u8, accou
     ensures bounded { result.0 ≤ most_short }
 {
     if operators[account as usize] == operator {
-        return short_at(book, account, hour, Added::Nothing);
+        return short_at(book, account, hour, None);
     }
     Kwh(0)
 }
@@ -40,10 +40,8 @@ fn short_of_operator(book: &[u8], operators: &[u8], operator: u8, hour: u8) -> K
 {
     let n = counts(book);
     let mut sum = Kwh(0);
-    let mut account: u8 = 1;
-    while account <= n.accounts {
-        sum = sum.plus(short_of_account(book, operators, operator, hour, account));
-        account = account + 1;
+    for account in 1..=n.accounts {
+        sum = sum + short_of_account(book, operators, operator, hour, account);
     }
     sum
 }
@@ -57,7 +55,7 @@ fn sale_of_row(book: &[u8], operators: &[u8], operator: u8, hour: u8, number: u1
     ensures bounded { result.0 ≤ most_energy }
 {
     let at = row_offset(number);
-    if operators[get_u8(book, at) as usize] != operator {
+    if operators[get::<u8>(book, at) as usize] != operator {
         return Kwh(0);
     }
     let r = row_at(book, at);
@@ -72,10 +70,8 @@ fn sales_of_operator(book: &[u8], operators: &[u8], operator: u8, hour: u8) -> K
 {
     let rows = row_count(book);
     let mut sum = Kwh(0);
-    let mut number: u16 = 1;
-    while number <= rows {
-        sum = sum.plus(sale_of_row(book, operators, operator, hour, number));
-        number = number + 1;
+    for number in 1..=rows {
+        sum = sum + sale_of_row(book, operators, operator, hour, number);
     }
     sum
 }
@@ -91,5 +87,5 @@ pub fn hourly_exposure(book: &[u8], operator: u8, hour: u8) -> MilliCents
     let below = short_of_operator(book, &operators, operator, hour);
     let waits = sales_of_operator(book, &operators, operator, hour);
     let price = price(book, hour);
-    below.plus(waits).at(price)
+    (below + waits).at(price)
 }

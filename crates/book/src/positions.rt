@@ -12,15 +12,15 @@ ghost use Rattle.book.specs.Netted.{netted};
 use crate::state::net_offset;
 use rules::Net;
 use units::Kwh;
-use wire::numbers::get_u32;
-use wire::signed::{HALF_U32, minus_u32};
+use wire::numbers::get;
+use wire::signed::{HALF_U32, SignedWord};
 
 // The 4 bytes that hold the net of an account in an hour.
 pub fn stored_net(book: &[u8], account: u8, hour: u8) -> u32
     requires { (is_sound book.now ≡ true) × InTable most_hours account hour }
     ensures { result ≡ number_at book.now (present_offset + net_offset most_hours account hour) net_width }
 {
-    get_u32(book, net_offset(account, hour))
+    get::<u32>(book, net_offset(account, hour))
 }
 
 // The net position of an account in an hour: what was bought beyond what was sold, or the reverse.
@@ -37,6 +37,6 @@ pub fn net_at(book: &[u8], account: u8, hour: u8) -> Net
     }
     Net {
         bought: Kwh(0),
-        sold: Kwh(minus_u32(stored)),
+        sold: Kwh(stored.minus()),
     }
 }

@@ -8,11 +8,11 @@ ghost use Rattle.image.specs.Valid.{is_sound, book_in};
 
 use crate::hourly::hourly_exposure;
 use crate::positions::stored_net;
-use crate::worth::{Added, exposure_with};
-use rules::{ExposureReading, NetReading, Position, Refusal};
+use crate::worth::exposure_with;
+use rules::{Position, Refusal};
 use setup::counts::counts;
-use units::Kwh;
-use wire::signed::{HALF_U32, minus_u32};
+use units::{Kwh, MilliCents};
+use wire::signed::{HALF_U32, SignedWord};
 
 // The number is not among those from 1 to `most`.
 fn outside(number: u8, most: u8) -> bool
@@ -28,47 +28,47 @@ fn position_of(stored: u32) -> Position
     if stored < HALF_U32 {
         return Position::Long(Kwh(stored));
     }
-    Position::Short(Kwh(minus_u32(stored)))
+    Position::Short(Kwh(stored.minus()))
 }
 
 // The net position of an account in an hour.
-pub fn net_in(book: &[u8], account: u8, hour: u8) -> NetReading
+pub fn net_in(book: &[u8], account: u8, hour: u8) -> Result<Position, Refusal>
     requires { is_sound book.now ≡ true }
     ensures { result ≡ net_reading (book_in book.now) account hour }
 {
     let n = counts(book);
     if outside(account, n.accounts) {
-        return NetReading::Unread(Refusal::OutOfRange { bit: 1 });
+        return Err(Refusal::OutOfRange { bit: 1 });
     }
     if outside(hour, n.hours) {
-        return NetReading::Unread(Refusal::OutOfRange { bit: 5 });
+        return Err(Refusal::OutOfRange { bit: 5 });
     }
-    NetReading::Read(position_of(stored_net(book, account, hour)))
+    Ok(position_of(stored_net(book, account, hour)))
 }
 
 // The exposure of an operator.
-pub fn exposure_in(book: &[u8], operator: u8) -> ExposureReading
+pub fn exposure_in(book: &[u8], operator: u8) -> Result<MilliCents, Refusal>
     requires { is_sound book.now ≡ true }
     ensures { result ≡ exposure_reading (book_in book.now) operator }
 {
     let n = counts(book);
     if outside(operator, n.operators) {
-        return ExposureReading::Unread(Refusal::OutOfRange { bit: 9 });
+        return Err(Refusal::OutOfRange { bit: 9 });
     }
-    ExposureReading::Read(exposure_with(book, operator, Added::Nothing))
+    Ok(exposure_with(book, operator, None))
 }
 
 // The hourly exposure of an operator.
-pub fn hourly_exposure_in(book: &[u8], operator: u8, hour: u8) -> ExposureReading
+pub fn hourly_exposure_in(book: &[u8], operator: u8, hour: u8) -> Result<MilliCents, Refusal>
     requires { is_sound book.now ≡ true }
     ensures { result ≡ hourly_exposure_reading (book_in book.now) operator hour }
 {
     let n = counts(book);
     if outside(hour, n.hours) {
-        return ExposureReading::Unread(Refusal::OutOfRange { bit: 5 });
+        return Err(Refusal::OutOfRange { bit: 5 });
     }
     if outside(operator, n.operators) {
-        return ExposureReading::Unread(Refusal::OutOfRange { bit: 9 });
+        return Err(Refusal::OutOfRange { bit: 9 });
     }
-    ExposureReading::Read(hourly_exposure(book, operator, hour))
+    Ok(hourly_exposure(book, operator, hour))
 }

@@ -2,7 +2,7 @@
 ghost use Rattle.std.specs.Prelude.{◌≡◌, true, ◌+◌, ◌-◌, ◌≤◌, length};
 ghost use Rattle.rules.specs.Basics.{is_some};
 ghost use Rattle.rules.specs.Limits.{most_rows, most_schedules, most_hours, most_operators};
-ghost use Rattle.rules.specs.Books.{operator_of};
+ghost use Rattle.rules.specs.Books.{operator_of, phase_number};
 ghost use Rattle.rules.specs.Calls.{restored};
 ghost use Rattle.image.specs.Layout.{present_offset, row_offset, net_offset};
 ghost use Rattle.image.specs.Valid.{is_sound, book_in};
@@ -13,15 +13,16 @@ use image::layout::{
     ACCOUNT_NETS, FLAG_OFFSET, NET_WIDTH, NETS_OFFSET, PHASE_OFFSET, PRESENT_OFFSET,
     ROW_COUNT_OFFSET, ROW_WIDTH, ROWS_OFFSET, SAVED_OFFSET, SCHEDULE_COUNT_OFFSET,
 };
+use rules::phases::Phase;
 use setup::entries::account_operator;
-use wire::numbers::{get_u8, get_u16};
+use wire::numbers::get;
 
-// The phase: 1 registration, 2 schedules, 3 settled.
-pub fn phase(book: &[u8]) -> u8
+// The phase of the day.
+pub fn phase(book: &[u8]) -> Phase
     requires { is_sound book.now ≡ true }
-    ensures { result ≡ (book_in book.now).phase }
+    ensures { phase_number result ≡ (book_in book.now).phase }
 {
-    get_u8(book, PHASE_OFFSET)
+    Phase::of(get::<u8>(book, PHASE_OFFSET))
 }
 
 // Whether a batch is open.
@@ -29,7 +30,7 @@ pub fn batch_open(book: &[u8]) -> bool
     requires { is_sound book.now ≡ true }
     ensures { result ≡ is_some (book_in book.now).saved }
 {
-    get_u8(book, FLAG_OFFSET) == 1
+    get::<u8>(book, FLAG_OFFSET) == 1
 }
 
 // How many rows there are, withdrawn ones too.
@@ -38,7 +39,7 @@ pub fn row_count(book: &[u8]) -> u16
     ensures meaning { result ≡ length (book_in book.now).part.rows }
     ensures bounded { result ≤ most_rows }
 {
-    get_u16(book, PRESENT_OFFSET + ROW_COUNT_OFFSET)
+    get::<u16>(book, PRESENT_OFFSET + ROW_COUNT_OFFSET)
 }
 
 // How many schedules there are.
@@ -47,7 +48,7 @@ pub fn schedule_count(book: &[u8]) -> u16
     ensures meaning { result ≡ length (book_in book.now).schedules }
     ensures bounded { result ≤ most_schedules }
 {
-    get_u16(book, SCHEDULE_COUNT_OFFSET)
+    get::<u16>(book, SCHEDULE_COUNT_OFFSET)
 }
 
 // How many rows the open batch saved: at most as many as there are now.
@@ -57,7 +58,7 @@ pub fn saved_row_count(book: &[u8]) -> u16
     ensures meaning { let b = book_in book.now in result ≡ length (restored b.saved b.part).rows }
     ensures bounded { result ≤ length (book_in book.now).part.rows }
 {
-    get_u16(book, SAVED_OFFSET + ROW_COUNT_OFFSET)
+    get::<u16>(book, SAVED_OFFSET + ROW_COUNT_OFFSET)
 }
 
 // Where the row of a number begins.

@@ -17,7 +17,7 @@ use rules::sides::{BUYS, SELLS};
 use rules::statuses::PENDING;
 use rules::{AccountHour, Row};
 use units::Kwh;
-use wire::numbers::get_u8;
+use wire::numbers::get;
 
 // How many cells the table has: one for the sales of each hour, and one for its purchases.
 pub const WAITS_SIZE: usize = 2 * PERIODS;
@@ -57,10 +57,10 @@ fn add_own(
     ensures tells { result ≡ alike account counterparty code (numbered_row (book_in book.now) number) }
 {
     let at = row_offset(number);
-    if get_u8(book, at) != account {
+    if get::<u8>(book, at) != account {
         return false;
     }
-    if get_u8(book, at + STATUS_OFFSET) != PENDING {
+    if get::<u8>(book, at + STATUS_OFFSET) != PENDING {
         return false;
     }
     let r = row_at(book, at);
@@ -83,11 +83,9 @@ pub fn fill_waits(table: &mut [u32], book: &[u8], account: u8, counterparty: u8,
 {
     let n = row_count(book);
     let mut found = false;
-    let mut number: u16 = 1;
-    while number <= n {
+    for number in 1..=n {
         let here = add_own(table, book, number, account, counterparty, code);
         found = found | here;
-        number = number + 1;
     }
     found
 }

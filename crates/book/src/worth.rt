@@ -19,14 +19,7 @@ use rules::{AccountHour, Net, Row};
 use setup::counts::counts;
 use setup::entries::estimate;
 use units::{CentsPerMwh, Kwh, MilliCents};
-use wire::numbers::get_u8;
-
-// What is to be added to the rows of a book.
-#[derive(Clone, Copy)]
-pub enum Added {
-    Nothing,
-    One(Row),
-}
+use wire::numbers::get;
 
 // How many operators of accounts there are: one for each account that a book can have, and one for no account.
 const ACCOUNT_OPERATORS: usize = MOST_ACCOUNTS as usize + 1;
@@ -42,10 +35,8 @@ fn fill_operators(operators: &mut [u8], book: &[u8])
     ensures { AccountOperators (book_in book.now).setup operators.new }
 {
     let n = counts(book);
-    let mut number: u8 = 1;
-    while number <= n.accounts {
+    for number in 1..=n.accounts {
         operators[number as usize] = operator_of(book, number);
-        number = number + 1;
     }
 }
 
@@ -77,11 +68,9 @@ fn fill_prices(sums: &mut [u64], book: &[u8])
 {
     let n = counts(book);
     sums[0] = 0;
-    let mut hour: u8 = 1;
-    while hour <= n.hours {
+    for hour in 1..=n.hours {
         let price = price(book, hour);
         sums[hour as usize] = sums[hour as usize - 1] + price.0 as u64;
-        hour = hour + 1;
     }
 }
 
@@ -129,7 +118,7 @@ fn row_sale(book: &[u8], sums: &[u64], operators: &[u8], operator: u8, number: u
     ensures bounded { result.0 ≤ most_sale_worth }
 {
     let at = row_offset(number);
-    if operators[get_u8(book, at) as usize] != operator {
+    if operators[get::<u8>(book, at) as usize] != operator {
         return MilliCents(0);
     }
     sale_of(book, sums, operators, operator, row_at(book, at))
@@ -143,23 +132,27 @@ fn sales_worth(book: &[u8], sums: &[u64], operators: &[u8], operator: u8) -> Mil
 {
     let rows = row_count(book);
     let mut sum = MilliCents(0);
-    let mut number: u16 = 1;
-    while number <= rows {
-        sum = sum.plus(row_sale(book, sums, operators, operator, number));
-        number = number + 1;
+    for number in 1..=rows {
+        sum = sum + row_sale(book, sums, operators, operator, number);
     }
     sum
 }
 
 // What the row that is to be added adds to it, if there is one.
-fn added_sale(book: &[u8], sums: &[u64], operators: &[u8], operator: u8, added: Added) -> MilliCents
+fn added_sale(
+    book: &[u8],
+    sums: &[u64],
+    operators: &[u8],
+    operator: u8,
+    added: Option<Row>,
+) -> MilliCents
     requires { SaleInputs book.now sums.now operators.now × Each (TradeInRange (book_in book.now).setup) (added_rows added) }
     ensures meaning { result.0 ≡ total (sale_worth (book_in book.now).setup operator) (added_rows added) }
     ensures bounded { result.0 ≤ most_sale_worth }
 {
     match added {
-        Added::Nothing => MilliCents(0),
-        Added::One(r) => sale_of(book, sums, operators, operator, r),
+        None => MilliCents(0),
+        Some(r) => sale_of(book, sums, operators, operator, r),
     }
 }
 
@@ -185,38 +178,42 @@ fn short_with(net: Net, account: u8, hour: u8, trade: Row) -> Kwh
 }
 
 // What of an account's net position in an hour lies below zero, with what is to be added.
-pub fn short_at(book: &[u8], account: u8, hour: u8, added: Added) -> Kwh
+pub fn short_at(book: &[u8], account: u8, hour: u8, added: Option<Row>) -> Kwh
     requires { let b = book_in book.now in (is_sound book.now ≡ true) × IsAccount b account × IsHour b hour × QuantityInRange added }
     ensures meaning { result.0 ≡ short_of (nets_with (book_in book.now) added account hour) }
     ensures bounded { result.0 ≤ most_short }
 {
     let net = net_at(book, account, hour);
     match added {
-        Added::Nothing => short(net),
-        Added::One(trade) => short_with(net, account, hour, trade),
+        None => short(net),
+        Some(trade) => short_with(net, account, hour, trade),
     }
 }
 
 // What of an account's net positions in all hours lies below zero, at estimated prices.
-fn account_short(book: &[u8], account: u8, added: Added) -> MilliCents
+fn account_short(book: &[u8], account: u8, added: Option<Row>) -> MilliCents
     requires { (is_sound book.now ≡ true) × IsAccount (book_in book.now) account × QuantityInRange added }
     ensures meaning { let b = book_in book.now in result.0 ≡ account_short b.setup (nets_with b added) account }
     ensures bounded { result.0 ≤ most_short_worth }
 {
     let n = counts(book);
     let mut sum = MilliCents(0);
-    let mut hour: u8 = 1;
-    while hour <= n.hours {
+    for hour in 1..=n.hours {
         let below = short_at(book, account, hour, added);
         let price = price(book, hour);
-        sum = sum.plus(below.at(price));
-        hour = hour + 1;
+        sum = sum + below.at(price);
     }
     sum
 }
 
 // What the account adds to the operator's sum of these: nothing where it is another operator's.
-fn short_share(book: &[u8], operators: &[u8], account: u8, operator: u8, added: Added) -> MilliCents
+fn short_share(
+    book: &[u8],
+    operators: &[u8],
+    account: u8,
+    operator: u8,
+    added: Option<Row>,
+) -> MilliCents
     requires { OperatorInputs book.now operators.now × IsAccount (book_in book.now) account × QuantityInRange added }
     ensures meaning { let b = book_in book.now in result.0 ≡ short_share b.setup (nets_with b added) operator account }
     ensures bounded { result.0 ≤ most_short_worth }
@@ -228,17 +225,15 @@ fn short_share(book: &[u8], operators: &[u8], account: u8, operator: u8, added: 
 }
 
 // What of the net positions of all the operator's accounts lies below zero, at estimated prices.
-fn short_worth(book: &[u8], operators: &[u8], operator: u8, added: Added) -> MilliCents
+fn short_worth(book: &[u8], operators: &[u8], operator: u8, added: Option<Row>) -> MilliCents
     requires { OperatorInputs book.now operators.now × QuantityInRange added }
     ensures meaning { let b = book_in book.now in result.0 ≡ short_worth b.setup (nets_with b added) operator }
     ensures bounded { result.0 ≤ most_accounts * most_short_worth }
 {
     let n = counts(book);
     let mut sum = MilliCents(0);
-    let mut account: u8 = 1;
-    while account <= n.accounts {
-        sum = sum.plus(short_share(book, operators, account, operator, added));
-        account = account + 1;
+    for account in 1..=n.accounts {
+        sum = sum + short_share(book, operators, account, operator, added);
     }
     sum
 }
@@ -246,7 +241,7 @@ fn short_worth(book: &[u8], operators: &[u8], operator: u8, added: Added) -> Mil
 // ---- exposure
 
 // The exposure of an operator, with what is to be added.
-pub fn exposure_with(book: &[u8], operator: u8, added: Added) -> MilliCents
+pub fn exposure_with(book: &[u8], operator: u8, added: Option<Row>) -> MilliCents
     requires { (is_sound book.now ≡ true) × Each (TradeInRange (book_in book.now).setup) (added_rows added) }
     ensures meaning { let b = book_in book.now in result.0 ≡ exposure_with b.setup b.part.rows (added_rows added) operator }
     ensures bounded { result.0 < 2 ^ 63 }
@@ -256,5 +251,5 @@ pub fn exposure_with(book: &[u8], operator: u8, added: Added) -> MilliCents
     let below = short_worth(book, &operators, operator, added);
     let waits = sales_worth(book, &sums, &operators, operator);
     let own = added_sale(book, &sums, &operators, operator, added);
-    below.plus(waits).plus(own)
+    below + waits + own
 }

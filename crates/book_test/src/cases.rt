@@ -2,10 +2,9 @@
 use asks::whole::is_book;
 use book::opening::open;
 use day::interface::{exposure, net};
-use rules::verdicts::outcome_numbers;
 use std::io::{Result, Write};
 use test_lines::{HEAD, begin, bytes, end, exposure_line, net_line, number, small, verdict};
-use wire::numbers::get_u16;
+use wire::numbers::get;
 use wire::regions::copy_in;
 
 // The bytes of the room that are judged and read.
@@ -16,10 +15,10 @@ fn show_open<W: Write>(out: &mut W, body: &[u8], room: &mut [u8]) -> Result<()> 
     if body.len() < 2 {
         return Ok(());
     }
-    let lent = io::count(get_u16(body, 0) as isize, room);
+    let lent = io::count(get::<u16>(body, 0) as isize, room);
     let outcome = open(&body[2..], &mut room[..lent]);
     begin(out, b'o')?;
-    verdict(out, outcome_numbers(outcome))?;
+    verdict(out, outcome.into())?;
     end(out)
 }
 
@@ -37,7 +36,7 @@ fn show_judged<W: Write>(out: &mut W, body: &[u8], room: &[u8]) -> Result<()> {
     if body.len() < 2 {
         return Ok(());
     }
-    let size = get_u16(body, 0);
+    let size = get::<u16>(body, 0);
     begin(out, b'l')?;
     number(out, size as u64)?;
     number(out, book_flag(size, room))?;
@@ -49,7 +48,7 @@ fn put(body: &[u8], room: &mut [u8]) {
     if body.len() < 2 {
         return;
     }
-    let at = get_u16(body, 0) as usize;
+    let at = get::<u16>(body, 0) as usize;
     let put = &body[2..];
     if room.len() < at {
         return;
@@ -75,7 +74,7 @@ fn show_damaged<W: Write>(out: &mut W, body: &[u8], room: &mut [u8]) -> Result<(
     if body.len() < 3 {
         return Ok(());
     }
-    let offset = get_u16(body, 0);
+    let offset = get::<u16>(body, 0);
     let new = body[2];
     let old = exchange(room, offset as usize, new);
     let flag = book_flag(BOOK_SIZE, room);
@@ -110,9 +109,9 @@ fn show_bytes<W: Write>(out: &mut W, body: &[u8], room: &[u8]) -> Result<()> {
     if body.len() < 4 {
         return Ok(());
     }
-    let from = io::count(get_u16(body, 0) as isize, room);
+    let from = io::count(get::<u16>(body, 0) as isize, room);
     let rest = &room[from..];
-    let n = io::count(get_u16(body, 2) as isize, rest);
+    let n = io::count(get::<u16>(body, 2) as isize, rest);
     begin(out, b'x')?;
     bytes(out, &rest[..n])?;
     end(out)

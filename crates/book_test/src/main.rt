@@ -9,6 +9,7 @@ use test_lines::{case_end, read_full};
 
 fn run_cases<W: Write>(out: &mut W, input: &[u8], room: &mut [u8]) -> Result<()> {
     let mut at = 0;
+    // No index: a case says itself where it ends.
     while at < input.len() {
         let end = case_end(input, at);
         cases::run(out, &input[at..end], room)?;

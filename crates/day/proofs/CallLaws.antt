@@ -1,20 +1,18 @@
 -- What a call on a book answers, by what its record reads as: refused where it says nothing, else as its request is; and what it answers once
 -- asks are cleared. The record of a settle is always the same three bytes, so that the call is the settle of what it was lent.
+use Rattle.std.specs.Prelude.{Err, Ok, Option, None, Some}
 use Prim.Native.Nat.{ℕ}
 use mathlib.Core.Path.{◌≡◌, refl, sym, ap, ◌∙◌}
 use mathlib.Core.List.{List, [], ◌∷◌}
-use mathlib.Core.Option.{Option, none, some}
 use mathlib.Core.Bool.{true, false}
 use borrow.Author.Tests.{eqb-true}
 use Rattle.wire.specs.Numbers.{Bytes, le}
 use Rattle.rules.specs.declared.Request.{Request}
-use Rattle.rules.specs.declared.Outcome.{Outcome}
 use Rattle.rules.specs.declared.Refusal.{Refusal}
 use Rattle.rules.specs.declared.Refusal.TheVariants.{NotABook}
-use Rattle.rules.specs.declared.Reading.TheVariants.{Read, Unread}
 use Rattle.rules.specs.Basics.{bit}
 use Rattle.rules.specs.Limits.{most_hours, book_size}
-use Rattle.rules.specs.Verdicts.{refused}
+use Rattle.rules.specs.Verdicts.{refused, Verdict}
 use Rattle.rules.specs.Books.{Book, with_asks, no_asks}
 use Rattle.rules.specs.Requests.{settle, room, field_in, reading, is_strip, field_bytes, write, unless_refused}
 use Rattle.rules.specs.Calls.{Call, Answer, Gives, call_kind, call_requests, changed, ◌one_of◌, refusal, step, uncleared}
@@ -42,11 +40,11 @@ unfolding write field_bytes room bit le
 settle_bytes q e = rw e
 
 -- bytes that read as a settle are its record
-pub settle_record_lem : (s : List ℕ) (q : Request) → Bytes s → reading s ≡ Read q → q.kind ≡ 10 → s ≡ settle_record
+pub settle_record_lem : (s : List ℕ) (q : Request) → Bytes s → reading s ≡ Ok q → q.kind ≡ 10 → s ≡ settle_record
 settle_record_lem s q b e k = sym (read_writes_back s q b e) ∙ settle_bytes q k
 
 -- so that the call is the settle of what it was lent
-settle_answered : (s bytes prices results balances : List ℕ) (q : Request) → Bytes bytes → reading bytes ≡ Read q → q.kind ≡ 10
+settle_answered : (s bytes prices results balances : List ℕ) (q : Request) → Bytes bytes → reading bytes ≡ Ok q → q.kind ≡ 10
     → change_answer s (call_with bytes prices results balances) ≡ settle_answer s prices results balances
 settle_answered s bytes prices results balances q b e k =
     ap (λ (x : List ℕ). change_answer s (call_with x prices results balances)) (settle_record_lem bytes q b e k)
@@ -57,7 +55,7 @@ given : (x : Answer (List ℕ)) → Gives x x.outcome x.book x.results x.balance
 given x = record { outcome_given = refl; book_left = refl; results_left = refl; balances_left = refl }
 
 -- it is given, and the bytes are those of a sound book
-abbrev pub GivesSound : Answer (List ℕ) → Outcome → List ℕ → List ℕ → List ℕ → Type 0
+abbrev pub GivesSound : Answer (List ℕ) → Verdict → List ℕ → List ℕ → List ℕ → Type 0
 GivesSound x o t results balances = Gives x o t results balances × (is_sound t ≡ true)
 
 -- of bytes that are no book
@@ -66,21 +64,21 @@ no_book_given s c h = rw (call_on_no_book s c h) (given _)
 
 module _ (s : List ℕ) (c : Call) (h : is_sound s ≡ true) where
   -- of a record that says nothing
-  pub unread_given : (r : Refusal) → is_strip c.bytes ≡ false → reading c.bytes ≡ Unread r
+  pub unread_given : (r : Refusal) → is_strip c.bytes ≡ false → reading c.bytes ≡ Err r
       → GivesSound (change_answer s c) (refused r) s c.results c.balances
   unread_given r single e =
-      let checks = single_checks c.bytes (some r) single (unread_checks c.bytes r e) in
+      let checks = single_checks c.bytes (Some r) single (unread_checks c.bytes r e) in
       rw (change-refused s c h r (bytes_refused (book_in s) c r checks)) (given _, h)
 
   -- of a plain request
-  pub said_given : (q : Request) → reading c.bytes ≡ Read q → (q.kind ≡ 10 → ⊥) → (o : Outcome) (t : List ℕ) → AnsweredSaying q s o t
+  pub said_given : (q : Request) → reading c.bytes ≡ Ok q → (q.kind ≡ 10 → ⊥) → (o : Verdict) (t : List ℕ) → AnsweredSaying q s o t
       → GivesSound (change_answer s c) o t c.results c.balances
   said_given q e other o t x =
       let stay = buffers_stay s c h q e (other_kind c.bytes q e other) in
       (record { outcome_given = x.0 c e; book_left = x.1.0 c e; results_left = sym stay.0; balances_left = sym stay.1 }, x.1.1)
 
 -- of a strip
-pub strip-given : (s : List ℕ) (c : Call) → is_strip c.bytes ≡ true → (o : Outcome) (t : List ℕ) → AnsweredStrip s c.bytes o t
+pub strip-given : (s : List ℕ) (c : Call) → is_strip c.bytes ≡ true → (o : Verdict) (t : List ℕ) → AnsweredStrip s c.bytes o t
     → GivesSound (change_answer s c) o t c.results c.balances
 unfolding uncleared
 strip-given s c is o t x =
@@ -96,8 +94,8 @@ strip-given s c is o t x =
     )
 
 -- of a settle
-pub settle-given : (s bytes prices results balances : List ℕ) (q : Request) → Bytes bytes → reading bytes ≡ Read q → q.kind ≡ 10
-    → (o : Outcome) (t new_results new_balances : List ℕ)
+pub settle-given : (s bytes prices results balances : List ℕ) (q : Request) → Bytes bytes → reading bytes ≡ Ok q → q.kind ≡ 10
+    → (o : Verdict) (t new_results new_balances : List ℕ)
     → GivesSound (settle_answer s prices results balances) o t new_results new_balances
     → GivesSound (change_answer s (call_with bytes prices results balances)) o t new_results new_balances
 settle-given s bytes prices results balances q b e k o t new_results new_balances x =
@@ -111,12 +109,12 @@ unfolding uncleared
 uncleared_sound b c bytes s = go (refusal b c) refl
   where
     go : (o : Option Refusal) → refusal b c ≡ o → SoundBook (unless_refused (refusal b c) b (changed (call_kind c) b (call_requests c)))
-    go (some r) e = rw e s
-    go none e =
+    go (Some r) e = rw e s
+    go None e =
         let w = passed b c e in
         rw e (change_keeps (call_kind c) b c (call_requests c) (passed_asked w) (codes_fit c.bytes bytes) s w.input w.state)
 
-module _ (s : List ℕ) (c : Call) (h : is_book s ≡ true) (bytes : Bytes c.bytes) (o : Outcome) (t r l : List ℕ) (x : Gives (change_answer s c) o t r l) where
+module _ (s : List ℕ) (c : Call) (h : is_book s ≡ true) (bytes : Bytes c.bytes) (o : Verdict) (t r l : List ℕ) (x : Gives (change_answer s c) o t r l) where
   outcome_same : o ≡ (step (book_in s) c).outcome
   unfolding uncleared
   outcome_same = x.outcome_given

@@ -1,9 +1,8 @@
 -- The checks of a call by their numbers, in rank; none of them is 1: no call on a plain book is refused with it.
-use Rattle.std.specs.Prelude.{if◌then◌else◌}
+use Rattle.std.specs.Prelude.{if◌then◌else◌, Option, None, Some}
 use Prim.Native.Nat.{ℕ, ◌<◌}
 use mathlib.Core.Path.{◌≡◌, refl, ◌∙◌}
 use mathlib.Core.List.{List, [], ◌∷◌, map}
-use mathlib.Core.Option.{Option, none, some}
 use mathlib.Core.Bool.{Bool, true, false}
 use native.Mathlib.Omega.{arith}
 use lib.Dec.{ltb}
@@ -24,8 +23,8 @@ use Rattle.image.specs.Valid.{book_bytes}
 -- ---- the number of a check
 
 abbrev found : Option ℕ → ℕ
-found none = 0
-found (some n) = n
+found None = 0
+found (Some n) = n
 
 -- the number that a check refuses with
 abbrev rank : Check → ℕ
@@ -42,20 +41,20 @@ pub ranks_of_a_record : (b : Book) (c : Call) → is_strip c.bytes ≡ false
 unfolding checks read_checks input_checks state_checks
 ranks_of_a_record b c e = rw (single_requests c.bytes e, e)
 
-applies_ranked : (c : Check) (r : Refusal) → applies c ≡ some r → rank c ≡ (refusal_numbers r).0
+applies_ranked : (c : Check) (r : Refusal) → applies c ≡ Some r → rank c ≡ (refusal_numbers r).0
 applies_ranked (true ⇒ x) r e = cc
 applies_ranked (false ⇒ x) r e = cc
-applies_ranked (some n ⇒↑ x) r e = cc
-applies_ranked (none ⇒↑ x) r e = cc
+applies_ranked (Some n ⇒↑ x) r e = cc
+applies_ranked (None ⇒↑ x) r e = cc
 
 applies_above_go : (c : Check) (cs : List Check) (r : Refusal) (o : Option Refusal) → applies c ≡ o → 1 < rank c
-    → (first_to_apply cs ≡ some r → 1 < (refusal_numbers r).0) → first_to_apply (c ∷ cs) ≡ some r → 1 < (refusal_numbers r).0
+    → (first_to_apply cs ≡ Some r → 1 < (refusal_numbers r).0) → first_to_apply (c ∷ cs) ≡ Some r → 1 < (refusal_numbers r).0
 unfolding first_to_apply
-applies_above_go c cs r (some y) f l rest e = omega (arith, applies_ranked c r (f ∙ (rw (f, first_to_apply) at e)))
-applies_above_go c cs r none f l rest e = rest (rw (f, first_to_apply) at e)
+applies_above_go c cs r (Some y) f l rest e = omega (arith, applies_ranked c r (f ∙ (rw (f, first_to_apply) at e)))
+applies_above_go c cs r None f l rest e = rest (rw (f, first_to_apply) at e)
 
 -- where every check's number is above 1, so is what is found
-applies_above : {cs : List Check} → Each (λ c. ltb 1 (rank c) ≡ true) cs → (r : Refusal) → first_to_apply cs ≡ some r → 1 < (refusal_numbers r).0
+applies_above : {cs : List Check} → Each (λ c. ltb 1 (rank c) ≡ true) cs → (r : Refusal) → first_to_apply cs ≡ Some r → 1 < (refusal_numbers r).0
 unfolding first_to_apply
 applies_above nil r e = let z : ◌≡◌ {A = ℕ} 0 1 = cc in absurd (omega arith)
 applies_above (cons {x = c} {xs = cs} l ls) r e = applies_above_go c cs r (applies c) refl (ltb-true 1 (rank c) l) (applies_above ls r) e
@@ -91,7 +90,7 @@ state_above b k qs = every_each (λ c. ltb 1 (rank c)) (state_checks b k qs) ref
 abbrev pub NotOne : {B : Type 0} → Run B → Type 0
 NotOne x = (numbers x.answer.outcome).0 ≡ 1 → ⊥
 
-refusal_above : (b : Book) (c : Call) (r : Refusal) → refusal b c ≡ some r → 1 < (refusal_numbers r).0
+refusal_above : (b : Book) (c : Call) (r : Refusal) → refusal b c ≡ Some r → 1 < (refusal_numbers r).0
 unfolding refusal checks
 refusal_above b c r e =
     applies_above
@@ -105,8 +104,8 @@ unfolding step answer
 step_not_one b c h = go (refusal b c) refl h
   where
     go : (o : Option Refusal) → refusal b c ≡ o → (numbers (answer b c o).outcome).0 ≡ 1 → ⊥
-    go (some r) e h = omega (arith, refusal_above b c r e)
-    go none e h = omega arith
+    go (Some r) e h = omega (arith, refusal_above b c r e)
+    go None e h = omega arith
 
 pub runs_not_one : (b : Book) (cs : List Call) → Each NotOne (map (carried_run book_bytes) (runs step b cs))
 unfolding runs

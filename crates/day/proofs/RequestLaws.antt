@@ -1,24 +1,20 @@
 -- What a request is answered on a book before asks are cleared, whatever record says it: 6 and 7 first, then by its kind. Every single kind
 -- but settle looks at nothing that a call is lent beside its record.
-use Rattle.std.specs.Prelude.{if◌then◌else◌}
+use Rattle.std.specs.Prelude.{if◌then◌else◌, Err, Ok, Option, None, Some}
 use Prim.Native.Nat.{ℕ, ◌^◌, ◌≤◌, ◌<◌}
 use mathlib.Core.Path.{◌≡◌, refl, sym, ap, ◌∙◌}
 use mathlib.Core.List.{List, [], ◌∷◌}
-use mathlib.Core.Option.{Option, none, some}
 use mathlib.Core.Bool.{Bool, true, false, not}
 use native.Mathlib.Omega.{arith}
 use lib.Dec.{eqb}
 use borrow.Author.Tests.{eqb-false, eq-eqb, ne_eqb, not-true}
 use Rattle.wire.specs.Numbers.{Bytes}
-use Rattle.rules.specs.declared.Checked.{Checked}
 use Rattle.rules.specs.declared.Counts.{Counts}
 use Rattle.rules.specs.declared.Request.{Request}
-use Rattle.rules.specs.declared.Outcome.{Outcome}
 use Rattle.rules.specs.declared.Refusal.{Refusal}
 use Rattle.rules.specs.declared.Refusal.TheVariants.{WrongLength, OutOfRange, SameAccount, BufferShort}
-use Rattle.rules.specs.declared.Reading.TheVariants.{Read, Unread}
 use Rattle.rules.specs.Limits.{most_hours, book_size}
-use Rattle.rules.specs.Verdicts.{◌⇒◌, ◌⇒↑◌, first_to_apply, checked, refused}
+use Rattle.rules.specs.Verdicts.{◌⇒◌, ◌⇒↑◌, first_to_apply, checked, refused, Checked, Verdict}
 use Rattle.rules.specs.Books.{Book, counts_of}
 use Rattle.rules.specs.Opening.{counts_in}
 use Rattle.rules.specs.Requests.{Kind, register, settle, strip, ask, is_single, kind_number, kind_of, field_in, request_of, read_checks, reading_of, reading, is_strip, Fits, faulty_bit, faulty_bit_among, same_accounts, range_checks}
@@ -40,31 +36,31 @@ use Rattle.day.proofs.Stages.{change-refused, change_decided}
 
 -- ---- what a record reads as, and what its own checks find
 
-unread_finds : (o : Option Refusal) (q : Request) (r : Refusal) → reading_of o q ≡ Unread r → o ≡ some r
-unread_finds (some x) q r h = cc
-unread_finds none q r h = cc
+unread_finds : (o : Option Refusal) (q : Request) (r : Refusal) → reading_of o q ≡ Err r → o ≡ Some r
+unread_finds (Some x) q r h = cc
+unread_finds None q r h = cc
 
-read_finds : (o : Option Refusal) (q p : Request) → reading_of o q ≡ Read p → o ≡ none
-read_finds (some x) q p h = cc
-read_finds none q p h = refl
+read_finds : (o : Option Refusal) (q p : Request) → reading_of o q ≡ Ok p → o ≡ None
+read_finds (Some x) q p h = cc
+read_finds None q p h = refl
 
 -- a record that says nothing is refused for what they find
-pub unread_checks : (s : List ℕ) (r : Refusal) → reading s ≡ Unread r → first_to_apply (read_checks s) ≡ some r
+pub unread_checks : (s : List ℕ) (r : Refusal) → reading s ≡ Err r → first_to_apply (read_checks s) ≡ Some r
 unfolding reading
 unread_checks s r h = unread_finds (first_to_apply (read_checks s)) (request_of s) r h
 
 -- one that says a request passed them
-read_checks_lem : (s : List ℕ) (q : Request) → reading s ≡ Read q → first_to_apply (read_checks s) ≡ none
+read_checks_lem : (s : List ℕ) (q : Request) → reading s ≡ Ok q → first_to_apply (read_checks s) ≡ None
 unfolding reading
 read_checks_lem s q h = read_finds (first_to_apply (read_checks s)) (request_of s) q h
 
 -- it is of the request's kind
-read_kind : (s : List ℕ) (q : Request) → reading s ≡ Read q → field_in s 0 ≡ q.kind
+read_kind : (s : List ℕ) (q : Request) → reading s ≡ Ok q → field_in s 0 ≡ q.kind
 unfolding request_of
 read_kind s q h = ap (λ (p : Request). p.kind) (read_as s q h).1
 
 -- and no strip
-pub read_single : (s : List ℕ) (q : Request) → reading s ≡ Read q → is_strip s ≡ false
+pub read_single : (s : List ℕ) (q : Request) → reading s ≡ Ok q → is_strip s ≡ false
 read_single s q h =
     ap (λ (n : ℕ). eqb n (kind_number strip)) (read_kind s q h) ∙ (single_kind q.kind (read_is_known s q h)).1.1
 
@@ -78,9 +74,9 @@ sift : (f : Option ℕ) (same : Bool) (a b d : Refusal)
     → first_to_apply ((false ⇒ a) ∷ (f ⇒↑ OutOfRange) ∷ (false ⇒ b) ∷ (same ⇒ SameAccount) ∷ (false ⇒ d) ∷ [])
     ≡ first_to_apply ((f ⇒↑ OutOfRange) ∷ (same ⇒ SameAccount) ∷ [])
 unfolding first_to_apply
-sift (some n) same a b d = refl
-sift none true a b d = refl
-sift none false a b d = refl
+sift (Some n) same a b d = refl
+sift None true a b d = refl
+sift None false a b d = refl
 
 input_is_ranges : (b : Book) (c : Call) (k : Kind) (q : Request) → k one_of (settle ∷ []) ≡ false
     → first_to_apply (input_checks b c k (q ∷ [])) ≡ first_to_apply (range_checks (counts_of b.setup) q)
@@ -106,15 +102,15 @@ checked_other k e = go (k one_of (ask ∷ []))
 
 -- ---- the answer on a book
 
-module _ (s : List ℕ) (c : Call) (h : is_sound s ≡ true) (q : Request) (e : reading c.bytes ≡ Read q) where
+module _ (s : List ℕ) (c : Call) (h : is_sound s ≡ true) (q : Request) (e : reading c.bytes ≡ Ok q) where
   says : call_requests c ≡ q ∷ []
   says = single_requests c.bytes (read_single c.bytes q e) ∙ ap (λ (p : Request). p ∷ []) (read_as c.bytes q e).1
 
   of_kind : field_in c.bytes 0 ≡ q.kind
   of_kind = read_kind c.bytes q e
 
-  read_clear : first_to_apply (bytes_checks c.bytes) ≡ none
-  read_clear = single_checks c.bytes none (read_single c.bytes q e) (read_checks_lem c.bytes q e)
+  read_clear : first_to_apply (bytes_checks c.bytes) ≡ None
+  read_clear = single_checks c.bytes None (read_single c.bytes q e) (read_checks_lem c.bytes q e)
 
   module _ (plain : is_plain q.kind ≡ true) where
     other : call_kind c one_of (settle ∷ []) ≡ false
@@ -124,11 +120,11 @@ module _ (s : List ℕ) (c : Call) (h : is_sound s ≡ true) (q : Request) (e : 
     ranges = rw says (input_is_ranges (book_in s) c (checked_as (call_kind c)) q (checked_other (call_kind c) other))
 
     -- out of range
-    range_answered : (r : Refusal) → first_to_apply (range_checks (counts_of (book_in s).setup) q) ≡ some r → change_answer s c ≡ refused_on r s c
+    range_answered : (r : Refusal) → first_to_apply (range_checks (counts_of (book_in s).setup) q) ≡ Some r → change_answer s c ≡ refused_on r s c
     range_answered r f = change-refused s c h r (input_refused (book_in s) c read_clear r (ranges ∙ f))
 
     -- in range: what the state decides
-    plain_answered : first_to_apply (range_checks (counts_of (book_in s).setup) q) ≡ none
+    plain_answered : first_to_apply (range_checks (counts_of (book_in s).setup) q) ≡ None
         → change_answer s c
         ≡ record {
           outcome = outcome_on (kind_of q.kind) (book_in s) q;
@@ -150,11 +146,11 @@ module _ (s : List ℕ) (c : Call) (h : is_sound s ≡ true) (q : Request) (e : 
 -- ---- a request that was read is ready where it is in range
 
 -- its kind is that of a single record, so where it is not settle it is plain
-pub other_kind : (s : List ℕ) (q : Request) → reading s ≡ Read q → (q.kind ≡ 10 → ⊥) → is_plain q.kind ≡ true
+pub other_kind : (s : List ℕ) (q : Request) → reading s ≡ Ok q → (q.kind ≡ 10 → ⊥) → is_plain q.kind ≡ true
 other_kind s q e other = rw (read_is_known s q e, ne_eqb q.kind 10 other)
 
 -- its code is a number of 8 bytes
-pub read_code : (s : List ℕ) (q : Request) → Bytes s → reading s ≡ Read q → q.code < 256 ^ 8
+pub read_code : (s : List ℕ) (q : Request) → Bytes s → reading s ≡ Ok q → q.code < 256 ^ 8
 unfolding Fits
 read_code s q b e = read_fits s q e b 3 (omega arith)
 
@@ -163,7 +159,7 @@ pub ranges_found : (s : List ℕ) → is_sound s ≡ true → (n : Counts) (q : 
     → x ≡ checked (first_to_apply (range_checks n q)) → x ≡ checked o → first_to_apply (range_checks (counts_of (book_in s).setup) q) ≡ o
 ranges_found s h n q = checks_found s h (λ m. range_checks m q) n
 
-pub in_range_ready : (b : Book) (q : Request) → is_plain q.kind ≡ true → q.code < 256 ^ 8 → first_to_apply (range_checks (counts_of b.setup) q) ≡ none
+pub in_range_ready : (b : Book) (q : Request) → is_plain q.kind ≡ true → q.code < 256 ^ 8 → first_to_apply (range_checks (counts_of b.setup) q) ≡ None
     → Ready (kind_of q.kind) b q
 in_range_ready b q plain code e =
     let passed = clear (range_checks (counts_of b.setup) q) e in
@@ -177,7 +173,7 @@ in_range_ready b q plain code e =
 -- ---- each kind
 
 -- a plain request is answered as one of its kind
-pub plain_by_kind : (s : List ℕ) (q : Request) {o : Outcome} {t : List ℕ} (k : Kind) → q.kind ≡ kind_number k → KindAnswered k s q o t
+pub plain_by_kind : (s : List ℕ) (q : Request) {o : Verdict} {t : List ℕ} (k : Kind) → q.kind ≡ kind_number k → KindAnswered k s q o t
     → KindAnswered (kind_of q.kind) s q o t
 plain_by_kind s q k e x = rw (ap kind_of e ∙ kind_again k) x
 
@@ -206,21 +202,21 @@ ready_for s q k h e r =
 -- ---- every call whose record says the request
 
 -- it is answered o and leaves the bytes t, of a sound book
-abbrev pub AnsweredSaying : Request → List ℕ → Outcome → List ℕ → Type 0
+abbrev pub AnsweredSaying : Request → List ℕ → Verdict → List ℕ → Type 0
 AnsweredSaying q s o t =
-    ((c : Call) → reading c.bytes ≡ Read q → o ≡ (change_answer s c).outcome)
-    × (((c : Call) → reading c.bytes ≡ Read q → t ≡ (change_answer s c).book) × (is_sound t ≡ true))
+    ((c : Call) → reading c.bytes ≡ Ok q → o ≡ (change_answer s c).outcome)
+    × (((c : Call) → reading c.bytes ≡ Ok q → t ≡ (change_answer s c).book) × (is_sound t ≡ true))
 
 module _ (q : Request) (s : List ℕ) (h : is_sound s ≡ true) (plain : is_plain q.kind ≡ true) where
   -- out of range
-  pub refused_saying : (r : Refusal) → first_to_apply (range_checks (counts_of (book_in s).setup) q) ≡ some r → AnsweredSaying q s (refused r) s
+  pub refused_saying : (r : Refusal) → first_to_apply (range_checks (counts_of (book_in s).setup) q) ≡ Some r → AnsweredSaying q s (refused r) s
   refused_saying r f = (
     (λ c e. ap (λ (x : Answer (List ℕ)). x.outcome) (sym (range_answered s c h q e plain r f))),
     ((λ c e. ap (λ (x : Answer (List ℕ)). x.book) (sym (range_answered s c h q e plain r f))), h),
   )
 
   -- in range: as its kind is answered
-  pub plain_saying : first_to_apply (range_checks (counts_of (book_in s).setup) q) ≡ none → (o : Outcome) (t : List ℕ)
+  pub plain_saying : first_to_apply (range_checks (counts_of (book_in s).setup) q) ≡ None → (o : Verdict) (t : List ℕ)
       → KindAnswered (kind_of q.kind) s q o t → AnsweredSaying q s o t
   plain_saying f o t k = (
     (λ c e. k.0 ∙ ap (λ (x : Answer (List ℕ)). x.outcome) (sym (plain_answered s c h q e plain f))),

@@ -1,9 +1,9 @@
 -- What an accepted settle writes: the balances of the book at its prices, which are in range, so that each balance is read back from the
 -- 8 bytes that it fills.
+use Rattle.std.specs.Prelude.{Option, None, Some, is_ok}
 use Prim.Native.Nat.{ℕ, ◌≤◌}
 use mathlib.Core.Path.{◌≡◌, ap, ◌∙◌}
 use mathlib.Core.List.{List, [], ◌∷◌, map, map-map}
-use mathlib.Core.Option.{Option, none, some}
 use mathlib.Core.Bool.{true}
 use native.Mathlib.Omega.{arith}
 use lib.ListN.{length, length-map}
@@ -18,7 +18,7 @@ use Rattle.rules.specs.Requests.{Kind, settle, filled}
 use Rattle.rules.specs.Registration.{net_of}
 use Rattle.rules.specs.Settlement.{prices_in, settled, balance, results, balances, balance_figure, balance_bytes, figures_in}
 use Rattle.rules.specs.Calls.{Call, Settled, drawn_up, call_kind, call_requests, worked_out, settles, refusal, answer, balances_after, ◌one_of◌, input_checks, step, settlement}
-use Rattle.rules.specs.Lists.{is_acceptance, accepts, accepts_as}
+use Rattle.rules.specs.Lists.{accepts, accepts_as}
 use Rattle.rules.proofs.Basics.Tests.{and_both}
 use Rattle.rules.proofs.Basics.Searches.{each_map, any_none, counting-length}
 use Rattle.rules.proofs.Basics.Differences.{difference_most}
@@ -52,15 +52,15 @@ module _ (b : Book) (c : Call) where
   unfolding balances
   balances_many = length-map (up_to (operator_count b.setup)) _ ∙ counting-length (operator_count b.setup) 1
 
-  worked_go : (k : Kind) → k ≡ settle → settles k b c ≡ some worked
+  worked_go : (k : Kind) → k ≡ settle → settles k b c ≡ Some worked
   unfolding settles drawn_up
   worked_go k e = rw e
 
-  writes_go : (o : Option Refusal) → call_kind c ≡ settle → is_acceptance (answer b c o).outcome.verdict ≡ true
-      → (worked_out b c o ≡ some worked) × ((answer b c o).balances ≡ filled (balance_bytes worked.balances) c.balances)
+  writes_go : (o : Option Refusal) → call_kind c ≡ settle → is_ok (answer b c o).outcome ≡ true
+      → (worked_out b c o ≡ Some worked) × ((answer b c o).balances ≡ filled (balance_bytes worked.balances) c.balances)
   unfolding answer worked_out
-  writes_go (some r) e h = let z : ◌≡◌ {A = ℕ} 0 1 = cc in absurd (omega arith)
-  writes_go none e h =
+  writes_go (Some r) e h = let z : ◌≡◌ {A = ℕ} 0 1 = cc in absurd (omega arith)
+  writes_go None e h =
       let w = worked_go (call_kind c) e in (w, ap (λ (o : Option Settled). balances_after o c.balances) w)
 
   module _ (h : accepts_as step (settle ∷ []) b c ≡ true) where
@@ -70,7 +70,7 @@ module _ (b : Book) (c : Call) where
     is_settle : call_kind c ≡ settle
     is_settle = the_kind (call_kind c) settle both.1
 
-    pub settle_writes : (settlement b c ≡ some worked) × ((step b c).balances ≡ filled (balance_bytes worked.balances) c.balances)
+    pub settle_writes : (settlement b c ≡ Some worked) × ((step b c).balances ≡ filled (balance_bytes worked.balances) c.balances)
     unfolding step settlement
     settle_writes = writes_go (refusal b c) is_settle both.0
 

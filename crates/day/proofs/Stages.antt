@@ -1,8 +1,8 @@
 -- What a call on the bytes of a sound book answers before asks are cleared, by what the rules refuse it for on that book.
+use Rattle.std.specs.Prelude.{Option, None, Some}
 use Prim.Native.Nat.{ℕ}
 use mathlib.Core.Path.{◌≡◌}
 use mathlib.Core.List.{List, [], ◌∷◌}
-use mathlib.Core.Option.{Option, none, some}
 use mathlib.Core.Bool.{true, false}
 use Rattle.rules.specs.declared.Refusal.{Refusal}
 use Rattle.rules.specs.Limits.{most_hours, book_size}
@@ -15,12 +15,12 @@ use Rattle.image.proofs.Round.{sound_is_image}
 use Rattle.day.specs.Answers.{change_answer}
 
 -- a refusal leaves all that was lent as it is
-pub change-refused : (s : List ℕ) (c : Call) → is_sound s ≡ true → (r : Refusal) → refusal (book_in s) c ≡ some r → change_answer s c ≡ refused_on r s c
+pub change-refused : (s : List ℕ) (c : Call) → is_sound s ≡ true → (r : Refusal) → refusal (book_in s) c ≡ Some r → change_answer s c ≡ refused_on r s c
 unfolding uncleared step answer
 change-refused s c h r e = rw (e, ← (sound_is_image most_hours book_size s h).0)
 
 -- every kind but settle leaves both buffers as they were
-works_nothing : (k : Kind) (b : Book) (c : Call) → k one_of (settle ∷ []) ≡ false → settles k b c ≡ none
+works_nothing : (k : Kind) (b : Book) (c : Call) → k one_of (settle ∷ []) ≡ false → settles k b c ≡ None
 unfolding settles
 works_nothing k b c e = rw e
 
@@ -34,5 +34,5 @@ pub change_decided : (s : List ℕ) (c : Call) → call_kind c one_of (settle �
       balances = c.balances;
     }
 unfolding uncleared step answer
-change_decided s c k (some r) e = rw e
-change_decided s c k none e = rw (e, works_nothing (call_kind c) (book_in s) c k)
+change_decided s c k (Some r) e = rw e
+change_decided s c k None e = rw (e, works_nothing (call_kind c) (book_in s) c k)

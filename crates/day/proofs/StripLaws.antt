@@ -1,5 +1,6 @@
 -- Strips on any bytes: a strip of one record answers as that register, and an accepted strip leaves the bytes that its registers in turn
 -- would leave.
+use Rattle.std.specs.Prelude.{is_ok}
 use Prim.Native.Nat.{ℕ}
 use mathlib.Core.Path.{◌≡◌, refl, sym, ap, ◌∙◌}
 use mathlib.Core.List.{List}
@@ -9,7 +10,7 @@ use Rattle.wire.specs.Numbers.{Bytes}
 use Rattle.rules.specs.Limits.{most_hours, book_size}
 use Rattle.rules.specs.Requests.{kind_number, register, row_length, is_strip}
 use Rattle.rules.specs.Calls.{Call, Answer, carried}
-use Rattle.rules.specs.Lists.{after, accepts, is_acceptance}
+use Rattle.rules.specs.Lists.{after, accepts}
 use Rattle.rules.specs.Strips.{with_bytes, strip_of_one, registers_of}
 use Rattle.rules.proofs.Basics.Searches.{each_image}
 use Rattle.rules.proofs.Records.StripRows.{rows_bytes}
@@ -36,7 +37,7 @@ pub call_strip_in_turn : (s : List ℕ) (c : Call) → is_book s ≡ true → By
 call_strip_in_turn s c h bytes strips passes =
     let image = book_is_image most_hours book_size s h in
     let on = call_on_book s c h in
-    let plain = ap (λ (a : Answer (List ℕ)). is_acceptance a.outcome.verdict) (sym on) ∙ passes in
+    let plain = ap (λ (a : Answer (List ℕ)). is_ok a.outcome) (sym on) ∙ passes in
     ap (λ (x : List ℕ). after call_answer x (registers_of c)) image.0
     ∙ after_carried books_in_bytes (book_in s) (registers_of c) (each_image (with_bytes c) (rows_bytes c.bytes bytes)) image.1
     ∙ ap book_bytes (strip_in_turn (book_in s) c strips plain)

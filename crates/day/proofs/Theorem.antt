@@ -1,9 +1,9 @@
 -- Demand 3 whole. From an accepted opening the book's bytes are those of a valid plain book after every call, and the ledger agrees with
 -- that book; each clause is a law of such a book, said on its bytes.
+use Rattle.std.specs.Prelude.{None}
 use Prim.Native.Nat.{ℕ}
 use mathlib.Core.Path.{◌≡◌, sym, ap, ◌∙◌, fun_ext}
 use mathlib.Core.List.{List, [], ◌∷◌, ◌++◌, map}
-use mathlib.Core.Option.{none}
 use mathlib.Core.Bool.{true}
 use lib.IntN.{pos}
 use Rattle.rules.specs.declared.Net.{Net}
@@ -43,7 +43,7 @@ use Rattle.day.proofs.Readings.{net_answer_agrees, exposure-answer_agrees, hourl
 
 -- ---- a list from the bytes of the opened book
 
-module _ (setup : List ℕ) (h : setup_refusal setup ≡ none) where
+module _ (setup : List ℕ) (h : setup_refusal setup ≡ None) where
   -- the bytes that an accepted opening wrote
   abbrev fresh : List ℕ
   fresh = book_bytes (opened setup)
@@ -154,14 +154,14 @@ module _ (setup : List ℕ) (h : setup_refusal setup ≡ none) where
         commits_as_asked = λ before asking between committing rest e pair.
             ask_committed before asking between committing rest (rw e at bytes) pair;
         balances_total = λ before c rest e accepted.
-            let some = (each_split before (c ∷ rest) (rw e at bytes)).0 in
-            rw (ledger_is before some) (settle_total before some c accepted);
+            let Some = (each_split before (c ∷ rest) (rw e at bytes)).0 in
+            rw (ledger_is before Some) (settle_total before Some c accepted);
       }
 
 -- ---- the theorem
 
-module _ (setup book : List ℕ) (h : open_refusal setup book ≡ none) where
-  setup_accepted : setup_refusal setup ≡ none
+module _ (setup book : List ℕ) (h : open_refusal setup book ≡ None) where
+  setup_accepted : setup_refusal setup ≡ None
   unfolding open_refusal setup_refusal
   setup_accepted = clear_applies _ (clear _ h).1
 

@@ -10,7 +10,7 @@ use asks::places::clear_asks;
 use asks::whole::is_book;
 use records::reader::{is_of_kind, read};
 use rules::kinds::{ASK, SETTLE};
-use rules::{Outcome, Reading, Refusal, Verdict};
+use rules::{Outcome, Refusal};
 use settlement::settle::settle;
 use strip_rows::record::is_strip;
 use strips::strip::strip;
@@ -22,7 +22,7 @@ fn change_in(
     prices: &[u8],
     results: &mut [u8],
     balances: &mut [u8],
-) -> Outcome
+) -> Result<u16, Refusal>
     requires { is_book book.old ≡ true }
     ensures answer { Gives
         (change_on book.old bytes.now prices.now results.old balances.old)
@@ -32,29 +32,18 @@ fn change_in(
     if is_strip(bytes) {
         return strip(book, bytes);
     }
-    let said = read(bytes);
-    match said {
-        Reading::Unread(r) => Outcome {
-            verdict: Verdict::Refused(r),
-        },
-        Reading::Read(request) => {
-            if request.kind == SETTLE {
-                return settle(book, prices, results, balances);
-            }
-            answer(book, request)
-        }
+    let request = read(bytes)?;
+    if request.kind == SETTLE {
+        return settle(book, prices, results, balances);
     }
+    answer(book, request)
 }
 
 // Whether a call with these bytes that is answered so clears the asks: every accepted one but an ask.
-fn clears_asks(bytes: &[u8], outcome: Outcome) -> bool
-    ensures { result ≡ clears_asks bytes.now outcome }
+fn clears_asks(bytes: &[u8], verdict: Result<u16, Refusal>) -> bool
+    ensures { result ≡ clears_asks bytes.now verdict }
 {
-    let verdict = outcome.verdict;
-    match verdict {
-        Verdict::Accepted { number: _ } => !is_of_kind(bytes, ASK),
-        Verdict::Refused(_) => false,
-    }
+    verdict.is_ok() && !is_of_kind(bytes, ASK)
 }
 
 // A call on bytes that are known to be a book. It leaves a book.
@@ -68,14 +57,14 @@ pub fn call_in(
     requires { is_book book.old ≡ true }
     ensures answer { Gives
         (call_on book.old bytes.now prices.now results.old balances.old)
-        result book.new results.new balances.new }
+        result.verdict book.new results.new balances.new }
     ensures still { is_book book.new ≡ true }
 {
-    let outcome = change_in(bytes, book, prices, results, balances);
-    if clears_asks(bytes, outcome) {
+    let verdict = change_in(bytes, book, prices, results, balances);
+    if clears_asks(bytes, verdict) {
         clear_asks(book);
     }
-    outcome
+    Outcome { verdict }
 }
 
 // A call on any bytes, refused (1) where they are no book.
@@ -88,12 +77,12 @@ pub fn call(
 ) -> Outcome
     ensures answer { Gives
         (call_on book.old bytes.now prices.now results.old balances.old)
-        result book.new results.new balances.new }
+        result.verdict book.new results.new balances.new }
 {
     if is_book(book) {
         return call_in(bytes, book, prices, results, balances);
     }
     Outcome {
-        verdict: Verdict::Refused(Refusal::NotABook),
+        verdict: Err(Refusal::NotABook),
     }
 }

@@ -1,8 +1,7 @@
 // Kinds 1 to 9, 12 and 13 on a book that is known to be one: the kind decides which checks apply. None of them is lent a price table or a
 // buffer, and none of them clears asks: that is done once, after them.
-ghost use Rattle.std.specs.Prelude.{◌≡◌, true, ◌^◌, ◌≤◌, ◌<◌};
+ghost use Rattle.std.specs.Prelude.{◌≡◌, true, ◌^◌, ◌≤◌, ◌<◌, Ok};
 ghost use Rattle.rules.specs.declared.Request.{Request};
-ghost use Rattle.rules.specs.declared.Reading.TheVariants.{Read};
 ghost use Rattle.rules.specs.Requests.{kind_of, reading};
 ghost use Rattle.rules.specs.Calls.{Call};
 ghost use Rattle.image.specs.Valid.{is_sound, is_book, book_in, book_bytes};
@@ -23,19 +22,12 @@ use rules::kinds::{
     ASK, CLOSE_GATE, COMMIT, CONFIRM, GUARANTEE, KEEP, OPEN_BATCH, REGISTER, SCHEDULE, UNDO,
     WITHDRAW,
 };
-use rules::{Checked, Outcome, Refusal, Request, Verdict};
+use rules::{Refusal, Request};
 use settlement::schedule::schedule;
 use setup::counts::counts;
 
-// What a number that is no kind is refused for.
-fn no_kind() -> Outcome {
-    Outcome {
-        verdict: Verdict::Refused(Refusal::UnknownKind),
-    }
-}
-
 // Kinds 5 to 8, which have no field beside the kind.
-fn batch_or_gate(book: &mut [u8], kind: u8) -> Outcome
+fn batch_or_gate(book: &mut [u8], kind: u8) -> Result<u16, Refusal>
     requires known_book { is_sound book.old ≡ true }
     requires batch_or_gate_kind { (5 ≤ kind) × (kind ≤ 8) }
     ensures answer { (q : Request) → result ≡ outcome_on (kind_of kind) (book_in book.old) q }
@@ -48,12 +40,12 @@ fn batch_or_gate(book: &mut [u8], kind: u8) -> Outcome
         KEEP => keep(book),
         CLOSE_GATE => close_gate(book),
         // No other kind comes here.
-        _ => no_kind(),
+        _ => Err(Refusal::UnknownKind),
     }
 }
 
 // Any of these kinds, of a request whose fields are in range.
-fn by_kind(book: &mut [u8], request: Request) -> Outcome
+fn by_kind(book: &mut [u8], request: Request) -> Result<u16, Refusal>
     requires known_book { is_book book.old ≡ true }
     requires plain_kind { (is_plain request.kind ≡ true) × Ready (kind_of request.kind) (book_in book.old) request }
     ensures answer { result ≡ outcome_on (kind_of request.kind) (book_in book.old) request }
@@ -71,23 +63,19 @@ fn by_kind(book: &mut [u8], request: Request) -> Outcome
         ASK => ask(book, request),
         COMMIT => commit(book, request),
         // No other kind comes here.
-        _ => no_kind(),
+        _ => Err(Refusal::UnknownKind),
     }
 }
 
 // Any of these kinds: refused where a field is out of range of the book, else answered by kind.
-pub fn answer(book: &mut [u8], request: Request) -> Outcome
+pub fn answer(book: &mut [u8], request: Request) -> Result<u16, Refusal>
     requires known_book { is_book book.old ≡ true }
     requires plain_kind { (is_plain request.kind ≡ true) × (request.code < 256 ^ 8) }
-    ensures answer { (c : Call) → reading c.bytes ≡ Read request → result ≡ (change_answer book.old c).outcome }
-    ensures bytes { (c : Call) → reading c.bytes ≡ Read request → book.new ≡ (change_answer book.old c).book }
+    ensures answer { (c : Call) → reading c.bytes ≡ Ok request → result ≡ (change_answer book.old c).outcome }
+    ensures bytes { (c : Call) → reading c.bytes ≡ Ok request → book.new ≡ (change_answer book.old c).book }
     ensures still { is_sound book.new ≡ true }
 {
     let n = counts(book);
-    if let Checked::Fails(r) = check_ranges(request, n) {
-        return Outcome {
-            verdict: Verdict::Refused(r),
-        };
-    }
+    check_ranges(request, n)?;
     by_kind(book, request)
 }

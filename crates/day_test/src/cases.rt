@@ -4,12 +4,11 @@ use day::calls::call;
 use day::interface::{exposure, hourly_exposure, net, open};
 use rules::Numbers;
 use rules::kinds::SETTLE;
-use rules::verdicts::outcome_numbers;
 use std::io::{Result, Write};
 use test_lines::{
     begin, bytes, end, exposure_line, hourly_exposure_line, net_line, number, verdict,
 };
-use wire::numbers::get_u16;
+use wire::numbers::get;
 use wire::regions::copy_in;
 
 pub const BOOK_SIZE: isize = image::layout::BOOK_SIZE as isize;
@@ -21,7 +20,7 @@ const UNWRITTEN: u8 = 0xAA;
 fn show_open<W: Write>(out: &mut W, body: &[u8], book: &mut [u8]) -> Result<()> {
     let outcome = open(body, book);
     begin(out, b'o')?;
-    verdict(out, outcome_numbers(outcome))?;
+    verdict(out, outcome.verdict.into())?;
     end(out)
 }
 
@@ -54,25 +53,9 @@ fn show_buffers<W: Write>(
     Ok(())
 }
 
-// Fills a buffer with what stands there before a call.
-fn unwrite(buffer: &mut [u8]) {
-    let n = buffer.len();
-    let mut k = 0;
-    while k < n {
-        buffer[k] = UNWRITTEN;
-        k = k + 1;
-    }
-}
-
 // Whether each byte is as it was before the call.
 fn is_unwritten(buffer: &[u8]) -> bool {
-    let mut kept = true;
-    let mut k = 0;
-    while k < buffer.len() {
-        kept = kept & (buffer[k] == UNWRITTEN);
-        k = k + 1;
-    }
-    kept
+    buffer.iter().all(|b| *b == UNWRITTEN)
 }
 
 // Remembers the book's bytes.
@@ -91,9 +74,9 @@ fn called(
     results: &mut [u8],
     balances: &mut [u8],
 ) -> Numbers {
-    unwrite(results);
-    unwrite(balances);
-    outcome_numbers(call(record, book, prices, results, balances))
+    results.fill(UNWRITTEN);
+    balances.fill(UNWRITTEN);
+    call(record, book, prices, results, balances).verdict.into()
 }
 
 // The line of a call.
@@ -127,10 +110,10 @@ fn show_call<W: Write>(out: &mut W, body: &[u8], book: &mut [u8], before: &mut [
     }
     let mut results = io::buffer();
     let mut balances = io::buffer();
-    let first = io::count(get_u16(body, 0) as isize, &results);
-    let second = io::count(get_u16(body, 2) as isize, &balances);
+    let first = io::count(get::<u16>(body, 0) as isize, &results);
+    let second = io::count(get::<u16>(body, 2) as isize, &balances);
     let rest = &body[6..];
-    let n = io::count(get_u16(body, 4) as isize, rest);
+    let n = io::count(get::<u16>(body, 4) as isize, rest);
     show_answer(
         out,
         &rest[..n],
@@ -166,16 +149,8 @@ fn show_hourly<W: Write>(
     first: u8,
     last: u8,
 ) -> Result<()> {
-    let mut hour = first as u16;
-    while hour <= last as u16 {
-        let number = hour as u8;
-        hourly_exposure_line(
-            out,
-            operator,
-            number,
-            hourly_exposure(book, operator, number),
-        )?;
-        hour = hour + 1;
+    for hour in first..=last {
+        hourly_exposure_line(out, operator, hour, hourly_exposure(book, operator, hour))?;
     }
     Ok(())
 }
@@ -200,7 +175,7 @@ fn damage(body: &[u8], book: &mut [u8]) {
     if body.len() < 2 {
         return;
     }
-    let at = get_u16(body, 0) as usize;
+    let at = get::<u16>(body, 0) as usize;
     let put = &body[2..];
     if book.len() < at {
         return;

@@ -4,12 +4,11 @@ ghost use Rattle.image.specs.Valid.{is_sound, book_in};
 ghost use Rattle.book.specs.Members.{IsAccount};
 ghost use Rattle.valuation.specs.Tables.{Priced};
 ghost use Rattle.valuation.specs.Registered.{AllRegistered};
-ghost use Rattle.settlement.specs.Judging.{InOrder};
+ghost use Rattle.settlement.specs.Judging.{by_priority};
 
 use asks::whole::is_book;
 use book::state::schedule_count;
 use rules::Placed;
-use rules::limits::MOST_SCHEDULES;
 use settlement::judging::{judge_all, prioritised_in};
 use settlement::settle::{no_results, price_count};
 use setup::counts::{PRICE_WIDTH, counts};
@@ -17,26 +16,23 @@ use std::io::{Result, Write};
 use test_lines::hour_line;
 use valuation::hours::value_hour;
 use valuation::prices::too_high;
-use valuation::registered::{no_charges, no_energy};
+use valuation::registered::Registered;
 
 // The lines of an account.
 fn show_account<W: Write>(
     out: &mut W,
     book: &[u8],
     prices: &[u8],
-    energy: &[u32],
-    charges: &[u64],
+    registered: &Registered,
     number: u8,
 ) -> Result<()>
     requires priced { Priced book.now prices.now × IsAccount (book_in book.now) number }
-    requires all_registered { AllRegistered book.now prices.now energy.now charges.now }
+    requires all_registered { AllRegistered book.now prices.now registered.now.energy registered.now.charges }
 {
     let n = counts(book);
-    let mut hour: u8 = 1;
-    while hour <= n.hours {
-        let valued = value_hour(book, prices, energy, charges, number, hour);
+    for hour in 1..=n.hours {
+        let valued = value_hour(book, prices, registered, number, hour);
         hour_line(out, number, hour, valued)?;
-        hour = hour + 1;
     }
     Ok(())
 }
@@ -46,44 +42,26 @@ fn show_accounts<W: Write>(
     out: &mut W,
     book: &[u8],
     prices: &[u8],
-    energy: &[u32],
-    charges: &[u64],
+    registered: &Registered,
 ) -> Result<()>
     requires priced { Priced book.now prices.now }
-    requires all_registered { AllRegistered book.now prices.now energy.now charges.now }
+    requires all_registered { AllRegistered book.now prices.now registered.now.energy registered.now.charges }
 {
     let n = counts(book);
-    let mut number: u8 = 1;
-    while number <= n.accounts {
-        show_account(out, book, prices, energy, charges, number)?;
-        number = number + 1;
+    for number in 1..=n.accounts {
+        show_account(out, book, prices, registered, number)?;
     }
     Ok(())
 }
 
 // Judges the schedules in their order and values each account hour.
-fn show_in_order<W: Write>(
-    out: &mut W,
-    book: &[u8],
-    prices: &[u8],
-    order: [Placed; MOST_SCHEDULES],
-    n: usize,
-) -> Result<()>
-    requires { Priced book.now prices.now × InOrder book.now order n }
+fn show_in_order<W: Write>(out: &mut W, book: &[u8], prices: &[u8], order: &[Placed]) -> Result<()>
+    requires { Priced book.now prices.now × (order.now ≡ by_priority book.now) }
 {
     let mut results = no_results();
-    let mut energy = no_energy();
-    let mut charges = no_charges();
-    judge_all(
-        book,
-        prices,
-        order,
-        n,
-        &mut energy,
-        &mut charges,
-        &mut results,
-    );
-    show_accounts(out, book, prices, &energy, &charges)
+    let mut registered = Registered::none();
+    judge_all(book, prices, order, &mut registered, &mut results);
+    show_accounts(out, book, prices, &registered)
 }
 
 // The lines of a book at a price table for it.
@@ -92,7 +70,7 @@ fn show_valued<W: Write>(out: &mut W, book: &[u8], prices: &[u8]) -> Result<()>
 {
     let n = schedule_count(book) as usize;
     let order = prioritised_in(book, n);
-    show_in_order(out, book, prices, order, n)
+    show_in_order(out, book, prices, &order[..n])
 }
 
 // The lines of a book, where the price table is one for it.

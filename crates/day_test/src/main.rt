@@ -8,7 +8,7 @@ mod hours;
 use cases::BOOK_SIZE;
 use std::io::{Read, Result, Write, writer};
 use test_lines::{HEAD, read_full};
-use wire::numbers::get_u16;
+use wire::numbers::get;
 
 // No input has more cases.
 const MOST_CASES: u32 = 1_000_000;
@@ -36,7 +36,7 @@ fn run_next<R: Read, W: Write>(
     if head.len() < HEAD {
         return Ok(false);
     }
-    let size = get_u16(head, 1);
+    let size = get::<u16>(head, 1);
     read_body(from, size, body)?;
     let n = io::count(size as isize, body);
     cases::run(out, head[0], &body[..n], book, remembered, before)?;
@@ -52,12 +52,9 @@ fn run_cases<R: Read, W: Write>(
     remembered: &mut [u8],
     before: &mut [u8],
 ) -> Result<()> {
-    let mut left = MOST_CASES;
-    while 0 < left {
-        if run_next(from, out, head, body, book, remembered, before)? {
-            left = left - 1;
-        } else {
-            left = 0;
+    for _ in 0..MOST_CASES {
+        if !run_next(from, out, head, body, book, remembered, before)? {
+            return Ok(());
         }
     }
     Ok(())

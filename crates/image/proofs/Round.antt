@@ -1,9 +1,9 @@
 -- A sound book is read back from its image, as each value fits its bytes, and so bytes are a book exactly when they are the image of a
 -- valid one.
+use Rattle.std.specs.Prelude.{Option, None, Some}
 use Prim.Native.Nat.{ℕ, suc, ◌≤◌}
 use mathlib.Core.Path.{◌≡◌, refl, sym, ap, ◌∙◌}
 use mathlib.Core.List.{List, [], ◌∷◌, map}
-use mathlib.Core.Option.{Option, none, some}
 use mathlib.Core.Bool.{true, ◌&&◌}
 use native.Mathlib.Omega.{arith}
 use lib.ListN.{length}
@@ -87,20 +87,20 @@ module _ (top : ℕ) (u : Setup) (s : SoundSetup u) where
 
   saved_back : (rows : List Row) (o : Option Part) → SavedSound u rows o → saved_in (number (le 1 (flag o))) top (operator_count u) (saved_bytes top o) ≡ o
   unfolding saved_in saved_bytes le number
-  saved_back rows none k = refl
-  saved_back rows (some p) k = ap (λ (x : Part). some x) (part_back p k.0)
+  saved_back rows None k = refl
+  saved_back rows (Some p) k = ap (λ (x : Part). Some x) (part_back p k.0)
 
 -- ---- asks
 
 -- zeros say no ask
-pub ask_none : ask_in (zeros row_width) ≡ none
+pub ask_none : ask_in (zeros row_width) ≡ None
 unfolding ask_in row_in zeros number number_at
 ask_none = refl
 
 pub ask_back : (u : Setup) → SoundSetup u → (a : ℕ) (o : Option Row) → SoundAsk u a o → ask_in (ask_bytes o) ≡ o
 unfolding ask_in
-ask_back u s a none k = ask_none
-ask_back u s a (some r) k = rw (row_back u s r k.row_sound, ne_eqb r.status 0 (λ e. omega (arith, k.row_sound.status_low)))
+ask_back u s a None k = ask_none
+ask_back u s a (Some r) k = rw (row_back u s r k.row_sound, ne_eqb r.status 0 (λ e. omega (arith, k.row_sound.status_low)))
 
 -- ---- a book
 
@@ -110,7 +110,7 @@ decode-image top size b v =
     let s = sound b v in
     let n = s.asks_all in
     let own : Each (λ o. ask_in (ask_bytes o) ≡ o) b.asks =
-    at_each none b.asks (λ i h. ask_back b.setup s.setup_sound (suc i) (ask_at b (suc i)) (s.asks_sound (suc i) (omega arith) (omega arith))) in
+    at_each None b.asks (λ i h. ask_back b.setup s.setup_sound (suc i) (ask_at b (suc i)) (s.asks_sound (suc i) (omega arith) (omega arith))) in
     let asks-again : map ask_in (chunks row_width most_accounts (slots row_width most_accounts ask_bytes b.asks)) ≡ b.asks =
     ap (λ (k : ℕ). map ask_in (chunks row_width k (slots row_width most_accounts ask_bytes b.asks))) (sym n)
     ∙ unslots row_width most_accounts ask_bytes length_ask ask_in b.asks (map_same own) in

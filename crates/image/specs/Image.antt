@@ -1,6 +1,5 @@
 -- The image of a plain book in bytes (document 01, "Opening"; document 02, note 4), and the plain book that bytes say.
-use Rattle.std.specs.Prelude.{ℕ, zero, suc, ◌-◌, List, [], ◌∷◌, length, get_or, replicate, eqb, if◌then◌else◌}
-use Rattle.std.proofs.Math.Option.{Option, none, some}
+use Rattle.std.specs.Prelude.{ℕ, zero, suc, ◌-◌, List, [], ◌∷◌, length, get_or, replicate, eqb, if◌then◌else◌, Option, None, Some}
 use Rattle.wire.specs.Numbers.{number, number_at, le, signed}
 use Rattle.wire.specs.Parts.{zeros, flat, cut, pack, slots, padded}
 use Rattle.units.specs.Units.{kwh, cents, cents_per_mwh}
@@ -50,18 +49,18 @@ part_bytes top p = flat (part_sections top p)
 
 -- the place of an account's ask: the row, or zeros where none stands
 abbrev pub ask_bytes : Option Row → List ℕ
-ask_bytes none = zeros row_width
-ask_bytes (some r) = row_bytes r
+ask_bytes None = zeros row_width
+ask_bytes (Some r) = row_bytes r
 
 -- a batch is open
 abbrev pub flag : Option Part → ℕ
-flag none = 0
-flag (some p) = 1
+flag None = 0
+flag (Some p) = 1
 
 -- the part saved at the opening of a batch; zeros without one
 unfoldable pub saved_bytes : ℕ → Option Part → List ℕ
-saved_bytes top none = zeros (part_size top)
-saved_bytes top (some p) = part_bytes top p
+saved_bytes top None = zeros (part_size top)
+saved_bytes top (Some p) = part_bytes top p
 
 -- the set-up with its guarantees zero: those in force are in the part
 unfoldable pub stored_setup : Setup → List ℕ
@@ -104,7 +103,7 @@ row_in x =
 
 -- the ask in a place with this row: none where the status is 0
 abbrev pub asked_for : Row → Option Row
-asked_for r = if eqb r.status 0 then none else some r
+asked_for r = if eqb r.status 0 then None else Some r
 
 -- the ask in the bytes of its place
 unfoldable pub ask_in : List ℕ → Option Row
@@ -132,8 +131,8 @@ unfoldable pub part_in : ℕ → ℕ → List ℕ → Part
 part_in top operators s = part_of operators (cut (part_widths top) s)
 
 unfoldable pub saved_in : ℕ → ℕ → ℕ → List ℕ → Option Part
-saved_in zero top operators s = none
-saved_in (suc flag) top operators s = some (part_in top operators s)
+saved_in zero top operators s = None
+saved_in (suc flag) top operators s = Some (part_in top operators s)
 
 unfoldable pub book_of : ℕ → List (List ℕ) → Book
 book_of top c =

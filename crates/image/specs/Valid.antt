@@ -1,6 +1,5 @@
 -- Which plain books are valid, and which bytes are a book (document 01, "Opening"; document 02, note 4).
-use Rattle.std.specs.Prelude.{ℕ, ◌^◌, List, [], ◌∷◌, Bool, true, false, not, ◌&&◌, ◌||◌, length, replicate, eqb, leb, ltb}
-use Rattle.std.proofs.Math.Option.{Option, none, some}
+use Rattle.std.specs.Prelude.{ℕ, ◌^◌, List, [], ◌∷◌, Bool, true, false, not, ◌&&◌, ◌||◌, length, replicate, eqb, leb, ltb, Option, None, Some}
 use Rattle.units.specs.Units.{cents}
 use Rattle.rules.specs.declared.Row.{Row}
 use Rattle.rules.specs.declared.Schedule.{Schedule}
@@ -99,18 +98,18 @@ follows (x ∷ xs) [] = false
 follows (x ∷ xs) (y ∷ ys) = same_terms x y && (eqb x.status y.status || pending x) && follows xs ys
 
 unfoldable pub saved_ok : Setup → List Row → Option Part → Bool
-saved_ok u rows none = true
-saved_ok u rows (some p) = part_ok u p && follows p.rows rows
+saved_ok u rows None = true
+saved_ok u rows (Some p) = part_ok u p && follows p.rows rows
 
 -- ---- asks
 
 -- the place of an account has no ask, or a pending row of its own with every field in range
 abbrev pub ask_ok : Setup → ℕ → Option Row → Bool
-ask_ok u a none = true
-ask_ok u a (some r) = eqb r.proposer a && pending r && row_ok u r
+ask_ok u a None = true
+ask_ok u a (Some r) = eqb r.proposer a && pending r && row_ok u r
 
 abbrev pub asks_ok : Setup → List (Option Row) → Bool
-asks_ok u asks = eqb (length asks) most_accounts && every (λ a. ask_ok u a (nth asks a none)) (up_to most_accounts)
+asks_ok u asks = eqb (length asks) most_accounts && every (λ a. ask_ok u a (nth asks a None)) (up_to most_accounts)
 
 -- ---- a book: none pending after phase 1, schedules only after it, an open batch only in it
 

@@ -7,10 +7,7 @@ pub fn add_range(table: &mut [u32], at: usize, n: usize, q: u32)
     requires { (at + n ≤ length table.old) × Room table.old at q }
     ensures { Raised table.old table.new at n q }
 {
-    let end = at + n;
-    let mut k = at;
-    while k < end {
-        table[k] = table[k] + q;
-        k = k + 1;
+    for cell in &mut table[at..at + n] {
+        *cell += q;
     }
 }

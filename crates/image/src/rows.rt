@@ -8,7 +8,7 @@ ghost use Rattle.image.specs.Image.{row_in, row_bytes};
 use crate::layout::{ASKS_OFFSET, CODE_WIDTH, QUANTITY_WIDTH, ROW_WIDTH};
 use rules::Row;
 use units::Kwh;
-use wire::numbers::{get_u8, get_u32, get_u64, put_u8, put_u32, put_u64};
+use wire::numbers::{get, put};
 
 // Where a field stands in a row, which begins with its proposer.
 pub const COUNTERPARTY_OFFSET: usize = 1;
@@ -31,14 +31,14 @@ pub fn row_at(s: &[u8], at: usize) -> Row
     ensures { result ≡ row_in (take row_width (drop at s.now)) }
 {
     Row {
-        proposer: get_u8(s, at),
-        counterparty: get_u8(s, at + COUNTERPARTY_OFFSET),
-        code: get_u64(s, at + CODE_OFFSET),
-        side: get_u8(s, at + SIDE_OFFSET),
-        first: get_u8(s, at + FIRST_OFFSET),
-        last: get_u8(s, at + LAST_OFFSET),
-        quantity: Kwh(get_u32(s, at + QUANTITY_OFFSET)),
-        status: get_u8(s, at + STATUS_OFFSET),
+        proposer: get::<u8>(s, at),
+        counterparty: get::<u8>(s, at + COUNTERPARTY_OFFSET),
+        code: get::<u64>(s, at + CODE_OFFSET),
+        side: get::<u8>(s, at + SIDE_OFFSET),
+        first: get::<u8>(s, at + FIRST_OFFSET),
+        last: get::<u8>(s, at + LAST_OFFSET),
+        quantity: Kwh(get::<u32>(s, at + QUANTITY_OFFSET)),
+        status: get::<u8>(s, at + STATUS_OFFSET),
     }
 }
 
@@ -47,14 +47,14 @@ pub fn row_bytes(r: Row) -> [u8; ROW_WIDTH]
     ensures { result ≡ row_bytes r }
 {
     let mut b = [0; ROW_WIDTH];
-    put_u8(&mut b, 0, r.proposer);
-    put_u8(&mut b, COUNTERPARTY_OFFSET, r.counterparty);
-    put_u64(&mut b, CODE_OFFSET, r.code);
-    put_u8(&mut b, SIDE_OFFSET, r.side);
-    put_u8(&mut b, FIRST_OFFSET, r.first);
-    put_u8(&mut b, LAST_OFFSET, r.last);
-    put_u32(&mut b, QUANTITY_OFFSET, r.quantity.0);
-    put_u8(&mut b, STATUS_OFFSET, r.status);
+    put(&mut b, 0, r.proposer);
+    put(&mut b, COUNTERPARTY_OFFSET, r.counterparty);
+    put(&mut b, CODE_OFFSET, r.code);
+    put(&mut b, SIDE_OFFSET, r.side);
+    put(&mut b, FIRST_OFFSET, r.first);
+    put(&mut b, LAST_OFFSET, r.last);
+    put(&mut b, QUANTITY_OFFSET, r.quantity.0);
+    put(&mut b, STATUS_OFFSET, r.status);
     b
 }
 
@@ -62,13 +62,10 @@ pub fn row_bytes(r: Row) -> [u8; ROW_WIDTH]
 pub fn same_terms(x: Row, y: Row) -> bool
     ensures { result ≡ same_terms x y }
 {
-    (x.proposer == y.proposer)
-        & (x.counterparty == y.counterparty)
-        & (x.code == y.code)
-        & (x.side == y.side)
-        & (x.first == y.first)
-        & (x.last == y.last)
-        & (x.quantity.0 == y.quantity.0)
+    Row {
+        status: y.status,
+        ..x
+    } == y
 }
 
 // Where the place of an account's ask begins in a book.

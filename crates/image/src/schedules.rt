@@ -6,7 +6,7 @@ ghost use Rattle.image.specs.Image.{schedule_in, schedule_bytes};
 use crate::layout::{QUANTITY_WIDTH, SCHEDULE_WIDTH};
 use rules::Schedule;
 use units::{CentsPerMwh, Kwh};
-use wire::numbers::{get_u8, get_u32, put_u8, put_u32};
+use wire::numbers::{get, put};
 
 // Where a field stands in a schedule, which begins with its point.
 pub const SIDE_OFFSET: usize = 1;
@@ -23,11 +23,11 @@ pub fn schedule_at(s: &[u8], at: usize) -> Schedule
     ensures { result ≡ schedule_in (take schedule_width (drop at s.now)) }
 {
     Schedule {
-        point: get_u8(s, at),
-        side: get_u8(s, at + SIDE_OFFSET),
-        hour: get_u8(s, at + HOUR_OFFSET),
-        quantity: Kwh(get_u32(s, at + QUANTITY_OFFSET)),
-        price: CentsPerMwh(get_u32(s, at + PRICE_OFFSET)),
+        point: get::<u8>(s, at),
+        side: get::<u8>(s, at + SIDE_OFFSET),
+        hour: get::<u8>(s, at + HOUR_OFFSET),
+        quantity: Kwh(get::<u32>(s, at + QUANTITY_OFFSET)),
+        price: CentsPerMwh(get::<u32>(s, at + PRICE_OFFSET)),
     }
 }
 
@@ -36,10 +36,10 @@ pub fn schedule_bytes(x: Schedule) -> [u8; SCHEDULE_WIDTH]
     ensures { result ≡ schedule_bytes x }
 {
     let mut b = [0; SCHEDULE_WIDTH];
-    put_u8(&mut b, 0, x.point);
-    put_u8(&mut b, SIDE_OFFSET, x.side);
-    put_u8(&mut b, HOUR_OFFSET, x.hour);
-    put_u32(&mut b, QUANTITY_OFFSET, x.quantity.0);
-    put_u32(&mut b, PRICE_OFFSET, x.price.0);
+    put(&mut b, 0, x.point);
+    put(&mut b, SIDE_OFFSET, x.side);
+    put(&mut b, HOUR_OFFSET, x.hour);
+    put(&mut b, QUANTITY_OFFSET, x.quantity.0);
+    put(&mut b, PRICE_OFFSET, x.price.0);
     b
 }

@@ -5,6 +5,8 @@ pub mod StreamLaws
 pub mod DecimalLaws
 -- WrittenLaws: texts put one behind the other.
 pub mod WrittenLaws
+-- PutsLaws: the same of what is put behind the lines in a buffer.
+pub mod PutsLaws
 -- LineLaws: a line is the pieces that the code puts.
 pub mod LineLaws
 -- FigureLaws: what the code says of a figure of 8 bytes, and the sum of figures.

@@ -14,42 +14,52 @@ use Rattle.wire.proofs.RegionLaws.{splice-append, splice_none}
 use Rattle.rules.specs.Basics.{sum_of}
 use Rattle.rules.specs.Settlement.{figures_in}
 use Rattle.rules.specs.Replay.{Line, numbered, result, balance, sum, line_text, text}
-use Rattle.items.specs.Written.{Written, line_room}
+use Rattle.items.specs.declared.LineBuffer.{LineBuffer}
+use Rattle.items.specs.Written.{line_room}
+use Rattle.items.specs.Puts.{Puts}
 use Rattle.items.specs.Figures.{results_text, balance_lines_text, balances_text}
-use Rattle.items.proofs.WrittenLaws.{written_then}
+use Rattle.items.proofs.PutsLaws.{puts_then}
 use Rattle.items.proofs.FigureLaws.{figures_step, figures_none}
 
 -- ---- the text that is left
 
--- the whole text goes to `at` of `s`; so far the buffer is `out`, and the lines that are left go to `past`, with room for each
-pub record Underway (s : List ℕ) (at : ℕ) (whole : List ℕ) (out : List ℕ) (past : ℕ) (lines : List Line) (left : ℕ) (end : ℕ) : Type 0 where
-  pub put : splice out past (text lines) ≡ splice s at whole
-  pub behind : past + length (text lines) ≡ at + length whole
-  pub kept : length out ≡ length s
-  pub room : past + line_room * left ≤ end
+-- the whole text goes behind the lines of `before`; so far the buffer is `now`, and the lines that are left go behind those, with room for each
+pub record Underway (before : LineBuffer) (whole : List ℕ) (now : LineBuffer) (lines : List Line) (left : ℕ) (end : ℕ) : Type 0 where
+  pub put : splice now.out.now now.end (text lines) ≡ splice before.out.now before.end whole
+  pub behind : now.end + length (text lines) ≡ before.end + length whole
+  pub same_buffer : now.out.ghost_name ≡ before.out.ghost_name
+  pub same_length : length now.out.now ≡ length before.out.now
+  pub room : now.end + line_room * left ≤ end
 
-module _ {s : List ℕ} {at : ℕ} {whole : List ℕ} {end : ℕ} where
-  pub underway_start : (lines : List Line) (left : ℕ) → text lines ≡ whole → at + line_room * left ≤ end → Underway s at whole s at lines left end
-  underway_start lines left e h = record { put = rw e; behind = rw e; kept = refl; room = h }
+module _ {before : LineBuffer} {whole : List ℕ} {end : ℕ} where
+  pub underway_start : (lines : List Line) (left : ℕ) → text lines ≡ whole → before.end + line_room * left ≤ end
+      → Underway before whole before lines left end
+  underway_start lines left e h = record { put = rw e; behind = rw e; same_buffer = refl; same_length = refl; room = h }
 
-  pub underway_line : {out out' : List ℕ} {past past' : ℕ} {lines : List Line} {left : ℕ} (l : Line) (ls : List Line) (m : ℕ)
-      → Underway s at whole out past lines left end → lines ≡ l ∷ ls → left ≡ m + 1 → past ≤ length out → length out' ≡ length out
-      → Written out past (line_text l) out' past' → past' ≤ past + line_room → Underway s at whole out' past' ls m end
+  pub underway_line : {now next : LineBuffer} {lines : List Line} {left : ℕ} (l : Line) (ls : List Line) (m : ℕ)
+      → Underway before whole now lines left end → lines ≡ l ∷ ls → left ≡ m + 1 → now.end ≤ length now.out.now
+      → Puts now (line_text l) next → next.end ≤ now.end + line_room → Underway before whole next ls m end
   unfolding text
-  underway_line {out} {out'} {past} {past'} {lines} {left} l ls m u e c fits same w short =
+  underway_line {now} {next} l ls m u e c fits p short =
+      let w = p.written in
       let joined : length (text (l ∷ ls)) ≡ length (line_text l) + length (text ls) = length-append (line_text l) (text ls) in
       record {
-        put = rw (w.put, w.behind) (splice-append out past (line_text l) (text ls) fits ∙ (rw e at u.put));
+        put = rw (w.put, w.behind) (splice-append now.out.now now.end (line_text l) (text ls) fits ∙ (rw e at u.put));
         behind = omega (arith, w.behind, rw e at u.behind);
-        kept = same ∙ u.kept;
+        same_buffer = p.same_buffer ∙ u.same_buffer;
+        same_length = p.same_length ∙ u.same_length;
         room = omega (arith, u.room);
       }
 
-  pub underway_done : {out : List ℕ} {past : ℕ} {lines : List Line} {left : ℕ} → Underway s at whole out past lines left end → lines ≡ []
-      → Written s at whole out past
+  pub underway_done : {now : LineBuffer} {lines : List Line} {left : ℕ} → Underway before whole now lines left end → lines ≡ []
+      → Puts before whole now
   unfolding text
-  underway_done {out} {past} {lines} {left} u e =
-      record { put = sym (splice_none out past) ∙ (rw e at u.put); behind = sym (add-zero past) ∙ (rw e at u.behind) }
+  underway_done {now} u e =
+      record {
+        written = record { put = sym (splice_none now.out.now now.end) ∙ (rw e at u.put); behind = sym (add-zero now.end) ∙ (rw e at u.behind) };
+        same_buffer = u.same_buffer;
+        same_length = u.same_length;
+      }
 
 -- ---- the lines that are left
 
@@ -89,8 +99,8 @@ unfolding numbered
 balances_none balances k left h = rw (figures_none (drop (8 * k) balances) left h)
 
 -- the lines of the balances, and then their sum
-pub balances_written : {s s₁ s₂ : List ℕ} {at at₁ at₂ : ℕ} (z : ℤ) (balances : List ℕ) (n : ℕ) → at ≤ length s
-    → Written s at (balance_lines_text (figures_in n balances)) s₁ at₁ → Written s₁ at₁ (line_text (sum z)) s₂ at₂
-    → z ≡ sum_of (figures_in n balances) → Written s at (balances_text n balances) s₂ at₂
+pub balances_put : {s s₁ s₂ : LineBuffer} (z : ℤ) (balances : List ℕ) (n : ℕ) → s.end ≤ length s.out.now
+    → Puts s (balance_lines_text (figures_in n balances)) s₁ → Puts s₁ (line_text (sum z)) s₂
+    → z ≡ sum_of (figures_in n balances) → Puts s (balances_text n balances) s₂
 unfolding balances_text
-balances_written z balances n h w v e = written_then h w (rw e at v)
+balances_put z balances n h p q e = puts_then h p (rw e at q)

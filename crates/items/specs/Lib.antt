@@ -3,5 +3,7 @@
 pub mod Stream
 -- Written: text put into a lent buffer.
 pub mod Written
+-- Puts: text put behind the lines in a lent buffer.
+pub mod Puts
 -- Figures: what a balance says, and the text of results and balances.
 pub mod Figures

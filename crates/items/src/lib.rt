@@ -15,3 +15,10 @@ pub enum Found {
     Cut,
     End,
 }
+
+// A lent buffer with lines at its front, which end at `end`.
+#[derive(Drop)]
+pub struct LineBuffer<'a> {
+    pub out: &'a mut [u8],
+    pub end: usize,
+}

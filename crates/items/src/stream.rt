@@ -4,7 +4,7 @@ ghost use Rattle.items.specs.Stream.{found_at, past_found, record_length};
 
 use crate::Found;
 use rules::kinds::SETTLE;
-use wire::numbers::get_u16;
+use wire::numbers::get;
 
 // The bytes of a record with no fields: its map and its kind.
 const BARE_RECORD: usize = 3;
@@ -20,7 +20,7 @@ pub fn item_at(stream: &[u8], at: usize) -> Found
     if left < 2 {
         return Found::Cut;
     }
-    let n = get_u16(stream, at) as usize;
+    let n = get::<u16>(stream, at) as usize;
     if n <= left - 2 {
         Found::Whole {
             from: at + 2,

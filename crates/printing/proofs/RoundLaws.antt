@@ -1,13 +1,13 @@
 -- Rounds of a replay: each adds its lines to those written, and takes them from the text to come.
+use Rattle.std.specs.Prelude.{None}
 use Prim.Native.Nat.{ℕ, suc, ◌≤◌}
 use mathlib.Core.Path.{◌≡◌, refl, sym, ap, ◌∙◌}
 use mathlib.Core.List.{List, ◌++◌, append_assoc, append-nil}
-use mathlib.Core.Bool.{Bool, true, false, ◌&&◌}
+use mathlib.Core.Bool.{Bool, true}
 use lib.ListN.{length}
 use lib.Seq.{length-take-le}
 use Rattle.io.specs.Counts.{IsPrefixLen}
 use Rattle.rules.specs.Replay.{replay, text}
-use Rattle.rules.proofs.Basics.Tests.{and_spared}
 use Rattle.replaying.specs.Gathering.{Progress, Follows, first_gathered, all_gathered, lines_in, to_come, whole_text}
 use Rattle.printing.specs.Rounds.{Replayed, emptied, first_round, after_rounds, lines_of_rounds}
 
@@ -36,12 +36,11 @@ led_on s {p} {q} {r} l e f =
 -- the rounds of a replay that has ended
 module _ (s book out : List ℕ) {first p : Progress} {q : Progress} (written : Bool) where
   pub replayed : first ≡ first_gathered s book out → p ≡ all_gathered s first → whole_text s p ≡ text (replay s) → Led s p q
-      → written && q.gathered.goes_on ≡ false → Replayed s book out q.book q.out written
+      → (written ≡ true → q.gathered.next ≡ None) → Replayed s book out q.book q.out written
   unfolding first_round
-  replayed ef ep whole l stopped =
+  replayed ef ep whole l over =
       let start : p ≡ first_round s book out = ep ∙ ap (all_gathered s) ef in
       let left : q ≡ after_rounds l.rounds s (first_round s book out) = rw (← start) l.left in
-      let over : written ≡ true → q.gathered.goes_on ≡ false = λ w. and_spared written q.gathered.goes_on w stopped in
       record {
         rounds = l.rounds;
         book_left = rw (← left) refl;

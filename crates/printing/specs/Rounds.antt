@@ -1,5 +1,5 @@
 -- A replay in rounds: lines are gathered in a buffer and written, then the next ones are gathered in the same buffer, while the replay goes on.
-use Rattle.std.specs.Prelude.{ℕ, zero, suc, ◌≡◌, List, ◌++◌, Bool, true, false}
+use Rattle.std.specs.Prelude.{ℕ, zero, suc, ◌≡◌, List, ◌++◌, Bool, true, None}
 use Rattle.rules.specs.Replay.{replay, text}
 use Rattle.replaying.specs.Gathering.{Progress, so_far, first_gathered, all_gathered, lines_in}
 
@@ -7,7 +7,7 @@ use Rattle.replaying.specs.Gathering.{Progress, so_far, first_gathered, all_gath
 abbrev pub emptied : Progress → Progress
 emptied p =
     let g = p.gathered in
-    so_far (record { goes_on = g.goes_on; next = g.next; number = g.number; end = 0 }) p.book p.out
+    so_far (record { next = g.next; number = g.number; end = 0 }) p.book p.out
 
 -- the first round gathers the beginning, and the items after it
 unfoldable pub first_round : List ℕ → List ℕ → List ℕ → Progress
@@ -29,5 +29,5 @@ pub record Replayed (stream book out book₁ out₁ : List ℕ) (written : Bool)
   pub rounds : ℕ
   pub book_left : book₁ ≡ (after_rounds rounds stream (first_round stream book out)).book
   pub out_left : out₁ ≡ (after_rounds rounds stream (first_round stream book out)).out
-  pub ended : written ≡ true → (after_rounds rounds stream (first_round stream book out)).gathered.goes_on ≡ false
+  pub ended : written ≡ true → (after_rounds rounds stream (first_round stream book out)).gathered.next ≡ None
   pub lines : written ≡ true → lines_of_rounds rounds stream (first_round stream book out) ≡ text (replay stream)

@@ -1,7 +1,7 @@
 // A replay on a writer: opens the book of a stream's set-up, answers each item, and writes the lines that they print.
 #![tactic(auto)]
 
-ghost use Rattle.std.specs.Prelude.{◌≡◌, ◌+◌, ◌≤◌, length};
+ghost use Rattle.std.specs.Prelude.{◌≡◌, ◌+◌, ◌≤◌, length, IfOk, IfErr};
 ghost use Rattle.rules.specs.Limits.{book_size, longest_stream};
 ghost use Rattle.replaying.specs.Lent.{step_room};
 ghost use Rattle.io.specs.Counts.{IsPrefixLen};
@@ -37,39 +37,27 @@ pub fn line_buffer() -> [u8; LINES_ROOM]
     [0; LINES_ROOM]
 }
 
-// What was read of a stream: how many bytes, and whether a read failed.
+// A read that failed, and how many bytes were read before it.
 #[derive(Clone, Copy)]
-pub struct Input {
+pub struct ReadFailed {
     pub length: usize,
-    pub failed: bool,
 }
 
-// Reads until the input ends, the buffer is full, or a read fails.
-pub fn read_stream<R: Read>(from: &mut R, space: &mut [u8]) -> Input
-    ensures { IsPrefixLen result.length space.new }
+// Reads until the input ends, the buffer is full, or a read fails. Gives how many bytes it put at the front.
+pub fn read_stream<R: Read>(from: &mut R, space: &mut [u8]) -> Result<usize, ReadFailed>
+    ensures filled { IfOk result (λ n. IsPrefixLen n space.new) }
+    ensures failed { IfErr result (λ e. IsPrefixLen e.length space.new) }
 {
     let mut filled = 0;
+    // No index: a read says itself how far it came.
     while filled < space.len() {
         match from.read(&mut space[filled..]) {
-            Ok(0) => {
-                return Input {
-                    length: filled,
-                    failed: false,
-                };
-            }
+            Ok(0) => return Ok(filled),
             Ok(more) => filled += more,
-            Err(_) => {
-                return Input {
-                    length: filled,
-                    failed: true,
-                };
-            }
+            Err(_) => return Err(ReadFailed { length: filled }),
         }
     }
-    Input {
-        length: filled,
-        failed: false,
-    }
+    Ok(filled)
 }
 
 // Writes the gathered lines, and says whether all were written.
@@ -89,7 +77,8 @@ pub fn replay_day<W: Write>(to: &mut W, stream: &[u8], book: &mut [u8], out: &mu
     let first = gather_first(stream, book, out);
     let mut gathered = gather(stream, first, book, out);
     let mut written = write_lines(to, out, gathered);
-    while written & gathered.goes_on {
+    // No index: the rounds end by the state.
+    while written && gathered.next.is_some() {
         gathered.end = 0;
         gathered = gather(stream, gathered, book, out);
         written = write_lines(to, out, gathered);

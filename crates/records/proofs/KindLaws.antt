@@ -6,17 +6,8 @@ use native.Mathlib.Omega.{arith}
 use lib.ListN.{get_or, take, drop, replicate, get_or-replicate, get_or-eq_default}
 use lib.Seq.{get_or-take, get_or-drop}
 use lib.Dec.{leb}
-use borrow.Author.Tests.{le-leb, leb-false}
-use Rattle.rules.specs.Requests.{maps, wanted_map, is_kind, is_single}
-use Rattle.rules.proofs.Basics.Tests.{and_both, within_true}
-
--- a kind is no higher than the last
-pub kind_high : (k : ℕ) → is_kind k ≡ true → k ≤ 13
-kind_high k e = ((within_true 1 k 13).0 e).1
-
--- the kind of a single record is one
-pub single_is_kind : (k : ℕ) → is_single k ≡ true → is_kind k ≡ true
-single_is_kind k e = ((and_both (is_kind k) _).0 e).0
+use borrow.Author.Tests.{le-leb, leb-true, leb-false}
+use Rattle.rules.specs.Requests.{maps, wanted_map, is_kind}
 
 -- n kinds side by side that have the same map
 pub wanted_run : (from n m k : ℕ) → take n (drop from maps) ≡ replicate n m → from ≤ k → k < from + n → wanted_map k ≡ m
@@ -27,6 +18,14 @@ wanted_run from n m k e l h =
     ∙ sym (get_or-drop from maps j 0)
     ∙ sym (get_or-take n (drop from maps) j 0 (omega arith))
     ∙ rw e (get_or-replicate n j m 0 (omega arith))
+
+-- the kinds from 5 to 11 but 9 want no field but the kind itself
+pub wanted_alone : (k : ℕ) → 5 ≤ k → (k ≡ 9 → ⊥) → k ≤ 11 → wanted_map k ≡ 1
+wanted_alone k low other high = go (leb k 8) refl
+  where
+    go : (t : Bool) → leb k 8 ≡ t → wanted_map k ≡ 1
+    go true e = wanted_run 5 4 1 k refl low (omega (arith, leb-true k 8 e))
+    go false e = wanted_run 10 2 1 k refl (omega (arith, leb-false k 8 e, other)) (omega arith)
 
 -- a number past the last kind wants no field
 pub wanted_none : (k : ℕ) → 13 < k → wanted_map k ≡ 0

@@ -1,9 +1,8 @@
 -- Each way out of the reader is what the record reads as: the first check that applies decides.
-use Rattle.std.specs.Prelude.{if◌then◌else◌}
+use Rattle.std.specs.Prelude.{if◌then◌else◌, Err, None, Some}
 use Prim.Native.Nat.{ℕ, ◌<◌}
 use mathlib.Core.Path.{◌≡◌, refl, ◌∙◌}
 use mathlib.Core.List.{List, [], ◌∷◌}
-use mathlib.Core.Option.{none, some}
 use mathlib.Core.Bool.{Bool, true, false, not}
 use native.Mathlib.Omega.{arith}
 use lib.ListN.{length, get_or-eq_default}
@@ -11,7 +10,6 @@ use lib.Dec.{eqb}
 use borrow.Author.Tests.{eqb-true, eq-eqb, ne_eqb, not-false}
 use Rattle.wire.specs.Numbers.{number_at}
 use Rattle.wire.proofs.NumberLaws.{number_at_one}
-use Rattle.rules.specs.declared.Reading.TheVariants.{Unread}
 use Rattle.rules.specs.declared.Refusal.{Refusal}
 use Rattle.rules.specs.declared.Refusal.TheVariants.{Unreadable, UnknownKind, WrongMap, WrongLength}
 use Rattle.rules.specs.Basics.{total, counting, bit}
@@ -22,11 +20,11 @@ use Rattle.rules.proofs.Checks.Passed.{readable}
 use Rattle.rules.proofs.Records.RoundTrip.{Readable}
 
 -- the first check decides, or is passed
-pub check_here : (c : Check) (cs : List Check) (r : Refusal) → applies c ≡ some r → first_to_apply (c ∷ cs) ≡ some r
+pub check_here : (c : Check) (cs : List Check) (r : Refusal) → applies c ≡ Some r → first_to_apply (c ∷ cs) ≡ Some r
 unfolding first_to_apply
 check_here c cs r e = rw (e, first_to_apply)
 
-pub check_next : (c : Check) (cs : List Check) → applies c ≡ none → first_to_apply (c ∷ cs) ≡ first_to_apply cs
+pub check_next : (c : Check) (cs : List Check) → applies c ≡ None → first_to_apply (c ∷ cs) ≡ first_to_apply cs
 unfolding first_to_apply
 check_next c cs e = rw (e, first_to_apply)
 
@@ -50,18 +48,18 @@ kind_third s h = kind_there s (readable s h).1
 
 -- the check of a map, of the map that was read and the one that is wanted
 module _ (kind : ℕ) (s : List ℕ) {given wanted : ℕ} (g : given ≡ map_of s) (w : wanted ≡ wanted_map kind) where
-  pub map_differs : (given ≡ wanted → ⊥) → applies (map_check kind s) ≡ some (WrongMap (more wanted given) (more given wanted))
+  pub map_differs : (given ≡ wanted → ⊥) → applies (map_check kind s) ≡ Some (WrongMap (more wanted given) (more given wanted))
   map_differs o = let f : eqb given wanted ≡ false = ne_eqb given wanted o in rw (← g, ← w, f)
 
-  pub map_agrees : given ≡ wanted → applies (map_check kind s) ≡ none
+  pub map_agrees : given ≡ wanted → applies (map_check kind s) ≡ None
   map_agrees e = let f : eqb given wanted ≡ true = eq-eqb given wanted e in rw (← g, ← w, f)
 
-pub reads_nothing : (s : List ℕ) → unreadable s ≡ true → Unread Unreadable ≡ reading s
+pub reads_nothing : (s : List ℕ) → unreadable s ≡ true → Err Unreadable ≡ reading s
 unfolding reading read_checks first_to_apply
 reads_nothing s h = rw h
 
 module _ (s : List ℕ) (k : ℕ) (h : unreadable s ≡ false) (e : k ≡ field_in s 0) where
-  pub reads_no_kind : is_single k ≡ false → Unread UnknownKind ≡ reading s
+  pub reads_no_kind : is_single k ≡ false → Err UnknownKind ≡ reading s
   unfolding reading read_checks first_to_apply
   reads_no_kind n = rw (← e, h, n)
 
@@ -70,12 +68,12 @@ module _ (s : List ℕ) (k : ℕ) (h : unreadable s ≡ false) (e : k ≡ field_
     unfolding read_checks
     past_kind = rw (← e) (check_next (unreadable s ⇒ Unreadable) _ (rw h) ∙ check_next (not (is_single k) ⇒ UnknownKind) _ (rw n))
 
-    pub reads_other_map : {r : Refusal} → applies (map_check k s) ≡ some r → Unread r ≡ reading s
+    pub reads_other_map : {r : Refusal} → applies (map_check k s) ≡ Some r → Err r ≡ reading s
     unfolding reading
     reads_other_map o = rw (past_kind, check_here (map_check k s) _ _ o)
 
-    module _ (m : applies (map_check k s) ≡ none) where
-      pub reads_other_length : (length s ≡ wanted_length k → ⊥) → Unread WrongLength ≡ reading s
+    module _ (m : applies (map_check k s) ≡ None) where
+      pub reads_other_length : (length s ≡ wanted_length k → ⊥) → Err WrongLength ≡ reading s
       unfolding reading first_to_apply
       reads_other_length o = rw (past_kind, check_next (map_check k s) _ m, ne_eqb (length s) (wanted_length k) o)
 

@@ -7,9 +7,9 @@ ghost use Rattle.rules.specs.Requests.{field_count, map_of, offset, bits, field_
 use crate::tables::{
     FIELDS, PAST_FIELDS, fields_more, has_field, is_single, room_of, wanted_length, wanted_map,
 };
-use rules::{Checked, Reading, Refusal, Request};
+use rules::{Refusal, Request};
 use units::{Cents, CentsPerMwh, Kwh};
-use wire::numbers::{get_u8, get_u16};
+use wire::numbers::get;
 
 // The number in the `width` bytes from `at` on.
 fn number_at(s: &[u8], at: usize, width: usize) -> u64
@@ -17,10 +17,8 @@ fn number_at(s: &[u8], at: usize, width: usize) -> u64
     ensures { result ≡ number_at s.now at width }
 {
     let mut v: u64 = 0;
-    let mut p = at + width;
-    while at < p {
-        p = p - 1;
-        v = (s[p] as u64) + 256 * v;
+    for p in (at..at + width).rev() {
+        v = s[p] as u64 + 256 * v;
     }
     v
 }
@@ -30,15 +28,13 @@ fn fields(bytes: &[u8]) -> [u64; FIELDS]
     requires { offset (map_of bytes.now) field_count ≤ length bytes.now }
     ensures { result ≡ map (field_in bytes.now) bits }
 {
-    let given = get_u16(bytes, 0);
+    let given = get::<u16>(bytes, 0);
     let mut found = [0; FIELDS];
     let mut at = 2;
-    let mut k = 0;
-    while k < FIELDS {
+    for k in 0..FIELDS {
         let room = room_of(given, k);
         found[k] = number_at(bytes, at, room);
-        at = at + room;
-        k = k + 1;
+        at += room;
     }
     found
 }
@@ -73,7 +69,7 @@ pub fn no_map(bytes: &[u8]) -> bool
     if bytes.len() < 3 {
         return true;
     }
-    let given = get_u16(bytes, 0);
+    let given = get::<u16>(bytes, 0);
     !has_field(given, 0) | (PAST_FIELDS <= given)
 }
 
@@ -85,51 +81,49 @@ pub fn is_of_kind(bytes: &[u8], kind: u8) -> bool
     if bytes.len() < 3 {
         return false;
     }
-    if has_field(get_u16(bytes, 0), 0) {
-        return get_u8(bytes, 2) == kind;
+    if has_field(get::<u16>(bytes, 0), 0) {
+        return get::<u8>(bytes, 2) == kind;
     }
     false
 }
 
 // The check of the map against that of a kind: how many wanted fields are missing, and how many stand unwanted.
-pub fn map_fault(bytes: &[u8], kind: u8) -> Checked
+pub fn map_fault(bytes: &[u8], kind: u8) -> Result<(), Refusal>
     requires { (unreadable bytes.now ≡ false) × (is_kind kind ≡ true) }
     ensures { result ≡ checked (applies (map_check kind bytes.now)) }
 {
-    let given = get_u16(bytes, 0);
+    let given = get::<u16>(bytes, 0);
     let wanted = wanted_map(kind);
     if given != wanted {
         let missing = fields_more(wanted, given);
         let unwanted = fields_more(given, wanted);
-        return Checked::Fails(Refusal::WrongMap { missing, unwanted });
+        return Err(Refusal::WrongMap { missing, unwanted });
     }
-    Checked::Clear
+    Ok(())
 }
 
 // What a record of this kind reads as.
-fn read_as(bytes: &[u8], kind: u8) -> Reading
+fn read_as(bytes: &[u8], kind: u8) -> Result<Request, Refusal>
     requires { (unreadable bytes.now ≡ false) × (kind ≡ field_in bytes.now 0) × (is_single kind ≡ true) }
     ensures { result ≡ reading bytes.now }
 {
-    if let Checked::Fails(r) = map_fault(bytes, kind) {
-        return Reading::Unread(r);
-    }
+    map_fault(bytes, kind)?;
     if bytes.len() != wanted_length(kind) {
-        return Reading::Unread(Refusal::WrongLength);
+        return Err(Refusal::WrongLength);
     }
-    Reading::Read(request(bytes))
+    Ok(request(bytes))
 }
 
 // What a record reads as: the request that it says, or the refusal 2, 3, 4 or 5.
-pub fn read(bytes: &[u8]) -> Reading
+pub fn read(bytes: &[u8]) -> Result<Request, Refusal>
     ensures { result ≡ reading bytes.now }
 {
     if no_map(bytes) {
-        return Reading::Unread(Refusal::Unreadable);
+        return Err(Refusal::Unreadable);
     }
-    let kind = get_u8(bytes, 2);
+    let kind = get::<u8>(bytes, 2);
     if !is_single(kind) {
-        return Reading::Unread(Refusal::UnknownKind);
+        return Err(Refusal::UnknownKind);
     }
     read_as(bytes, kind)
 }

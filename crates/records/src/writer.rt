@@ -5,22 +5,18 @@ ghost use Rattle.wire.specs.Regions.{splice};
 ghost use Rattle.rules.specs.Requests.{field_count, is_single, wanted_length, offset, fields_of, field_of, field_bytes, write as bytes_of, write_outcome, written};
 
 use crate::tables::{FIELDS, is_single, room_of, wanted_length, wanted_map};
-use rules::{Outcome, Refusal, Request, Verdict};
-use wire::numbers::put_u16;
+use rules::{Refusal, Request};
+use wire::numbers::put;
 
 // Puts `v` into the `width` bytes from `at` on.
 fn put_number(s: &mut [u8], at: usize, width: usize, v: u64)
     requires { at + width ≤ length s.old }
     ensures { s.new ≡ splice s.old at (le width v) }
 {
-    let mut p = at;
     let mut rest = v;
-    let mut left = width;
-    while 0 < left {
-        s[p] = (rest % 256) as u8;
-        rest = rest / 256;
-        p = p + 1;
-        left = left - 1;
+    for byte in &mut s[at..at + width] {
+        *byte = (rest % 256) as u8;
+        rest /= 256;
     }
 }
 
@@ -60,13 +56,10 @@ fn put_fields(q: Request, map: u16, buffer: &mut [u8])
     ensures { buffer.new ≡ splice buffer.old 2 (field_bytes map q 0 field_count) }
 {
     let mut at = 2;
-    let mut k = 0;
-    while k < FIELDS {
+    for k in 0..FIELDS {
         let room = room_of(map, k);
-        let value = field_of(q, k);
-        put_number(buffer, at, room, value);
-        at = at + room;
-        k = k + 1;
+        put_number(buffer, at, room, field_of(q, k));
+        at += room;
     }
 }
 
@@ -77,28 +70,22 @@ fn put_record(q: Request, buffer: &mut [u8])
 {
     let kind = q.kind;
     let wanted = wanted_map(kind);
-    put_u16(buffer, 0, wanted);
+    put(buffer, 0, wanted);
     put_fields(q, wanted, buffer);
 }
 
 // Writes the record of a request into the first bytes of the buffer and changes no others, or refuses by 3 or 10.
-pub fn write(request: Request, buffer: &mut [u8]) -> Outcome
+pub fn write(request: Request, buffer: &mut [u8]) -> Result<u16, Refusal>
     ensures answer { result ≡ write_outcome request buffer.old }
     ensures filled { buffer.new ≡ written request buffer.old }
 {
     let kind = request.kind;
     if !is_single(kind) {
-        return Outcome {
-            verdict: Verdict::Refused(Refusal::UnknownKind),
-        };
+        return Err(Refusal::UnknownKind);
     }
     if buffer.len() < wanted_length(kind) {
-        return Outcome {
-            verdict: Verdict::Refused(Refusal::BufferShort),
-        };
+        return Err(Refusal::BufferShort);
     }
     put_record(request, buffer);
-    Outcome {
-        verdict: Verdict::Accepted { number: 0 },
-    }
+    Ok(0)
 }

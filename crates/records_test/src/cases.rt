@@ -4,12 +4,12 @@ ghost use Rattle.std.specs.Prelude.{◌≤◌, length};
 use records::ranges::check_ranges;
 use records::reader::read;
 use records::writer::write;
-use rules::verdicts::{outcome_numbers, refusal_numbers};
-use rules::{Checked, Counts, Numbers, Reading, Request};
+use rules::{Counts, Numbers, Refusal, Request};
 use std::io::{Result, Write};
+use std::result;
 use test_lines::{HEAD, begin, bytes, end, number, verdict};
 use units::{Cents, CentsPerMwh, Kwh};
-use wire::numbers::{get_u16, get_u32, get_u64};
+use wire::numbers::get;
 
 // The bytes of the buffer of which the writer is lent the first.
 const ROOM: u8 = 24;
@@ -25,14 +25,14 @@ fn put_numbers<W: Write>(out: &mut W, tag: u8, n: Numbers) -> Result<()> {
 }
 
 // The numbers of a row of checks: 0 is acceptance.
-fn checked_numbers(c: Checked) -> Numbers {
+fn checked_numbers(c: result::Result<(), Refusal>) -> Numbers {
     match c {
-        Checked::Clear => Numbers {
+        Ok(()) => Numbers {
             number: 0,
             first: 0,
             second: 0,
         },
-        Checked::Fails(r) => refusal_numbers(r),
+        Err(r) => r.into(),
     }
 }
 
@@ -74,7 +74,7 @@ fn write_within<W: Write>(out: &mut W, q: Request, room: u8, buffer: &mut [u8]) 
     let lent = io::count(room as isize, buffer);
     let outcome = write(q, &mut buffer[..lent]);
     begin(out, b'w')?;
-    verdict(out, outcome_numbers(outcome))?;
+    verdict(out, outcome.into())?;
     bytes(out, buffer)?;
     end(out)
 }
@@ -89,9 +89,9 @@ fn show_written<W: Write>(out: &mut W, q: Request, room: u8) -> Result<()> {
 fn show_record<W: Write>(out: &mut W, record: &[u8], counts: Counts) -> Result<()> {
     let reading = read(record);
     match reading {
-        Reading::Unread(r) => put_numbers(out, b'r', refusal_numbers(r)),
-        Reading::Read(q) => {
-            put_numbers(out, b'r', checked_numbers(Checked::Clear))?;
+        Err(r) => put_numbers(out, b'r', r.into()),
+        Ok(q) => {
+            put_numbers(out, b'r', checked_numbers(Ok(())))?;
             show_fields(out, q)?;
             put_numbers(out, b'c', checked_numbers(check_ranges(q, counts)))?;
             show_written(out, q, ROOM)
@@ -107,16 +107,16 @@ fn request(s: &[u8]) -> Request
         kind: s[0],
         account: s[1],
         other: s[2],
-        code: get_u64(s, 3),
+        code: get::<u64>(s, 3),
         side: s[11],
         first: s[12],
         last: s[13],
-        quantity: Kwh(get_u32(s, 14)),
-        number: get_u16(s, 18),
+        quantity: Kwh(get::<u32>(s, 14)),
+        number: get::<u16>(s, 18),
         operator: s[20],
-        guarantee: Cents(get_u64(s, 21)),
+        guarantee: Cents(get::<u64>(s, 21)),
         point: s[29],
-        price: CentsPerMwh(get_u32(s, 30)),
+        price: CentsPerMwh(get::<u32>(s, 30)),
     }
 }
 

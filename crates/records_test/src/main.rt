@@ -17,6 +17,7 @@ fn run_cases<W: Write>(out: &mut W, input: &[u8]) -> Result<()> {
         zones: 0,
     };
     let mut at = 0;
+    // No index: a case says itself where it ends.
     while at < input.len() {
         let end = case_end(input, at);
         counts = cases::run(out, &input[at..end], counts)?;

@@ -1,7 +1,7 @@
 -- What an accepted confirm or withdraw writes: the bytes are the image of the book, so that the write laws of images apply, and the
 -- checks that it passed keep the book sound.
+use Rattle.std.specs.Prelude.{None, Some}
 use Rattle.std.proofs.Common.{◌≡◌, ℕ, suc, ◌+◌, ◌-◌, ◌≤◌, true, List, [], ◌∷◌, get_or, sym, refl, ap, ◌∙◌, add-one, arith}
-use mathlib.Core.Option.{none, some}
 use Rattle.wire.specs.Numbers.{le}
 use Rattle.wire.specs.Regions.{splice}
 use Rattle.rules.specs.declared.Row.{Row}
@@ -29,7 +29,7 @@ use Rattle.registration.specs.Positions.{nets_moved, marked_confirmed}
 
 module _ (s t : List ℕ) (h : is_sound s ≡ true) where
   -- 2: the row's status, the hours of its seller, those of its buyer
-  pub confirmed_answered : (q : Request) (i : ℕ) (r : Row) → decided confirm (book_in s) q ≡ none → confirms (book_in s).part.rows q ≡ some i
+  pub confirmed_answered : (q : Request) (i : ℕ) (r : Row) → decided confirm (book_in s) q ≡ None → confirms (book_in s).part.rows q ≡ Some i
       → r ≡ get_or (book_in s).part.rows i no_row → r.first ≤ r.last → t ≡ nets_moved (marked_confirmed s (i + 1)) r
       → Answered confirm s q (accepted (i + 1)) t
   unfolding given
@@ -53,7 +53,7 @@ module _ (s t : List ℕ) (h : is_sound s ≡ true) where
       (apply_keeps _ b sound (confirm_allowed b (q ∷ []) sound clear))
 
   -- 3: the row's status
-  pub withdrawn_answered : (q : Request) (at : ℕ) → decided withdraw (book_in s) q ≡ none → at ≡ present_offset + row_offset (q.number - 1) + status_offset
+  pub withdrawn_answered : (q : Request) (at : ℕ) → decided withdraw (book_in s) q ≡ None → at ≡ present_offset + row_offset (q.number - 1) + status_offset
       → t ≡ splice s at (le 1 3) → Answered withdraw s q (accepted 0) t
   unfolding given
   withdrawn_answered q at d place e =

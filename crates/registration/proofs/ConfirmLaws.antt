@@ -1,20 +1,22 @@
 -- A row confirmed: what it is by being named; what it adds to an exposure once it is a trade; the tests of confirm in the order of their
 -- numbers, each on the book as it would be; and its status with the nets of both parties as all that is written.
-use Rattle.std.proofs.Common.{◌≡◌, ℕ, suc, ◌+◌, ◌-◌, ◌≤◌, Bool, true, false, not, eqb, leb, List, [], ◌∷◌, length, get_or, sym, refl, ap, ◌∙◌, arith, ne_eqb}
-use mathlib.Core.Option.{Option, none, some}
+use Rattle.std.specs.Prelude.{Option, None, Some}
+use Rattle.std.proofs.Common.{◌≡◌, ℕ, zero, suc, ◌+◌, ◌-◌, ◌≤◌, Bool, true, false, not, eqb, leb, List, [], ◌∷◌, get_or, sym, refl, ap, ◌∙◌, arith, ne_eqb}
 use mathlib.Core.Bool.{and-false}
 use native.Mathlib.Nat.{sub-zero}
 use Rattle.rules.specs.declared.Row.{Row}
 use Rattle.rules.specs.declared.Request.{Request}
+use Rattle.rules.specs.declared.Refusal.{Refusal}
 use Rattle.rules.specs.declared.Refusal.TheVariants.{NoSuchRow, NotMirrored, MarginBroken, Uncovered}
 use Rattle.rules.specs.Basics.{nth, counting}
 use Rattle.rules.specs.Limits.{most_hours}
-use Rattle.rules.specs.Verdicts.{accepted}
+use Rattle.rules.specs.Verdicts.{accepted, refused, outcome_of}
 use Rattle.rules.specs.Books.{Setup, Book, no_row, operator_of, periods, margins_at}
 use Rattle.rules.specs.Requests.{confirm}
 use Rattle.rules.specs.Registration.{pending, with_status, mark, alike, confirms, mirrors, account_hour, after_trade, keeps_margins, broken_hour, broken_by, exposure, covered}
-use Rattle.rules.specs.Calls.{number_from, confirmed_number, changed, apply}
+use Rattle.rules.specs.Calls.{number_from, confirmed_number, changed, apply, given}
 use Rattle.rules.proofs.Basics.Searches.{index_first}
+use Rattle.rules.proofs.Checks.Clearing.{never_both}
 use Rattle.rules.proofs.Rows.RowTests.{Alike, alike_true, passed_confirm}
 use Rattle.rules.proofs.Checks.Passed.{passed_16_confirm}
 use Rattle.rules.proofs.Rows.AccountHours.{pending_inside, hour_takes_confirmed}
@@ -24,24 +26,58 @@ use Rattle.image.proofs.Sound.Soundness.{SoundRow}
 use Rattle.image.proofs.Keeping.Easing.{sale_eases_operators}
 use Rattle.book.specs.Members.{IsAccount, IsRow, numbered_row}
 use Rattle.book.specs.Worth.{sale_worth, TradeInRange}
-use Rattle.book.specs.Kinds.{decided}
+use Rattle.book.specs.Kinds.{decided, outcome_on}
 use Rattle.book.proofs.StateLaws.{book_is_sound}
 use Rattle.book.proofs.BookRows.{sound_tabled, numbered_sound}
 use Rattle.book.proofs.WorthLaws.{with_confirmed}
 use Rattle.book.proofs.Answers.{decided_clear, Answered}
-use Rattle.registration.specs.Confirming.{number_alike, Confirming, WaitsIn}
-use Rattle.registration.specs.Margins.{AccountTrade, broken}
+use Rattle.registration.specs.Confirming.{number_alike, some_number, Confirming, WaitsIn}
+use Rattle.registration.specs.Margins.{AccountTrade}
 use Rattle.registration.specs.Cover.{exposure_with_trade, covered_with_trade}
 use Rattle.registration.specs.Positions.{nets_moved, marked_confirmed}
-use Rattle.registration.specs.declared.margins.Broken.TheVariants.{Hour, Nowhere}
 use Rattle.registration.proofs.Decisions.{no_row_to_confirm, terms_differ, confirm_breaks, confirm_uncovered, confirm_passes}
 use Rattle.registration.proofs.Acceptances.{confirmed_answered}
 use Rattle.registration.proofs.SearchLaws.{find_cong}
-use Rattle.registration.proofs.PendingLaws.{number_high}
 use Rattle.registration.proofs.MarginLaws.{found_hour, found_nowhere}
 use Rattle.registration.proofs.CoverLaws.{covered_at, still_covered, ended_row_in_range}
 
+-- ---- the answer by what is decided
+
+module _ (b : Book) (q : Request) where
+  pub refusal_answers : (r : Refusal) → decided confirm b q ≡ Some r → refused r ≡ outcome_on confirm b q
+  unfolding outcome_on given
+  refusal_answers r e = rw e
+
+  pub acceptance_answers : (n : ℕ) → decided confirm b q ≡ None → n ≡ confirmed_number b q → accepted n ≡ outcome_on confirm b q
+  unfolding outcome_on given
+  acceptance_answers n e g = rw (e, g)
+
+  pub refusal_decided : (r : Refusal) → refused r ≡ outcome_on confirm b q → decided confirm b q ≡ Some r
+  unfolding outcome_on given
+  refusal_decided r e = go (decided confirm b q) e
+    where
+      go : (o : Option Refusal) → refused r ≡ outcome_of o (confirmed_number b q) → o ≡ Some r
+      go None h = absurd (never_both r _ h)
+      go (Some x) h = cc
+
+  pub acceptance_decided : (n : ℕ) → accepted n ≡ outcome_on confirm b q → (decided confirm b q ≡ None) × (n ≡ confirmed_number b q)
+  unfolding outcome_on given
+  acceptance_decided n e = go (decided confirm b q) e
+    where
+      go : (o : Option Refusal) → accepted n ≡ outcome_of o (confirmed_number b q) → (o ≡ None) × (n ≡ confirmed_number b q)
+      go None h = (refl, cc)
+      go (Some x) h = absurd (never_both x n (sym h))
+
 -- ---- the row that is named
+
+some_low : (n k : ℕ) → Some n ≡ some_number k → 1 ≤ k
+some_low n zero e = cc
+some_low n (suc i) e = omega arith
+
+-- some number is the number
+pub number_of_some : (n k : ℕ) → Some n ≡ some_number k → n ≡ k
+number_of_some n zero e = cc
+number_of_some n (suc i) e = cc
 
 -- the hour that the confirmed row breaks is the one broken in the book as it would be
 pub broken-confirmed : (u : Setup) (rows : List Row) (n a : ℕ) → pending (nth rows n no_row) ≡ true → eqb (nth rows n no_row).proposer a ≡ false
@@ -54,38 +90,33 @@ broken-confirmed u rows n a e o =
     (λ h. ap (λ x. not (keeps_margins (margins_at u a h) x)) (hour_takes_confirmed rows n a h e o))
     (counting (periods u) 1)
 
-index_named : (o : Option ℕ) → 1 ≤ number_from o → (i : ℕ) × (o ≡ some i)
-index_named none l = absurd (omega arith)
-index_named (some i) l = (i, refl)
+index_named : (o : Option ℕ) → 1 ≤ number_from o → (i : ℕ) × (o ≡ Some i)
+index_named None l = absurd (omega arith)
+index_named (Some i) l = (i, refl)
 
-module _ (b : Book) (q : Request) (number : ℕ) (first : b.phase ≡ 1) (same : number ≡ confirmed_number b q) where
+module _ (b : Book) (q : Request) (first : b.phase ≡ 1) where
   -- refusal 16: it names no row
-  pub names_no_row : number ≡ 0 → decided confirm b q ≡ some NoSuchRow
-  names_no_row e = no_row_to_confirm b q first (go (confirms b.part.rows q) (sym same ∙ e))
+  pub names_no_row : None ≡ some_number (confirmed_number b q) → refused NoSuchRow ≡ outcome_on confirm b q
+  names_no_row e = refusal_answers b q NoSuchRow (no_row_to_confirm b q first (go (confirms b.part.rows q) e))
     where
-      go : (o : Option ℕ) → number_from o ≡ 0 → o ≡ none
-      go none z = refl
-      go (some i) z = absurd (omega arith)
+      go : (o : Option ℕ) → None ≡ some_number (number_from o) → o ≡ None
+      go None z = refl
+      go (Some i) z = cc
 
-  module _ (r : Row) (some-row : number ≡ 0 → ⊥) (row : r ≡ nth b.part.rows number no_row) where
+  module _ (r : Row) (number : ℕ) (some_row : Some number ≡ some_number (confirmed_number b q)) (row : r ≡ nth b.part.rows number no_row) where
+    named_number : number ≡ confirmed_number b q
+    named_number = number_of_some number (confirmed_number b q) some_row
+
     -- refusal 17: the terms are others
-    pub names_other_terms : mirrors q r ≡ false → decided confirm b q ≡ some NotMirrored
+    pub names_other_terms : mirrors q r ≡ false → refused NotMirrored ≡ outcome_on confirm b q
     names_other_terms w =
-        let (i, named) = index_named (confirms b.part.rows q) (omega (arith, same)) in
-        terms_differ b q first i named (rw (← same, ← row) w)
-
-    pub names_its_terms : mirrors q r ≡ true → Confirming b q r
-    names_its_terms w =
-        record { in_registration = first; named = omega (arith, same); row = row ∙ ap (λ (n : ℕ). nth b.part.rows n no_row) same; terms = w }
+        let (i, named) = index_named (confirms b.part.rows q) (some_low number _ some_row) in
+        refusal_answers b q NotMirrored (terms_differ b q first i named (rw (← named_number, ← row) w))
 
 -- the number that is found is that of the row which confirm names
 pub confirmed_found : (b : Book) (q : Request) → number_alike q.other q.account q.code b.part.rows ≡ confirmed_number b q
 unfolding confirms
 confirmed_found b q = refl
-
-pub confirmed-high : (b : Book) (q : Request) → confirmed_number b q ≤ length b.part.rows
-unfolding confirms
-confirmed-high b q = number_high (alike q.other q.account q.code) b.part.rows
 
 -- the row of a number is sound
 row_sound : (s : List ℕ) (h : is_sound s ≡ true) (n : ℕ) (r : Row) → IsRow (book_in s) n → r ≡ numbered_row (book_in s) n → SoundRow (book_in s).setup r
@@ -178,13 +209,13 @@ module _ (s : List ℕ) (q : Request) (r : Row) (h : is_sound s ≡ true) (w : C
     -- ---- what the state decides
 
     -- refusal 18: the trade breaks a margin
-    pub trade_breaks : (k : ℕ) → Hour k ≡ broken (broken_by (book_in s).setup (book_in s).part.rows (trade ∷ []) q.account)
-        → decided confirm (book_in s) q ≡ some (MarginBroken k)
+    pub trade_breaks : (k : ℕ) → Some k ≡ broken_by (book_in s).setup (book_in s).part.rows (trade ∷ []) q.account
+        → decided confirm (book_in s) q ≡ Some (MarginBroken k)
     trade_breaks k f =
         let (i, named) = index_named (confirms (book_in s).part.rows q) w.named in
         confirm_breaks (book_in s) q w.in_registration i named same_terms_lem k (broken_next ∙ found_hour _ _ _ _ _ k e f)
 
-    module _ (kept : Nowhere ≡ broken (broken_by (book_in s).setup (book_in s).part.rows (trade ∷ []) q.account)) (t : Bool)
+    module _ (kept : None ≡ broken_by (book_in s).setup (book_in s).part.rows (trade ∷ []) q.account) (t : Bool)
         (test : t ≡ covered_with_trade (book_in s) r (operator_of (book_in s).setup q.account)) where
       covered_next : covered (book_in s).setup (changed confirm (book_in s) (q ∷ [])).part (operator_of (book_in s).setup q.account) ≡ t
       unfolding apply
@@ -193,19 +224,19 @@ module _ (s : List ℕ) (q : Request) (r : Row) (h : is_sound s ≡ true) (w : C
           covered_at (book_in s) (mark (confirmed_number (book_in s) q) 2 (book_in s).part.rows) o _ (exposure_with_trade_lem s r h named_waits o) ∙ sym test
 
       -- refusal 19: the exposure is not covered
-      pub trade_uncovered : t ≡ false → decided confirm (book_in s) q ≡ some Uncovered
+      pub trade_uncovered : t ≡ false → decided confirm (book_in s) q ≡ Some Uncovered
       trade_uncovered f =
           let (i, named) = index_named (confirms (book_in s).part.rows q) w.named in
           confirm_uncovered (book_in s) q w.in_registration i named same_terms_lem (broken_next ∙ found_nowhere _ _ _ _ _ e kept) (covered_next ∙ f)
 
-      pub covered_with_trade_lem : t ≡ true → decided confirm (book_in s) q ≡ none
+      pub covered_with_trade_lem : t ≡ true → decided confirm (book_in s) q ≡ None
       covered_with_trade_lem f =
           let (i, named) = index_named (confirms (book_in s).part.rows q) w.named in
           confirm_passes (book_in s) q w.in_registration i named same_terms_lem (broken_next ∙ found_nowhere _ _ _ _ _ e kept) (covered_next ∙ f)
 
 -- ---- what an accepted one writes
 
-module _ (s : List ℕ) (q : Request) (number : ℕ) (h : is_sound s ≡ true) (free : decided confirm (book_in s) q ≡ none)
+module _ (s : List ℕ) (q : Request) (number : ℕ) (h : is_sound s ≡ true) (free : decided confirm (book_in s) q ≡ None)
     (same : number ≡ confirmed_number (book_in s) q) where
   pub accepted_number : IsRow (book_in s) number
   accepted_number =

@@ -1,6 +1,6 @@
 -- A guarantee replaced: the rows stay, so that the exposure is that of the present ones, and only the 8 bytes of the guarantee change.
+use Rattle.std.specs.Prelude.{None, Some}
 use Rattle.std.proofs.Common.{◌≡◌, ℕ, zero, suc, ◌+◌, ◌-◌, ◌*◌, ◌≤◌, Bool, true, false, List, [], ◌∷◌, length, sym, refl, ap, ◌∙◌, mul-le-mul_right, arith, get_or-set_same, eq-eqb, le-leb, leb-true}
-use mathlib.Core.Option.{none, some}
 use Rattle.wire.specs.Numbers.{le}
 use Rattle.wire.specs.Regions.{splice}
 use Rattle.units.specs.Units.{cents}
@@ -53,13 +53,13 @@ module _ (b : Book) (q : Request) (first : b.phase ≡ 1) (low : 1 ≤ q.operato
   -- refusal 19: the exposure is not covered
   pub too_little_guarantee_in_force : (t : Bool)
       → t ≡ covered_under b q.guarantee.0 q.operator
-      → t ≡ false → decided guarantee b q ≡ some Uncovered
+      → t ≡ false → decided guarantee b q ≡ Some Uncovered
   unfolding decided state_checks first_to_apply
   too_little_guarantee_in_force t e f = rw (eq-eqb _ 1 first, new_guarantee_covered ∙ sym e ∙ f)
 
   pub enough_guarantee_in_force : (t : Bool)
       → t ≡ covered_under b q.guarantee.0 q.operator
-      → t ≡ true → decided guarantee b q ≡ none
+      → t ≡ true → decided guarantee b q ≡ None
   unfolding decided state_checks first_to_apply
   enough_guarantee_in_force t e f = rw (eq-eqb _ 1 first, new_guarantee_covered ∙ sym e ∙ f)
 
@@ -81,7 +81,7 @@ raised_covers s h o g own more = no_lower_covers s h o g _ own refl more
 -- ---- what is written
 
 pub guarantee_answered : (s t : List ℕ) (h : is_sound s ≡ true) (q : Request) (at : ℕ) → Ready guarantee (book_in s) q
-    → decided guarantee (book_in s) q ≡ none → at ≡ present_offset + guarantee_width * (q.operator - 1)
+    → decided guarantee (book_in s) q ≡ None → at ≡ present_offset + guarantee_width * (q.operator - 1)
     → t ≡ splice s at (le 8 q.guarantee.0) → Answered guarantee s q (accepted 0) t
 unfolding given
 guarantee_answered s t h q at r d place e =

@@ -1,7 +1,7 @@
 -- The search for a broken margin. The sums of an hour with the trade fit 32 bits, and the test by the net position as it is stored is the
 -- definition's, by the sums of what was bought and sold. Only the trade's hours are searched: in a book the others break no margin.
+use Rattle.std.specs.Prelude.{None, Some}
 use Rattle.std.proofs.Common.{◌≡◌, ℕ, ◌+◌, ◌-◌, ◌^◌, ◌<◌, ◌≤◌, Bool, true, false, not, leb, List, [], ◌∷◌, ◌++◌, sym, refl, ap, ◌∙◌, add-zero, arith, le-leb, leb-true}
-use mathlib.Core.Option.{Option, none, some}
 use mathlib.Core.Bool.{and-false}
 use borrow.Author.Tests.{lt-leb}
 use Rattle.rules.specs.declared.Margins.{Margins}
@@ -23,8 +23,7 @@ use Rattle.book.proofs.StateLaws.{book_is_sound, row_count_high}
 use Rattle.book.proofs.ReadingLaws.{net_near}
 use Rattle.book.proofs.NettedLaws.{netted_difference}
 use Rattle.book.proofs.WaitLaws.{side_hour}
-use Rattle.registration.specs.Margins.{AccountTrade, broken}
-use Rattle.registration.specs.declared.margins.Broken.TheVariants.{Hour, Nowhere}
+use Rattle.registration.specs.Margins.{AccountTrade}
 use Rattle.registration.proofs.SearchLaws.{find_span}
 
 -- ---- what is read of a book
@@ -153,19 +152,11 @@ breaks_tested u rows trade a h margins held after t eo eh ea et =
 
 -- ---- what the search says
 
-pub tells_hour : (o : Option ℕ) (h : ℕ) → Hour h ≡ broken o → o ≡ some h
-tells_hour none h z = cc
-tells_hour (some k) h z = cc
+-- of a trade that is this one
+pub found_hour : (u : Setup) (rows : List Row) (trade other : Row) (a h : ℕ) → trade ≡ other → Some h ≡ broken_by u rows (trade ∷ []) a
+    → broken_by u rows (other ∷ []) a ≡ Some h
+found_hour u rows trade other a h e f = sym (rw e at f)
 
-pub tells_nowhere : (o : Option ℕ) → Nowhere ≡ broken o → o ≡ none
-tells_nowhere none z = refl
-tells_nowhere (some k) z = cc
-
--- the same of a trade that is this one
-pub found_hour : (u : Setup) (rows : List Row) (trade other : Row) (a h : ℕ) → trade ≡ other → Hour h ≡ broken (broken_by u rows (trade ∷ []) a)
-    → broken_by u rows (other ∷ []) a ≡ some h
-found_hour u rows trade other a h e f = tells_hour (broken_by u rows (other ∷ []) a) h (rw e at f)
-
-pub found_nowhere : (u : Setup) (rows : List Row) (trade other : Row) (a : ℕ) → trade ≡ other → Nowhere ≡ broken (broken_by u rows (trade ∷ []) a)
-    → broken_by u rows (other ∷ []) a ≡ none
-found_nowhere u rows trade other a e f = tells_nowhere (broken_by u rows (other ∷ []) a) (rw e at f)
+pub found_nowhere : (u : Setup) (rows : List Row) (trade other : Row) (a : ℕ) → trade ≡ other → None ≡ broken_by u rows (trade ∷ []) a
+    → broken_by u rows (other ∷ []) a ≡ None
+found_nowhere u rows trade other a e f = sym (rw e at f)

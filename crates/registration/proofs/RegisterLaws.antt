@@ -1,10 +1,9 @@
 -- A row proposed: the tests of register in the order of their numbers, each on the book as it would be, and the row's 18 bytes with the
 -- count as all that is written.
+use Rattle.std.specs.Prelude.{Err, None, Some}
 use Rattle.std.proofs.Common.{◌≡◌, ℕ, ◌+◌, ◌<◌, ◌≤◌, Bool, true, false, List, [], ◌∷◌, length, refl, sym, ap, ◌∙◌, arith}
-use mathlib.Core.Option.{none, some}
 use Rattle.rules.specs.declared.Row.{Row}
 use Rattle.rules.specs.declared.Request.{Request}
-use Rattle.rules.specs.declared.Checked.TheVariants.{Fails}
 use Rattle.rules.specs.declared.Refusal.TheVariants.{AlreadyPending, RowsFull, MarginBroken, Uncovered}
 use Rattle.rules.specs.Basics.{any_passes, nil, cons}
 use Rattle.rules.specs.Limits.{most_hours, most_rows, book_size}
@@ -65,46 +64,46 @@ proposing b q p =
 
 module _ (b : Book) (q : Request) (first : b.phase ≡ 1) where
   -- refusal 14: a pending row has the same parties and code
-  pub twin_pending : any_passes (alike q.account q.other q.code) b.part.rows ≡ true → decided register b q ≡ some AlreadyPending
+  pub twin_pending : any_passes (alike q.account q.other q.code) b.part.rows ≡ true → decided register b q ≡ Some AlreadyPending
   unfolding decided
   twin_pending e = Adding.twin_pending b (q ∷ []) first (one_standing b.part.rows q true e)
 
   -- refusal 15: no number is left
   pub no_number_left : any_passes (alike q.account q.other q.code) b.part.rows ≡ false → most_rows ≤ length b.part.rows
-      → decided register b q ≡ some RowsFull
+      → decided register b q ≡ Some RowsFull
   unfolding decided
   no_number_left alone h = Adding.no_numbers_left b (q ∷ []) first (one_standing b.part.rows q false alone) (one_alone q) (omega arith)
 
   -- which is what register answers then
   pub rows_full : any_passes (alike q.account q.other q.code) b.part.rows ≡ false → most_rows ≤ length b.part.rows
-      → Fails RowsFull ≡ checked (decided register b q)
+      → Err RowsFull ≡ checked (decided register b q)
   rows_full alone h = ap checked (sym (no_number_left alone h))
 
 module _ (b : Book) (q : Request) (p : Proposing b q) where
   -- refusal 18: the row breaks a margin
-  pub margin_breaks : (h : ℕ) → broken_by b.setup b.part.rows (proposed q ∷ []) q.account ≡ some h → decided register b q ≡ some (MarginBroken h)
+  pub margin_breaks : (h : ℕ) → broken_by b.setup b.part.rows (proposed q ∷ []) q.account ≡ Some h → decided register b q ≡ Some (MarginBroken h)
   unfolding decided
   margin_breaks h e = Adding.margin_breaks b (q ∷ []) (proposing b q p) h e
 
-  module _ (kept : broken_by b.setup b.part.rows (proposed q ∷ []) q.account ≡ none) (t : Bool)
+  module _ (kept : broken_by b.setup b.part.rows (proposed q ∷ []) q.account ≡ None) (t : Bool)
       (test : t ≡ covered_with_row b (proposed q) (operator_of b.setup q.account)) where
     -- refusal 19: the exposure is not covered
-    pub row_uncovered : t ≡ false → decided register b q ≡ some Uncovered
+    pub row_uncovered : t ≡ false → decided register b q ≡ Some Uncovered
     unfolding decided
     row_uncovered f = Adding.rows_uncovered b (q ∷ []) (proposing b q p) kept t test f
 
-    pub covered_with_row_lem : t ≡ true → decided register b q ≡ none
+    pub covered_with_row_lem : t ≡ true → decided register b q ≡ None
     unfolding decided
     covered_with_row_lem f = Adding.rows_covered b (q ∷ []) (proposing b q p) kept t test f
 
 -- an accepted row has a number
-pub few_rows : (b : Book) (q : Request) → decided register b q ≡ none → length b.part.rows < most_rows
+pub few_rows : (b : Book) (q : Request) → decided register b q ≡ None → length b.part.rows < most_rows
 few_rows b q d = omega (arith, passed_15 b (q ∷ []) register refl (decided_clear register b q d))
 
 -- ---- what is written
 
 pub registered_answered : (s t : List ℕ) (h : is_sound s ≡ true) (q : Request) (n : ℕ) → Ready register (book_in s) q
-    → decided register (book_in s) q ≡ none → n ≡ length (book_in s).part.rows → n < most_rows
+    → decided register (book_in s) q ≡ None → n ≡ length (book_in s).part.rows → n < most_rows
     → t ≡ row_appended s n (proposed q)
     → Answered register s q (accepted (n + 1)) t
 unfolding given

@@ -1,11 +1,11 @@
 -- A search that counts up, number by number: the first number that is left decides, or is passed; where only a span can be found, the
 -- search is that over the span. Two tests that agree find the same.
+use Rattle.std.specs.Prelude.{None, Some}
 use Rattle.std.proofs.Common.{◌≡◌, ℕ, zero, suc, ◌+◌, ◌-◌, ◌<◌, ◌≤◌, Bool, true, false, List, [], ◌∷◌, sym, refl, ◌∙◌, add-one, arith}
-use mathlib.Core.Option.{none, some}
 use Rattle.rules.specs.Basics.{find, counting}
 
 module _ (p : ℕ → Bool) where
-  pub find_done : (n from : ℕ) → n ≤ 0 → find p (counting n from) ≡ none
+  pub find_done : (n from : ℕ) → n ≤ 0 → find p (counting n from) ≡ None
   unfolding find counting
   find_done zero from h = refl
   find_done (suc n) from h = absurd (omega arith)
@@ -14,7 +14,7 @@ module _ (p : ℕ → Bool) where
   find_same n m from start e f = rw (e, f)
 
   -- the first number is found
-  pub find_here : (n from : ℕ) → 0 < n → p from ≡ true → find p (counting n from) ≡ some from
+  pub find_here : (n from : ℕ) → 0 < n → p from ≡ true → find p (counting n from) ≡ Some from
   unfolding find counting
   find_here zero from h t = absurd (omega arith)
   find_here (suc n) from h t = rw t
@@ -56,7 +56,7 @@ module _ (p : ℕ → Bool) where
       ∙ find_same (n + 1 - first) ((last + 1 - first) + (n - last)) (1 + (first - 1)) first (omega arith) (omega arith)
       ∙ find_before (last + 1 - first) (n - last) first (λ k l m. after k (omega arith) (omega arith))
 
-find_hit : (p : ℕ → Bool) (x : ℕ) (xs : List ℕ) → p x ≡ true → find p (x ∷ xs) ≡ some x
+find_hit : (p : ℕ → Bool) (x : ℕ) (xs : List ℕ) → p x ≡ true → find p (x ∷ xs) ≡ Some x
 unfolding find
 find_hit p x xs e = rw (e, find)
 

@@ -1,5 +1,5 @@
 -- The row that a confirm names, and a pending row (document 01, "Registration").
-use Rattle.std.specs.Prelude.{◌≡◌, ℕ, ◌≤◌, true, List}
+use Rattle.std.specs.Prelude.{◌≡◌, ℕ, zero, suc, ◌≤◌, true, List, Option, None, Some}
 use Rattle.rules.specs.declared.Row.{Row}
 use Rattle.rules.specs.declared.Request.{Request}
 use Rattle.rules.specs.Basics.{index_of}
@@ -11,6 +11,11 @@ use Rattle.book.specs.Members.{numbered_row}
 -- the number of the first pending row with this proposer, counterparty and code; 0 where there is none
 abbrev pub number_alike : ℕ → ℕ → ℕ → List Row → ℕ
 number_alike proposer counterparty code rows = number_from (index_of (alike proposer counterparty code) rows)
+
+-- a number, or none where it is 0
+abbrev pub some_number : ℕ → Option ℕ
+some_number zero = None
+some_number (suc i) = Some (suc i)
 
 -- in the phase of registration, the request confirms this row: it names it and mirrors its terms
 pub record Confirming (b : Book) (q : Request) (r : Row) : Type 0 where

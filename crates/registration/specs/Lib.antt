@@ -3,7 +3,7 @@
 pub mod Proposing
 -- Confirming: the pending row that a confirm names.
 pub mod Confirming
--- Margins: what the search for a broken margin is asked and finds.
+-- Margins: what the search for a broken margin is asked.
 pub mod Margins
 -- Cover: what covers an exposure.
 pub mod Cover

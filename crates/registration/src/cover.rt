@@ -11,7 +11,7 @@ use image::layout::PRESENT_OFFSET;
 use setup::counts::GUARANTEE_WIDTH;
 use setup::entries::operator;
 use units::{Cents, MilliCents};
-use wire::numbers::get_u64;
+use wire::numbers::get;
 
 // The guarantee in force of an operator.
 pub fn guarantee_in_force(book: &[u8], number: u8) -> Cents
@@ -20,7 +20,7 @@ pub fn guarantee_in_force(book: &[u8], number: u8) -> Cents
     ensures bounded { result.0 ≤ most_guarantee }
 {
     let at = PRESENT_OFFSET + GUARANTEE_WIDTH * (number as usize - 1);
-    Cents(get_u64(book, at))
+    Cents(get::<u64>(book, at))
 }
 
 // Whether an exposure of the operator is at most what is available of a guarantee.
@@ -30,7 +30,7 @@ pub fn covered_by(book: &[u8], owed: MilliCents, guarantee: Cents, number: u8) -
 {
     let entry = operator(book, number);
     let limit = guarantee.available(entry.maintenance);
-    owed.at_most(limit)
+    owed <= limit
 }
 
 // Whether an exposure of the operator is at most what is available of its guarantee in force.

@@ -10,13 +10,13 @@ ghost use Rattle.registration.specs.Cover.{covered_under};
 
 use crate::cover::{covered_by, guarantee_in_force};
 use book::state::phase;
-use book::worth::{Added, exposure_with};
+use book::worth::exposure_with;
 use image::layout::PRESENT_OFFSET;
-use rules::phases::REGISTRATION;
-use rules::{Checked, Outcome, Refusal, Request, Verdict};
+use rules::phases::Phase;
+use rules::{Refusal, Request};
 use setup::counts::GUARANTEE_WIDTH;
 use units::Cents;
-use wire::numbers::put_u64;
+use wire::numbers::put;
 
 // Whether the operator's exposure is covered by the guarantee. One that is no lower than the guarantee in force covers it: in a book every
 // exposure is at most what is available.
@@ -29,45 +29,39 @@ fn covered_under(book: &[u8], guarantee: Cents, number: u8) -> bool
     if in_force.0 <= guarantee.0 {
         return true;
     }
-    let owed = exposure_with(book, number, Added::Nothing);
+    let owed = exposure_with(book, number, None);
     covered_by(book, owed, guarantee, number)
 }
 
 // What guarantee is refused for.
-fn guarantee_fault(book: &[u8], request: Request) -> Checked
+fn guarantee_fault(book: &[u8], request: Request) -> Result<(), Refusal>
     requires known_book { is_sound book.now ≡ true }
     requires ready { Ready guarantee (book_in book.now) request }
     ensures { result ≡ checked (decided guarantee (book_in book.now) request) }
 {
-    if phase(book) != REGISTRATION {
-        return Checked::Fails(Refusal::WrongPhase);
+    if phase(book) != Phase::Registration {
+        return Err(Refusal::WrongPhase);
     }
     if covered_under(book, request.guarantee, request.operator) {
-        return Checked::Clear;
+        return Ok(());
     }
-    Checked::Fails(Refusal::Uncovered)
+    Err(Refusal::Uncovered)
 }
 
 // Kind 4: the operator's guarantee becomes the one named.
-pub fn guarantee(book: &mut [u8], request: Request) -> Outcome
+pub fn guarantee(book: &mut [u8], request: Request) -> Result<u16, Refusal>
     requires known_book { is_sound book.old ≡ true }
     requires ready { Ready guarantee (book_in book.old) request }
     ensures answer { result ≡ outcome_on guarantee (book_in book.old) request }
     ensures bytes { book.new ≡ book_bytes (book_after guarantee (book_in book.old) request) }
     ensures still { is_sound book.new ≡ true }
 {
-    if let Checked::Fails(r) = guarantee_fault(book, request) {
-        return Outcome {
-            verdict: Verdict::Refused(r),
-        };
-    }
+    guarantee_fault(book, request)?;
     let cents = request.guarantee;
-    put_u64(
+    put(
         book,
         PRESENT_OFFSET + GUARANTEE_WIDTH * (request.operator as usize - 1),
         cents.0,
     );
-    Outcome {
-        verdict: Verdict::Accepted { number: 0 },
-    }
+    Ok(0)
 }

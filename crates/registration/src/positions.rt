@@ -12,15 +12,15 @@ use book::state::net_offset;
 use image::layout::NET_WIDTH;
 use rules::Row;
 use std::num::wrapping_add_u32;
-use wire::numbers::{get_u32, put_u32};
-use wire::signed::minus_u32;
+use wire::numbers::{get, put};
+use wire::signed::SignedWord;
 
 // Raises the number in the 4 bytes at `at`, modulo 2^32.
 fn raise_net(s: &mut [u8], at: usize, more: u32)
     requires { at + net_width ≤ length s.old }
     ensures { s.new ≡ splice s.old at (raised net_width more (take net_width (drop at s.old))) }
 {
-    put_u32(s, at, wrapping_add_u32(get_u32(s, at), more));
+    put(s, at, wrapping_add_u32(get::<u32>(s, at), more));
 }
 
 // Raises each of the `n` numbers from `from` on.
@@ -28,12 +28,8 @@ fn raise_nets(s: &mut [u8], from: usize, n: usize, more: u32)
     requires { from + net_width * n ≤ length s.old }
     ensures { s.new ≡ sweep (raised net_width more) net_width s.old from n }
 {
-    let mut at = from;
-    let mut left = n;
-    while 0 < left {
-        raise_net(s, at, more);
-        at = at + NET_WIDTH;
-        left = left - 1;
+    for i in 0..n {
+        raise_net(s, from + NET_WIDTH * i, more);
     }
 }
 
@@ -46,6 +42,6 @@ pub fn move_nets(book: &mut [u8], r: Row)
     let n = (r.last - r.first) as usize + 1;
     let seller = r.seller();
     let buyer = r.buyer();
-    raise_nets(book, net_offset(seller, r.first), n, minus_u32(quantity.0));
+    raise_nets(book, net_offset(seller, r.first), n, quantity.0.minus());
     raise_nets(book, net_offset(buyer, r.first), n, quantity.0);
 }

@@ -14,17 +14,17 @@ ghost use Rattle.registration.specs.Proposing.{ProposesRow, Proposing, row_appen
 ghost use Rattle.registration.specs.Cover.{covered_with_row};
 
 use crate::cover::covered_in_force;
-use crate::margins::{Broken, first_broken};
+use crate::margins::first_broken;
 use book::state::{operator_of, phase, row_count};
 use book::waits::{fill_waits, no_waits};
-use book::worth::{Added, exposure_with};
+use book::worth::exposure_with;
 use image::layout::{MOST_ROWS, PRESENT_OFFSET, ROW_COUNT_OFFSET, ROW_WIDTH, ROWS_OFFSET};
 use image::rows::row_bytes;
-use rules::phases::REGISTRATION;
+use rules::phases::Phase;
 use rules::sides::SELLS;
 use rules::statuses::PENDING;
-use rules::{Checked, Outcome, Refusal, Request, Row, Verdict};
-use wire::numbers::put_u16;
+use rules::{Refusal, Request, Row};
+use wire::numbers::put;
 use wire::regions::copy_in;
 
 // The row that the request proposes.
@@ -55,36 +55,36 @@ fn covered_with_row(book: &[u8], row: Row, number: u8) -> bool
         return true;
     }
     let operator = operator_of(book, number);
-    let owed = exposure_with(book, operator, Added::One(row));
+    let owed = exposure_with(book, operator, Some(row));
     covered_in_force(book, owed, operator)
 }
 
 // What register is refused for once its row has no twin and there is a number for it: a margin that it breaks, or an exposure that is not
 // covered. `waits` holds the account's pending sums.
-fn margin_or_exposure_fault(book: &[u8], waits: &[u32], request: Request) -> Checked
+fn margin_or_exposure_fault(book: &[u8], waits: &[u32], request: Request) -> Result<(), Refusal>
     requires known_book { (is_sound book.now ≡ true) × WaitsOf (book_in book.now).part.rows request.account waits.now }
     requires proposing { Proposing (book_in book.now) request }
     ensures { result ≡ checked (decided register (book_in book.now) request) }
 {
     let row = proposed_row(request);
-    if let Broken::Hour(hour) = first_broken(book, waits, row, request.account) {
-        return Checked::Fails(Refusal::MarginBroken { hour });
+    if let Some(hour) = first_broken(book, waits, row, request.account) {
+        return Err(Refusal::MarginBroken { hour });
     }
     if covered_with_row(book, row, request.account) {
-        return Checked::Clear;
+        return Ok(());
     }
-    Checked::Fails(Refusal::Uncovered)
+    Err(Refusal::Uncovered)
 }
 
 // What register is refused for.
 #[tactic(auto, using(crate::proofs::RegisterLaws::rows_full))]
-pub fn register_fault(book: &[u8], request: Request) -> Checked
+pub fn register_fault(book: &[u8], request: Request) -> Result<(), Refusal>
     requires known_book { is_sound book.now ≡ true }
     requires proposes_row { ProposesRow (book_in book.now) request }
     ensures { result ≡ checked (decided register (book_in book.now) request) }
 {
-    if phase(book) != REGISTRATION {
-        return Checked::Fails(Refusal::WrongPhase);
+    if phase(book) != Phase::Registration {
+        return Err(Refusal::WrongPhase);
     }
     // One pass over the rows sums those that the account has pending, and finds whether one of them is a twin.
     let mut waits = no_waits();
@@ -95,10 +95,10 @@ pub fn register_fault(book: &[u8], request: Request) -> Checked
         request.other,
         request.code,
     ) {
-        return Checked::Fails(Refusal::AlreadyPending);
+        return Err(Refusal::AlreadyPending);
     }
     if MOST_ROWS <= row_count(book) as usize {
-        return Checked::Fails(Refusal::RowsFull);
+        return Err(Refusal::RowsFull);
     }
     margin_or_exposure_fault(book, &waits, request)
 }
@@ -114,26 +114,20 @@ pub fn append_row(book: &mut [u8], n: u16, r: Row)
         PRESENT_OFFSET + (ROWS_OFFSET + ROW_WIDTH * (n as usize)),
         &bytes,
     );
-    put_u16(book, PRESENT_OFFSET + ROW_COUNT_OFFSET, n + 1);
+    put(book, PRESENT_OFFSET + ROW_COUNT_OFFSET, n + 1);
 }
 
 // Kind 1: the row that the request proposes is pending under the next number.
-pub fn register(book: &mut [u8], request: Request) -> Outcome
+pub fn register(book: &mut [u8], request: Request) -> Result<u16, Refusal>
     requires known_book { is_sound book.old ≡ true }
     requires ready { Ready register (book_in book.old) request }
     ensures answer { result ≡ outcome_on register (book_in book.old) request }
     ensures bytes { book.new ≡ book_bytes (book_after register (book_in book.old) request) }
     ensures still { is_sound book.new ≡ true }
 {
-    if let Checked::Fails(r) = register_fault(book, request) {
-        return Outcome {
-            verdict: Verdict::Refused(r),
-        };
-    }
+    register_fault(book, request)?;
     let n = row_count(book);
     let row = proposed_row(request);
     append_row(book, n, row);
-    Outcome {
-        verdict: Verdict::Accepted { number: n + 1 },
-    }
+    Ok(n + 1)
 }

@@ -8,10 +8,10 @@ ghost use Rattle.book.specs.Kinds.{decided, outcome_on, book_after, Ready};
 
 use book::state::{phase, row_count, row_offset};
 use image::rows::STATUS_OFFSET;
-use rules::phases::REGISTRATION;
+use rules::phases::Phase;
 use rules::statuses::{PENDING, WITHDRAWN};
-use rules::{Checked, Outcome, Refusal, Request, Verdict};
-use wire::numbers::{get_u8, put_u8};
+use rules::{Refusal, Request};
+use wire::numbers::{get, put};
 
 // Whether the row that the request names is pending and its account's own.
 fn is_own_pending(book: &[u8], request: Request) -> bool
@@ -23,39 +23,33 @@ fn is_own_pending(book: &[u8], request: Request) -> bool
         return false;
     }
     let at = row_offset(request.number);
-    (get_u8(book, at + STATUS_OFFSET) == PENDING) & (get_u8(book, at) == request.account)
+    (get::<u8>(book, at + STATUS_OFFSET) == PENDING) & (get::<u8>(book, at) == request.account)
 }
 
 // What withdraw is refused for.
-fn withdrawal_fault(book: &[u8], request: Request) -> Checked
+fn withdrawal_fault(book: &[u8], request: Request) -> Result<(), Refusal>
     requires known_book { is_sound book.now ≡ true }
     requires numbered { 1 ≤ request.number }
     ensures { result ≡ checked (decided withdraw (book_in book.now) request) }
 {
-    if phase(book) != REGISTRATION {
-        return Checked::Fails(Refusal::WrongPhase);
+    if phase(book) != Phase::Registration {
+        return Err(Refusal::WrongPhase);
     }
     if is_own_pending(book, request) {
-        return Checked::Clear;
+        return Ok(());
     }
-    Checked::Fails(Refusal::NoSuchRow)
+    Err(Refusal::NoSuchRow)
 }
 
 // Kind 3: the row's status becomes withdrawn.
-pub fn withdraw(book: &mut [u8], request: Request) -> Outcome
+pub fn withdraw(book: &mut [u8], request: Request) -> Result<u16, Refusal>
     requires known_book { is_sound book.old ≡ true }
     requires ready { Ready withdraw (book_in book.old) request }
     ensures answer { result ≡ outcome_on withdraw (book_in book.old) request }
     ensures bytes { book.new ≡ book_bytes (book_after withdraw (book_in book.old) request) }
     ensures still { is_sound book.new ≡ true }
 {
-    if let Checked::Fails(r) = withdrawal_fault(book, request) {
-        return Outcome {
-            verdict: Verdict::Refused(r),
-        };
-    }
-    put_u8(book, row_offset(request.number) + STATUS_OFFSET, WITHDRAWN);
-    Outcome {
-        verdict: Verdict::Accepted { number: 0 },
-    }
+    withdrawal_fault(book, request)?;
+    put(book, row_offset(request.number) + STATUS_OFFSET, WITHDRAWN);
+    Ok(0)
 }

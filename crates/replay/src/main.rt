@@ -13,12 +13,10 @@ fn main(rt: HostRuntime) {
     let mut space = stream_buffer();
     let mut book = book_buffer();
     let mut out = line_buffer();
-    let input = read_stream(&mut rt.reader(), &mut space);
-    if input.failed {
+    let Ok(n) = read_stream(&mut rt.reader(), &mut space) else {
         complain(&rt, "replay: reading standard input failed");
         return;
-    }
-    let n = input.length;
+    };
     if !replay_day(&mut writer(&rt), &space[..n], &mut book, &mut out) {
         complain(&rt, "replay: writing standard output failed");
     }

@@ -10,7 +10,7 @@ use printing::{book_buffer, line_buffer, replay_day, stream_buffer};
 use replaying::steps::STREAM_ROOM;
 use std::io::{Read, Result, Write, writer};
 use test_lines::read_full;
-use wire::numbers::get_u32;
+use wire::numbers::get;
 
 // The bytes of a case before its stream: a tag and a length.
 const HEAD: usize = 5;
@@ -61,7 +61,7 @@ fn replay_next<R: Read, W: Write>(
     if head.len() < HEAD {
         return Ok(false);
     }
-    let size = get_u32(head, 1);
+    let size = get::<u32>(head, 1);
     read_stream(from, size, space, rest)?;
     title(to, number)?;
     let n = io::count(size as isize, space);
@@ -80,11 +80,8 @@ fn replay_all<R: Read, W: Write>(
 ) -> Result<()>
     requires { (length book.old ≡ book_size) × (step_room ≤ length out.old) }
 {
-    let mut number = 1;
-    while number <= MOST_STREAMS {
-        if replay_next(from, to, head, space, rest, book, out, number)? {
-            number = number + 1;
-        } else {
+    for number in 1..=MOST_STREAMS {
+        if !replay_next(from, to, head, space, rest, book, out, number)? {
             return Ok(());
         }
     }

@@ -1,34 +1,34 @@
 -- The answer to an item prints its lines: an accepted call settles where the item's third byte is 10, and then what it worked out stands
 -- in the two buffers, as many results as schedules and as many balances as operators.
+use Rattle.std.specs.Prelude.{Option, None, Some, is_ok}
 use Prim.Native.Nat.{ℕ, ◌≤◌, ◌<◌}
 use mathlib.Core.Path.{◌≡◌, refl, sym, ap, ◌∙◌}
 use mathlib.Core.List.{List, [], ◌∷◌, append-nil}
-use mathlib.Core.Option.{Option, none, some}
 use mathlib.Core.Bool.{Bool, true, false, ◌&&◌, or-false}
 use native.Mathlib.Omega.{arith}
-use lib.ListN.{length, get_or, length-map, get_or-eq_default}
+use lib.ListN.{length, get_or, length-map}
 use lib.Seq.{get_or-take, length-take-le}
 use lib.Dec.{eqb}
 use Rattle.wire.proofs.NumberLaws.{number_at_one}
-use Rattle.rules.specs.declared.Outcome.{Outcome}
 use Rattle.rules.specs.declared.Refusal.{Refusal}
 use Rattle.rules.specs.Basics.{Each, up_to}
-use Rattle.rules.specs.Verdicts.{Numbers, numbers}
+use Rattle.rules.specs.Verdicts.{Numbers, numbers, Verdict}
 use Rattle.rules.specs.Books.{Book, operator_count}
 use Rattle.rules.specs.Requests.{Kind, settle, kind_number}
 use Rattle.rules.specs.Settlement.{results, figures_in}
 use Rattle.rules.specs.Calls.{Call, call_kind, settles, refusal, answer, results_after, ◌one_of◌, step, worked_out, settlement}
-use Rattle.rules.specs.Lists.{is_acceptance, accepts, accepts_as}
+use Rattle.rules.specs.Lists.{accepts, accepts_as}
 use Rattle.rules.specs.Replay.{call_of, answered, answer_lines, settled_lines, line_text, text}
 use Rattle.rules.proofs.Basics.Searches.{each_map, counting-length}
 use Rattle.rules.proofs.Checks.Passed.{Passed, bytes_kind, readable}
 use Rattle.rules.proofs.Lists.CallLists.{accepts_passed}
 use Rattle.records.proofs.ReadingLaws.{kind_third}
 use Rattle.items.specs.Stream.{record_length}
-use Rattle.items.specs.Written.{Written}
+use Rattle.items.specs.declared.LineBuffer.{LineBuffer}
+use Rattle.items.specs.Puts.{Puts}
 use Rattle.items.specs.Figures.{SmallFigure, settled_text}
 use Rattle.items.proofs.StreamLaws.{record_bytes, record_within}
-use Rattle.items.proofs.WrittenLaws.{written_then}
+use Rattle.items.proofs.PutsLaws.{puts_then}
 use Rattle.items.proofs.SettledLaws.{SmallBalances, settled_text_lem, settled_small}
 use Rattle.image.specs.Valid.{valid}
 use Rattle.day.proofs.SettleLaws.{worked, balances_many, settle_writes, balances_small}
@@ -59,36 +59,28 @@ module _ (b : Book) (item : List ℕ) where
   pub settles_by_third : accepts_as step (settle ∷ []) b (call_of item) ≡ (accepts step b (call_of item) && eqb (get_or item 2 0) 10)
   settles_by_third = settles_go (accepts step b (call_of item)) refl
 
--- nothing without a third byte does
-pub short_settles_nothing : (t : Bool) (item : List ℕ) → length item ≤ 2 → false ≡ (t && eqb (get_or item 2 0) 10)
-short_settles_nothing t item h = rw (get_or-eq_default item 0 {n = 2} h) (go t)
-  where
-    go : (t : Bool) → false ≡ (t && false)
-    go true = refl
-    go false = refl
-
 -- ---- what settle worked out, and the buffers
 
 module _ (b : Book) (c : Call) where
-  others : (k : Kind) → k one_of (settle ∷ []) ≡ false → settles k b c ≡ none
+  others : (k : Kind) → k one_of (settle ∷ []) ≡ false → settles k b c ≡ None
   unfolding settles
   others k h = rw h
 
-  unsettled_go : (o : Option Refusal) → (is_acceptance (answer b c o).outcome.verdict && call_kind c one_of (settle ∷ [])) ≡ false
-      → worked_out b c o ≡ none
+  unsettled_go : (o : Option Refusal) → (is_ok (answer b c o).outcome && call_kind c one_of (settle ∷ [])) ≡ false
+      → worked_out b c o ≡ None
   unfolding answer worked_out
-  unsettled_go (some r) h = refl
-  unsettled_go none h = others (call_kind c) h
+  unsettled_go (Some r) h = refl
+  unsettled_go None h = others (call_kind c) h
 
   -- a call that is no accepted settle works out nothing
-  unsettled : accepts_as step (settle ∷ []) b c ≡ false → settlement b c ≡ none
+  unsettled : accepts_as step (settle ∷ []) b c ≡ false → settlement b c ≡ None
   unfolding step settlement
   unsettled h = unsettled_go (refusal b c) h
 
   results_go : (o : Option Refusal) → (answer b c o).results ≡ results_after (worked_out b c o) c.results
   unfolding answer worked_out
-  results_go (some r) = refl
-  results_go none = refl
+  results_go (Some r) = refl
+  results_go None = refl
 
   results_by : (step b c).results ≡ results_after (settlement b c) c.results
   unfolding step settlement
@@ -114,17 +106,16 @@ module _ (b : Book) (c : Call) where
 
 -- ---- the text of an answer, piece by piece
 
-module _ (number : ℕ) (o : Outcome) (v : Numbers) (t : Bool) (n : ℕ) (rs : List ℕ) (m : ℕ) (bs : List ℕ) {out out₁ : List ℕ} {past : ℕ} where
-  pub put_plain : t ≡ false → v ≡ numbers o
-      → Written out 0 (line_text (answered number v)) out₁ past → Written out 0 (answer_text number o t n rs m bs) out₁ past
+module _ (number : ℕ) (o : Verdict) (v : Numbers) (t : Bool) (n : ℕ) (rs : List ℕ) (m : ℕ) (bs : List ℕ) {lines lines₁ : LineBuffer} where
+  pub put_plain : t ≡ false → v ≡ numbers o → Puts lines (line_text (answered number v)) lines₁ → Puts lines (answer_text number o t n rs m bs) lines₁
   unfolding answer_text
-  put_plain e f w = rw (e, ← f) w
+  put_plain e f p = rw (e, ← f) p
 
-  pub put_settling : {out₂ : List ℕ} {end : ℕ} → t ≡ true → v ≡ numbers o
-      → Written out 0 (line_text (answered number v)) out₁ past → Written out₁ past (settled_text n rs m bs) out₂ end
-      → Written out 0 (answer_text number o t n rs m bs) out₂ end
+  pub put_settling : {lines₂ : LineBuffer} → t ≡ true → v ≡ numbers o → lines.end ≤ length lines.out.now
+      → Puts lines (line_text (answered number v)) lines₁ → Puts lines₁ (settled_text n rs m bs) lines₂
+      → Puts lines (answer_text number o t n rs m bs) lines₂
   unfolding answer_text
-  put_settling e f w x = rw (e, ← f) (written_then (omega arith) w x)
+  put_settling e f room p q = rw (e, ← f) (puts_then room p q)
 
 -- ---- an item
 
@@ -136,7 +127,7 @@ module _ (b : Book) (v : valid b ≡ true) (item : List ℕ) where
   prints_go number true e = rw (settled_prints b (call_of item) v e)
   prints_go number false e = rw (unsettled b (call_of item) e) (sym (append-nil _))
 
-  module _ {o : Outcome} {t : Bool} (outcome : o ≡ (step b (call_of item)).outcome) (flag : t ≡ (is_acceptance o.verdict && eqb (get_or item 2 0) 10)) where
+  module _ {o : Verdict} {t : Bool} (outcome : o ≡ (step b (call_of item)).outcome) (flag : t ≡ (is_ok o && eqb (get_or item 2 0) 10)) where
     -- the test of the code is whether the item settles
     flagged : accepts_as step (settle ∷ []) b (call_of item) ≡ t
     flagged = settles_by_third b item ∙ sym (flag ∙ rw outcome)

@@ -1,4 +1,5 @@
 -- The call of an item: its record and its prices are its two parts, and the buffers are zeros.
+use Rattle.rules.specs.Verdicts.{Verdict}
 use Prim.Native.Nat.{ℕ, ◌-◌, ◌*◌}
 use mathlib.Core.Path.{◌≡◌, sym, ap, ◌∙◌}
 use mathlib.Core.List.{List}
@@ -6,7 +7,6 @@ use mathlib.Core.Bool.{true}
 use native.Mathlib.Omega.{arith}
 use lib.ListN.{length, take, drop, replicate, length-drop}
 use lib.Seq.{take_all}
-use Rattle.rules.specs.declared.Outcome.{Outcome}
 use Rattle.rules.specs.Limits.{most_schedules, most_operators}
 use Rattle.rules.specs.Calls.{Call, Answer, Gives, carried, step}
 use Rattle.rules.specs.Replay.{call_of}
@@ -18,7 +18,7 @@ use Rattle.valuation.specs.Tables.{balance_width}
 use Rattle.day.proofs.AnswerLaws.{call_on_book}
 
 -- an answer is given, and the bytes are a book
-abbrev GivesBook : Answer (List ℕ) → Outcome → List ℕ → List ℕ → List ℕ → Type 0
+abbrev GivesBook : Answer (List ℕ) → Verdict → List ℕ → List ℕ → List ℕ → Type 0
 GivesBook x o t results balances = Gives x o t results balances × (is_book t ≡ true)
 
 module _ (s item : List ℕ) (h : is_book s ≡ true) where
@@ -34,7 +34,7 @@ module _ (s item : List ℕ) (h : is_book s ≡ true) where
 
   -- a call with them is the item's
   pub item_called : {n : ℕ} {results balances : List ℕ} → n ≡ record_length item → results ≡ replicate most_schedules 0
-      → balances ≡ replicate (balance_width * most_operators) 0 → {o : Outcome} {t rs bs : List ℕ}
+      → balances ≡ replicate (balance_width * most_operators) 0 → {o : Verdict} {t rs bs : List ℕ}
       → GivesBook (call_answer s (call_with (take n item) (take (length item - n) (drop n item)) results balances)) o t rs bs
       → GivesBook (carried book_bytes (step (book_in s) (call_of item))) o t rs bs
   item_called en er eb x = rw (called_as en er eb) at x

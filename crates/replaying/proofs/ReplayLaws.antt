@@ -1,9 +1,8 @@
 -- The steps of the replay, strung together, print the replay: what stands at an offset is the first of the items from there on.
-use Rattle.std.specs.Prelude.{if◌then◌else◌}
+use Rattle.std.specs.Prelude.{if◌then◌else◌, Option, None, Some}
 use Prim.Native.Nat.{ℕ, suc}
 use mathlib.Core.Path.{◌≡◌, refl, ap, ◌∙◌}
 use mathlib.Core.List.{List, [], ◌∷◌, ◌++◌}
-use mathlib.Core.Option.{Option, none, some}
 use mathlib.Core.Bool.{Bool, true, false}
 use lib.ListN.{length, drop}
 use lib.Dec.{ltb}
@@ -40,8 +39,8 @@ lines_step b n s at = rw (items_found s at) (item_go b n s (found_at s at))
 
 opened_go : (s setup : List ℕ) (end : ℕ) (r : Option Refusal) → opened_lines setup (items (drop end s)) r ≡ with_rest 1 s (open_step setup end r)
 unfolding open_step lines_from lines_on
-opened_go s setup end (some r) = refl
-opened_go s setup end none = refl
+opened_go s setup end (Some r) = refl
+opened_go s setup end None = refl
 
 first_go : (s : List ℕ) (f : Found) → day (items_of s f) ≡ with_rest 1 s (first_step s f)
 unfolding day items_of first_step lines_on

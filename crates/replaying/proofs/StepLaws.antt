@@ -1,19 +1,18 @@
 -- A step by what stands at its place, and what the code of the replay hands back for one that goes on and for one that ends.
+use Rattle.std.specs.Prelude.{Err, Ok, Option, None, Some, IsSome}
+use Rattle.std.specs.Option.{ForSome}
 use Prim.Native.Nat.{ℕ, ◌≤◌, ◌<◌}
 use mathlib.Core.Path.{◌≡◌, refl, sym, ap, ◌∙◌}
 use mathlib.Core.List.{List, [], ◌∷◌}
-use mathlib.Core.Option.{Option, none, some}
-use mathlib.Core.Bool.{Bool, true, false}
+use mathlib.Core.Bool.{true}
 use native.Mathlib.Omega.{arith}
 use lib.ListN.{length}
 use borrow.Author.Tests.{lt-ltb, le-ltb}
 use Rattle.wire.specs.Regions.{splice}
 use Rattle.wire.proofs.RegionLaws.{splice_none}
-use Rattle.rules.specs.declared.Outcome.{Outcome}
 use Rattle.rules.specs.declared.Refusal.{Refusal}
-use Rattle.rules.specs.declared.Verdict.TheVariants.{Accepted, Refused}
 use Rattle.rules.specs.Limits.{most_hours, book_size, longest_stream}
-use Rattle.rules.specs.Verdicts.{Numbers, numbers, accepted, refused, outcome_of}
+use Rattle.rules.specs.Verdicts.{Numbers, numbers, accepted, refused, outcome_of, Verdict}
 use Rattle.rules.specs.Books.{Book}
 use Rattle.rules.specs.Opening.{setup_refusal, open_outcome, opened}
 use Rattle.rules.specs.Requests.{unless_refused}
@@ -30,7 +29,7 @@ use Rattle.book.specs.Answers.{open_bytes}
 use Rattle.book.proofs.OpeningLaws.{setup_decides}
 use Rattle.replaying.specs.declared.Stepped.{Stepped}
 use Rattle.replaying.specs.Steps.{Step, ends_after, goes_on_after, item_in, open_step, first_step, beginning, item_step, step_at}
-use Rattle.replaying.specs.Lent.{step_room, next_of, stepped, book_on, printed}
+use Rattle.replaying.specs.Lent.{step_room, stepped, book_on, printed}
 
 -- ---- what the code hands back
 
@@ -44,10 +43,10 @@ module _ (lines : List Line) {out out₁ : List ℕ} {past : ℕ} (put : Written
   past_lines = omega (arith, put.behind)
 
   pub does_go_on : (book : List ℕ) {book₁ : List ℕ} {rest : Type 0} (b : Book) (at : ℕ) → book₁ ≡ book_bytes b → rest
-      → Does (goes_on_after lines b at) (record { goes_on = true; next = at; end = past }) book book₁ out out₁ rest
+      → Does (goes_on_after lines b at) (record { next = Some at; end = past }) book book₁ out out₁ rest
   does_go_on book b at e more = (rw past_lines, (e, (put.put, (room, more))))
 
-  pub does_end : {book book₁ : List ℕ} {rest : Type 0} {w : Stepped} → w ≡ record { goes_on = false; next = 0; end = past } → book₁ ≡ book → rest
+  pub does_end : {book book₁ : List ℕ} {rest : Type 0} {w : Stepped} → w ≡ record { next = None; end = past } → book₁ ≡ book → rest
       → Does (ends_after lines) w book book₁ out out₁ rest
   does_end e same more = (rw (e, past_lines), (same, (put.put, (rw e room, more))))
 
@@ -56,12 +55,12 @@ pub does_as : (book out : List ℕ) {x y : Step} {w : Stepped} {book₁ out₁ :
     → Does x w book book₁ out out₁ rest → Does y w book book₁ out out₁ rest
 does_as book out e d = rw e d
 
--- where the replay ends nothing is promised of its going on
-pub ended_not_on : {P : Type 0} {past : ℕ} {w : Stepped} → w ≡ record { goes_on = false; next = 0; end = past } → w.goes_on ≡ true → P
+-- where the replay ends nothing is promised of its going on, nor of the next item
+pub ended_not_on : {P : Type 0} {past : ℕ} {w : Stepped} → w ≡ record { next = None; end = past } → IsSome w.next → P
 ended_not_on e h = let z : ◌≡◌ {A = ℕ} 0 1 = cc in absurd (omega arith)
 
-pub ended-next : {past n : ℕ} {w : Stepped} → w ≡ record { goes_on = false; next = 0; end = past } → w.next ≤ n
-ended-next e = rw e (omega arith)
+pub ended_without : (P : ℕ → Type 0) {past : ℕ} {w : Stepped} → w ≡ record { next = None; end = past } → ForSome w.next P
+ended_without P e at h = let z : ◌≡◌ {A = ℕ} 0 1 = cc in absurd (omega arith)
 
 -- one line is the text of a step that prints only it
 pub one_line : {out out₁ : List ℕ} {past : ℕ} (l : Line) → Written out 0 (line_text l) out₁ past → Written out 0 (text (l ∷ [])) out₁ past
@@ -114,50 +113,48 @@ module _ (s : List ℕ) where
 
 -- ---- the set-up
 
-open_next_go : (setup : List ℕ) (end : ℕ) (r : Option Refusal) → next_of (open_step setup end r).onward ≤ end
-unfolding open_step
-open_next_go setup end (some r) = omega arith
-open_next_go setup end none = omega arith
-
 -- the replay goes on no further than past the set-up
-pub open_next : (setup : List ℕ) (end n : ℕ) (r : Option Refusal) {w : Stepped} → w ≡ stepped (open_step setup end r) → end ≤ n → w.next ≤ n
-open_next setup end n r e h = rw e (omega (arith, open_next_go setup end r))
+pub open_next : (setup : List ℕ) (end n : ℕ) (r : Option Refusal) {w : Stepped} → w ≡ stepped (open_step setup end r) → end ≤ n
+    → ForSome w.next (λ next. next ≤ n)
+unfolding open_step
+open_next setup end n (Some r) e h at f = let z : ◌≡◌ {A = ℕ} 0 1 = cc in absurd (omega arith)
+open_next setup end n None e h at f = let same : at ≡ end = cc in omega arith
 
-module _ (setup book : List ℕ) (size : length book ≡ book_size) (next : ℕ) {o : Outcome} {book₁ : List ℕ}
+module _ (setup book : List ℕ) (size : length book ≡ book_size) (next : ℕ) {o : Verdict} {book₁ : List ℕ}
     (answer : o ≡ open_outcome setup book) (filled : book₁ ≡ open_bytes setup book) where
   decided : (r : Option Refusal) → setup_refusal setup ≡ r → (o ≡ outcome_of r 0) × (book₁ ≡ unless_refused r book (book_bytes (opened setup)))
   unfolding open_outcome open_bytes
   decided r e = let f = setup_decides setup book size ∙ e in (answer ∙ rw f, filled ∙ rw f)
 
-  accepted_go : (n : ℕ) → o.verdict ≡ Accepted n → (r : Option Refusal) → setup_refusal setup ≡ r → setup_refusal setup ≡ none
-  accepted_go n h (some r) e =
-      let d : o.verdict ≡ Refused r = ap (λ (x : Outcome). x.verdict) (decided (some r) e).0 in let z : ◌≡◌ {A = ℕ} 0 1 = cc in absurd (omega arith)
-  accepted_go n h none e = e
+  accepted_go : (n : ℕ) → o ≡ Ok n → (r : Option Refusal) → setup_refusal setup ≡ r → setup_refusal setup ≡ None
+  accepted_go n h (Some r) e =
+      let d : o ≡ Err r = ap (λ (x : Verdict). x) (decided (Some r) e).0 in let z : ◌≡◌ {A = ℕ} 0 1 = cc in absurd (omega arith)
+  accepted_go n h None e = e
 
-  refused_go : (x : Refusal) → o.verdict ≡ Refused x → (r : Option Refusal) → setup_refusal setup ≡ r → setup_refusal setup ≡ some x
-  refused_go x h (some r) e =
-      let d : o.verdict ≡ Refused r = ap (λ (x : Outcome). x.verdict) (decided (some r) e).0 in let f : r ≡ x = cc in e ∙ ap some f
-  refused_go x h none e =
-      let d : o.verdict ≡ Accepted 0 = ap (λ (x : Outcome). x.verdict) (decided none e).0 in let z : ◌≡◌ {A = ℕ} 0 1 = cc in absurd (omega arith)
+  refused_go : (x : Refusal) → o ≡ Err x → (r : Option Refusal) → setup_refusal setup ≡ r → setup_refusal setup ≡ Some x
+  refused_go x h (Some r) e =
+      let d : o ≡ Err r = ap (λ (x : Verdict). x) (decided (Some r) e).0 in let f : r ≡ x = cc in e ∙ ap Some f
+  refused_go x h None e =
+      let d : o ≡ Ok 0 = ap (λ (x : Verdict). x) (decided None e).0 in let z : ◌≡◌ {A = ℕ} 0 1 = cc in absurd (omega arith)
 
   module _ (v : Numbers) (told : v ≡ numbers o) {out out₁ : List ℕ} {past : ℕ} (put : Written out 0 (line_text (answered 0 v)) out₁ past)
       (room : past ≤ step_room) where
     -- an accepted set-up: its line, the fresh book, and the replay goes on
-    pub does_open : {n : ℕ} → o.verdict ≡ Accepted n
-        → Does (open_step setup next (setup_refusal setup)) (record { goes_on = true; next = next; end = past }) book book₁ out out₁ (◌≡◌ {A = Bool} true true → is_book book₁ ≡ true)
+    pub does_open : {n : ℕ} → o ≡ Ok n
+        → Does (open_step setup next (setup_refusal setup)) (record { next = Some next; end = past }) book book₁ out out₁ (IsSome (Some next) → is_book book₁ ≡ true)
     unfolding open_step
     does_open {n} h =
         let e = accepted_go n h (setup_refusal setup) refl in
-        let d = decided none e in
+        let d = decided None e in
         let line = one_line (answered 0 (numbers (accepted 0))) (rw (told, d.0) at put) in
         rw e (does_go_on _ line room book (opened setup) next d.1 (λ t. rw d.1 (opened_is_book setup e most_hours book_size (omega arith))))
 
     -- a refused one: its line, the bytes as they were, and the replay ends
-    pub does_refuse : {r : Refusal} {w : Stepped} → o.verdict ≡ Refused r → w ≡ record { goes_on = false; next = 0; end = past }
-        → Does (open_step setup next (setup_refusal setup)) w book book₁ out out₁ (w.goes_on ≡ true → is_book book₁ ≡ true)
+    pub does_refuse : {r : Refusal} {w : Stepped} → o ≡ Err r → w ≡ record { next = None; end = past }
+        → Does (open_step setup next (setup_refusal setup)) w book book₁ out out₁ (IsSome w.next → is_book book₁ ≡ true)
     unfolding open_step
     does_refuse {r} h ended =
         let e = refused_go r h (setup_refusal setup) refl in
-        let d = decided (some r) e in
+        let d = decided (Some r) e in
         let line = one_line (answered 0 (numbers (refused r))) (rw (told, d.0) at put) in
         rw e (does_end _ line room ended d.1 (ended_not_on ended))

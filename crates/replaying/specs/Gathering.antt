@@ -1,7 +1,9 @@
 -- Lines that are gathered in one buffer: what each item leaves in the book and in the buffer. The lines in the buffer and the text that
 -- is still to come make the whole.
-use Rattle.std.specs.Prelude.{ℕ, zero, suc, ◌+◌, ◌-◌, ◌≤◌, ◌≡◌, List, [], ◌++◌, Bool, true, ◌&&◌, length, take, leb, if◌then◌else◌}
+use Rattle.std.specs.Prelude.{ℕ, zero, suc, ◌+◌, ◌-◌, ◌≤◌, ◌≡◌, List, [], ◌++◌, Bool, true, ◌&&◌, length, take, leb, if◌then◌else◌, is_some, Option, None, Some}
+use Rattle.std.specs.Option.{ForSome}
 use Rattle.wire.specs.Regions.{splice}
+use Rattle.rules.specs.Books.{Book}
 use Rattle.rules.specs.Replay.{text}
 use Rattle.image.specs.Valid.{is_book, book_in}
 use Rattle.replaying.specs.declared.Gathered.{Gathered}
@@ -24,7 +26,7 @@ abbrev pub on_step : Step → ℕ → ℕ → List ℕ → List ℕ → Progress
 on_step x n end book out =
     let w = stepped x in
     so_far
-    (record { goes_on = w.goes_on; next = w.next; number = n; end = end + w.end })
+    (record { next = w.next; number = n; end = end + w.end })
     (book_on x.onward book)
     (splice out end (printed x))
 
@@ -32,15 +34,20 @@ on_step x n end book out =
 unfoldable pub first_gathered : List ℕ → List ℕ → List ℕ → Progress
 first_gathered stream book out = on_step (beginning stream) 1 0 book out
 
+-- the item that begins at an offset is gathered; without an offset none is
+abbrev pub gathered_at : List ℕ → Progress → Option ℕ → Progress
+gathered_at stream p None = p
+gathered_at stream p (Some at) =
+    let g = p.gathered in
+    on_step (step_at (book_in p.book) g.number stream at) (g.number + 1) g.end p.book p.out
+
 -- the next item is gathered
 unfoldable pub item_gathered : List ℕ → Progress → Progress
-item_gathered stream p =
-    let g = p.gathered in
-    on_step (step_at (book_in p.book) g.number stream g.next) (g.number + 1) g.end p.book p.out
+item_gathered stream p = gathered_at stream p p.gathered.next
 
 -- the replay goes on, and the buffer has room for another step
 unfoldable pub takes_another : Progress → Bool
-takes_another p = p.gathered.goes_on && leb (p.gathered.end + step_room) (length p.out)
+takes_another p = is_some p.gathered.next && leb (p.gathered.end + step_room) (length p.out)
 
 -- at most so many items are gathered, while the replay goes on and the buffer has room
 unfoldable pub items_gathered : ℕ → List ℕ → Progress → Progress
@@ -54,10 +61,14 @@ all_gathered stream p = items_gathered (length stream + 2 - p.gathered.number) s
 
 -- ---- the whole text
 
+-- the text that the items from an offset on print on a book, of which the first has the number n; none without an offset
+abbrev pub text_from : Book → ℕ → List ℕ → Option ℕ → List ℕ
+text_from b n stream None = []
+text_from b n stream (Some at) = text (lines_from b n stream at)
+
 -- the text that the items from the next on print on the book; none where the replay has ended
 abbrev pub to_come : List ℕ → Progress → List ℕ
-to_come stream p =
-    let g = p.gathered in if g.goes_on then text (lines_from (book_in p.book) g.number stream g.next) else []
+to_come stream p = let g = p.gathered in text_from (book_in p.book) g.number stream g.next
 
 -- the lines in the buffer
 abbrev pub lines_in : Progress → List ℕ
@@ -72,8 +83,7 @@ whole_text stream p = lines_in p ++ to_come stream p
 pub record Underway (stream : List ℕ) (p : Progress) : Type 0 where
   pub room : p.gathered.end ≤ length p.out
   pub counted : p.gathered.number ≤ length stream + 2
-  pub onward : p.gathered.goes_on ≡ true
-      → (is_book p.book ≡ true) × (p.gathered.next ≤ length stream) × (p.gathered.number ≤ p.gathered.next + 1)
+  pub onward : ForSome p.gathered.next (λ next. (is_book p.book ≡ true) × (next ≤ length stream) × (p.gathered.number ≤ next + 1))
 
 -- from one to the other the text stays whole, and the later one is underway
 pub record Follows (stream : List ℕ) (before after : Progress) : Type 0 where

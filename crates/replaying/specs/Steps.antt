@@ -1,7 +1,6 @@
 -- The stream replayed item by item (document 01, "Replay"): what the beginning prints and what each later item prints, and with what the
 -- replay then goes on. That the steps strung together are the replay is said by the laws of proofs/ReplayLaws.antt.
-use Rattle.std.specs.Prelude.{ℕ, ◌-◌, List, [], ◌∷◌, length, take, drop, ltb, if◌then◌else◌}
-use Rattle.std.proofs.Math.Option.{Option, none, some}
+use Rattle.std.specs.Prelude.{ℕ, ◌-◌, List, [], ◌∷◌, length, take, drop, ltb, if◌then◌else◌, Option, None, Some}
 use Rattle.rules.specs.declared.Refusal.{Refusal}
 use Rattle.rules.specs.Limits.{longest_stream}
 use Rattle.rules.specs.Verdicts.{numbers, refused, accepted}
@@ -25,11 +24,11 @@ pub record Step : Type 0 where
 
 -- the replay ends after these lines
 abbrev pub ends_after : List Line → Step
-ends_after lines = record { lines = lines; onward = none }
+ends_after lines = record { lines = lines; onward = None }
 
 -- the replay goes on after these lines
 abbrev pub goes_on_after : List Line → Book → ℕ → Step
-goes_on_after lines b at = record { lines = lines; onward = some (record { book = b; at = at }) }
+goes_on_after lines b at = record { lines = lines; onward = Some (record { book = b; at = at }) }
 
 -- the bytes of an item
 abbrev pub item_in : List ℕ → ℕ → ℕ → List ℕ
@@ -39,8 +38,8 @@ item_in s from end = take (end - from) (drop from s)
 
 -- a refused set-up ends the replay after its line
 unfoldable pub open_step : List ℕ → ℕ → Option Refusal → Step
-open_step setup end (some r) = ends_after (answered 0 (numbers (refused r)) ∷ [])
-open_step setup end none = goes_on_after (answered 0 (numbers (accepted 0)) ∷ []) (opened setup) end
+open_step setup end (Some r) = ends_after (answered 0 (numbers (refused r)) ∷ [])
+open_step setup end None = goes_on_after (answered 0 (numbers (accepted 0)) ∷ []) (opened setup) end
 
 -- by what is found at the front of the stream: nothing prints nothing
 unfoldable pub first_step : List ℕ → Found → Step
@@ -73,5 +72,5 @@ lines_from b n s at = calls b n (items (drop at s))
 
 -- the same after a step
 unfoldable pub lines_on : ℕ → List ℕ → Option Onward → List Line
-lines_on n s none = []
-lines_on n s (some o) = lines_from o.book n s o.at
+lines_on n s None = []
+lines_on n s (Some o) = lines_from o.book n s o.at

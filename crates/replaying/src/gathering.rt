@@ -1,5 +1,5 @@
 // The lines of many items, gathered one after the other in one buffer.
-ghost use Rattle.std.specs.Prelude.{◌≡◌, true, ◌+◌, ◌≤◌, ◌<◌, length};
+ghost use Rattle.std.specs.Prelude.{◌≡◌, ◌+◌, ◌≤◌, ◌<◌, length, Some, IsSome};
 ghost use Rattle.rules.specs.Limits.{book_size};
 ghost use Rattle.rules.specs.Replay.{replay, text};
 ghost use Rattle.replaying.specs.Lent.{step_room};
@@ -17,16 +17,21 @@ pub fn gather_first(stream: &[u8], book: &mut [u8], out: &mut [u8]) -> Gathered
 {
     let first = begin(stream, book, out);
     Gathered {
-        goes_on: first.goes_on,
         next: first.next,
         number: 1,
         end: first.end,
     }
 }
 
-// Replays the next item, and puts its lines behind those that are gathered.
-fn gather_item(stream: &[u8], gathered: Gathered, book: &mut [u8], out: &mut [u8]) -> Gathered
-    requires going_on { (gathered.goes_on ≡ true) × (gathered.end + step_room ≤ length out.old) }
+// Replays the next item, which begins at `at`, and puts its lines behind those that are gathered.
+fn gather_item(
+    stream: &[u8],
+    at: usize,
+    gathered: Gathered,
+    book: &mut [u8],
+    out: &mut [u8],
+) -> Gathered
+    requires going_on { (gathered.next ≡ Some at) × (gathered.end + step_room ≤ length out.old) }
     requires underway { Underway stream.now (so_far gathered book.old out.old) }
     ensures left { so_far result book.new out.new ≡ item_gathered stream.now (so_far gathered book.old out.old) }
     ensures follows { Follows stream.now (so_far gathered book.old out.old) (so_far result book.new out.new) }
@@ -34,9 +39,8 @@ fn gather_item(stream: &[u8], gathered: Gathered, book: &mut [u8], out: &mut [u8
 {
     let from = gathered.end;
     let number = gathered.number;
-    let step = replay_item(stream, gathered.next, number, book, &mut out[from..]);
+    let step = replay_item(stream, at, number, book, &mut out[from..]);
     Gathered {
-        goes_on: step.goes_on,
         next: step.next,
         number: number + 1,
         end: from + step.end,
@@ -49,12 +53,15 @@ pub fn gather(stream: &[u8], gathered: Gathered, book: &mut [u8], out: &mut [u8]
     requires underway { Underway stream.now (so_far gathered book.old out.old) }
     ensures left { so_far result book.new out.new ≡ all_gathered stream.now (so_far gathered book.old out.old) }
     ensures follows { Follows stream.now (so_far gathered book.old out.old) (so_far result book.new out.new) }
-    ensures further { gathered.goes_on ≡ true → gathered.end + step_room ≤ length out.old → gathered.number < result.number }
+    ensures further { IsSome gathered.next → gathered.end + step_room ≤ length out.old → gathered.number < result.number }
 {
     let last = out.len() - STEP_ROOM;
     let mut reached = gathered;
-    while reached.goes_on & (reached.end <= last) {
-        reached = gather_item(stream, reached, book, out);
+    // No index: the items end by the state, or by the room that is left.
+    while let Some(at) = reached.next
+        && reached.end <= last
+    {
+        reached = gather_item(stream, at, reached, book, out);
     }
     reached
 }

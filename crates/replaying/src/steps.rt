@@ -1,5 +1,6 @@
 // The steps of the replay: the beginning, which opens the book, and each item after it.
-ghost use Rattle.std.specs.Prelude.{◌≡◌, true, false, ◌+◌, ◌≤◌, length};
+ghost use Rattle.std.specs.Prelude.{◌≡◌, true, ◌+◌, ◌≤◌, length, None, IsSome};
+ghost use Rattle.std.specs.Option.{ForSome};
 ghost use Rattle.wire.specs.Regions.{splice};
 ghost use Rattle.rules.specs.Limits.{book_size};
 ghost use Rattle.rules.specs.Opening.{setup_refusal};
@@ -10,12 +11,10 @@ ghost use Rattle.replaying.specs.Lent.{step_room, stepped, book_on, printed};
 use crate::Stepped;
 use crate::answers::answer_item;
 use day::interface::open;
-use items::Found;
-use items::lines::{put_answered, put_cut, put_long};
 use items::reader::next_item;
-use rules::Verdict;
+use items::{Found, LineBuffer};
+use rules::Numbers;
 use rules::limits::{MOST_OPERATORS, MOST_SCHEDULES};
-use rules::verdicts::outcome_numbers;
 
 // Bytes of the longest stream that is replayed.
 const LONGEST_STREAM: usize = 65_536;
@@ -31,13 +30,9 @@ pub const STEP_ROOM: usize = LINE_ROOM * (MOST_SCHEDULES + MOST_OPERATORS as usi
 
 // The replay ends, with lines up to `end`.
 fn ended(end: usize) -> Stepped
-    ensures { result ≡ record { goes_on = false; next = 0; end = end } }
+    ensures { result ≡ record { next = None; end = end } }
 {
-    Stepped {
-        goes_on: false,
-        next: 0,
-        end,
-    }
+    Stepped { next: None, end }
 }
 
 // Opens the book of a set-up, and puts its line. The replay goes on at `next` where the set-up is accepted.
@@ -47,48 +42,50 @@ fn open_setup(setup: &[u8], next: usize, book: &mut [u8], out: &mut [u8]) -> Ste
     ensures book { book.new ≡ book_on (open_step setup.now next (setup_refusal setup.now)).onward book.old }
     ensures out { out.new ≡ splice out.old 0 (printed (open_step setup.now next (setup_refusal setup.now))) }
     ensures bound { result.end ≤ step_room }
-    ensures opens { result.goes_on ≡ true → is_book book.new ≡ true }
+    ensures opens { IsSome result.next → is_book book.new ≡ true }
 {
-    let outcome = open(setup, book);
-    let numbers = outcome_numbers(outcome);
-    let past = put_answered(out, 0, 0, numbers);
-    let verdict = outcome.verdict;
+    let verdict = open(setup, book).verdict;
+    let mut lines = LineBuffer { out, end: 0 };
+    lines.put_answered(0, Numbers::from(verdict));
     match verdict {
-        Verdict::Accepted { number: _ } => Stepped {
-            goes_on: true,
-            next,
-            end: past,
+        Ok(_) => Stepped {
+            next: Some(next),
+            end: lines.end,
         },
-        Verdict::Refused(_) => ended(past),
+        Err(_) => ended(lines.end),
     }
 }
 
 // Begins the replay: opens the book of item 0, and puts the lines of the beginning at the front of `out`.
+#[tactic(auto, using(items::proofs::StreamLaws::found_within))]
 pub fn begin(stream: &[u8], book: &mut [u8], out: &mut [u8]) -> Stepped
     requires { (length book.old ≡ book_size) × (step_room ≤ length out.old) }
     ensures answer { result ≡ stepped (beginning stream.now) }
     ensures book { book.new ≡ book_on (beginning stream.now).onward book.old }
     ensures out { out.new ≡ splice out.old 0 (printed (beginning stream.now)) }
     ensures bound { result.end ≤ step_room }
-    ensures opens { result.goes_on ≡ true → is_book book.new ≡ true }
-    ensures onward { result.next ≤ length stream.now }
+    ensures opens { IsSome result.next → is_book book.new ≡ true }
+    ensures onward { ForSome result.next (λ next. next ≤ length stream.now) }
 {
     if LONGEST_STREAM < stream.len() {
-        let past = put_long(out, 0);
-        return ended(past);
+        let mut lines = LineBuffer { out, end: 0 };
+        lines.put_long();
+        return ended(lines.end);
     }
     let found = next_item(stream, 0);
     match found {
         Found::Whole { from, end } => open_setup(&stream[from..end], end, book, out),
         Found::Cut => {
-            let past = put_cut(out, 0, 0);
-            ended(past)
+            let mut lines = LineBuffer { out, end: 0 };
+            lines.put_cut(0);
+            ended(lines.end)
         }
         Found::End => ended(0),
     }
 }
 
 // Replays the item that begins at `at` and has that number: answers its call on the book, and puts its lines at the front of `out`.
+#[tactic(auto, using(items::proofs::StreamLaws::found_within))]
 pub fn replay_item(
     stream: &[u8],
     at: usize,
@@ -103,21 +100,21 @@ pub fn replay_item(
     ensures out { out.new ≡ splice out.old 0 (printed (step_at (book_in book.old) number stream.now at)) }
     ensures bound { result.end ≤ step_room }
     ensures still { is_book book.new ≡ true }
-    ensures onward { result.goes_on ≡ true → (at + 2 ≤ result.next) × (result.next ≤ length stream.now) }
+    ensures onward { ForSome result.next (λ next. (at + 2 ≤ next) × (next ≤ length stream.now)) }
 {
     let found = next_item(stream, at);
     match found {
         Found::Whole { from, end } => {
             let past = answer_item(&stream[from..end], number, book, out);
             Stepped {
-                goes_on: true,
-                next: end,
+                next: Some(end),
                 end: past,
             }
         }
         Found::Cut => {
-            let past = put_cut(out, 0, number);
-            ended(past)
+            let mut lines = LineBuffer { out, end: 0 };
+            lines.put_cut(number);
+            ended(lines.end)
         }
         Found::End => ended(0),
     }

@@ -1,17 +1,15 @@
 -- Asks (document 02, note 4): which asks stand in a book, the register beside an ask, and the calls between an ask and its commit.
-use Rattle.std.specs.Prelude.{ℕ, ◌≡◌, List, [], ◌∷◌, Bool, true, not, ◌&&◌, ◌||◌, set, eqb}
-use Rattle.std.proofs.Math.Option.{Option, none, some}
+use Rattle.std.specs.Prelude.{ℕ, ◌≡◌, List, [], ◌∷◌, Bool, true, not, ◌&&◌, ◌||◌, set, eqb, Option, None, Some, is_ok}
 use Rattle.rules.specs.declared.Row.{Row}
-use Rattle.rules.specs.declared.Outcome.{Outcome}
 use Rattle.rules.specs.Basics.{every, is_some, up_to}
 use Rattle.rules.specs.Limits.{most_accounts}
-use Rattle.rules.specs.Verdicts.{first_to_apply}
+use Rattle.rules.specs.Verdicts.{first_to_apply, Verdict}
 use Rattle.rules.specs.Books.{Book, ask_at}
 use Rattle.rules.specs.Requests.{register, ask, commit, kind_number, field_in, request_of}
 use Rattle.rules.specs.Registration.{proposed, register_of}
 use Rattle.rules.specs.Calls.{Call, Answer, state_checks}
 use Rattle.rules.specs.Strips.{with_bytes}
-use Rattle.rules.specs.Lists.{is_acceptance, was_accepted, was_accepted_as, runs, after, accepts_as}
+use Rattle.rules.specs.Lists.{was_accepted, was_accepted_as, runs, after, accepts_as}
 
 -- ---- the asks of a book
 
@@ -20,8 +18,8 @@ unfoldable pub would_register : Book → Row → Bool
 would_register b r = not (is_some (first_to_apply (state_checks b register (register_of r ∷ []))))
 
 abbrev pub ask_stands : Book → Option Row → Bool
-ask_stands b none = true
-ask_stands b (some r) = would_register b r
+ask_stands b None = true
+ask_stands b (Some r) = would_register b r
 
 -- register would accept every ask that stands
 unfoldable pub asks_stand : Book → Bool
@@ -40,8 +38,8 @@ as_register c = with_kind (kind_number register) c
 -- ---- what clears asks
 
 -- a call with these bytes that is answered so clears them: every accepted one but an ask
-abbrev pub clears_asks : List ℕ → Outcome → Bool
-clears_asks s o = is_acceptance o.verdict && not (eqb (field_in s 0) (kind_number ask))
+abbrev pub clears_asks : List ℕ → Verdict → Bool
+clears_asks s o = is_ok o && not (eqb (field_in s 0) (kind_number ask))
 
 -- ---- an ask and its commit, with the calls between them
 

@@ -1,12 +1,13 @@
 -- The plain book (document 01, "Opening"; document 02, note 4): set-up, phase, rows, schedules, while a batch is open the part saved at
 -- its opening, and the asks that stand.
 -- It holds no sums: net positions and exposures are functions of the rows.
-use Rattle.std.specs.Prelude.{ℕ, List, [], length, replicate}
-use Rattle.std.proofs.Math.Option.{Option, none}
+use Rattle.std.specs.Prelude.{ℕ, List, [], length, replicate, Option, None}
 use Rattle.units.specs.declared.Kwh.{Kwh}
 use Rattle.units.specs.declared.Cents.{Cents}
 use Rattle.units.specs.declared.CentsPerMwh.{CentsPerMwh}
 use Rattle.units.specs.Units.{kwh, cents, cents_per_mwh}
+use Rattle.rules.specs.declared.phases.Phase.{Phase}
+use Rattle.rules.specs.declared.phases.Phase.TheVariants.{Registration, Schedules, Settled}
 use Rattle.rules.specs.declared.Counts.{Counts}
 use Rattle.rules.specs.declared.Margins.{Margins}
 use Rattle.rules.specs.declared.Point.{Point}
@@ -60,6 +61,11 @@ schedules_phase = 2
 
 abbrev pub settled_phase : ℕ
 settled_phase = 3
+
+abbrev pub phase_number : Phase → ℕ
+phase_number Registration = registration_phase
+phase_number Schedules = schedules_phase
+phase_number Settled = settled_phase
 
 -- ---- the book
 
@@ -171,11 +177,11 @@ guarantee_at gs o = nth gs o (cents 0)
 
 -- the ask that stands for an account, if any
 abbrev pub ask_at : Book → ℕ → Option Row
-ask_at b a = nth b.asks a none
+ask_at b a = nth b.asks a None
 
 -- no ask stands
 abbrev pub no_asks : List (Option Row)
-no_asks = replicate most_accounts none
+no_asks = replicate most_accounts None
 
 -- how many there are
 abbrev pub operator_count : Setup → ℕ

@@ -1,18 +1,16 @@
 -- The calls (document 01, "Registration", "Schedules and settlement", "Verdicts"; document 02, notes 3 and 4): what each is refused
 -- for, in rank, and what an accepted one gives and makes of the book and of the buffers that it was lent.
-use Rattle.std.specs.Prelude.{ℕ, suc, ◌-◌, ◌*◌, ◌≡◌, List, [], ◌∷◌, ◌++◌, map, Bool, true, false, not, ◌&&◌, ◌||◌, length, eqb, leb, ltb, if◌then◌else◌}
-use Rattle.std.proofs.Math.Option.{Option, none, some}
+use Rattle.std.specs.Prelude.{ℕ, suc, ◌-◌, ◌*◌, ◌≡◌, List, [], ◌∷◌, ◌++◌, map, Bool, true, false, not, ◌&&◌, ◌||◌, length, eqb, leb, ltb, if◌then◌else◌, Option, None, Some}
 use Rattle.units.specs.declared.Cents.{Cents}
 use Rattle.rules.specs.declared.Row.{Row}
 use Rattle.rules.specs.declared.Schedule.{Schedule}
 use Rattle.rules.specs.declared.Balance.{Balance}
 use Rattle.rules.specs.declared.Request.{Request}
-use Rattle.rules.specs.declared.Outcome.{Outcome}
 use Rattle.rules.specs.declared.Refusal.{Refusal}
 use Rattle.rules.specs.declared.Refusal.TheVariants.{WrongLength, OutOfRange, SameAccount, BufferShort, WrongPhase, BatchOpen, NoBatch, AlreadyPending, RowsFull, NoSuchRow, NotMirrored, MarginBroken, Uncovered, SchedulesFull, StripTwins, NoStandingAsk}
 use Rattle.rules.specs.Basics.{any_passes, is_some, nth, put}
 use Rattle.rules.specs.Limits.{most_price, most_schedules}
-use Rattle.rules.specs.Verdicts.{Check, ◌⇒◌, ◌⇒↑◌, first_to_apply, accepted, refused}
+use Rattle.rules.specs.Verdicts.{Check, ◌⇒◌, ◌⇒↑◌, first_to_apply, accepted, refused, Verdict}
 use Rattle.rules.specs.Books.{Setup, Part, Book, with_phase, with_part, with_schedules, with_saved, with_asks, with_guarantees, with_rows, no_row, ask_at, no_asks, operator_of, operator_count, counts_of, confirmed_status, withdrawn_status, registration_phase, schedules_phase, settled_phase}
 use Rattle.rules.specs.Requests.{Kind, register, confirm, withdraw, guarantee, open_batch, undo, keep, close_gate, schedule, settle, strip, ask, commit, kind_number, kind_of, field_in, is_strip, read_checks, strip_checks, requests_of, first_of, faulty_bit_among, same_accounts, filled, unless_refused}
 use Rattle.rules.specs.Registration.{proposed, stands_with, has_twin, twins, rows_pass, confirms, withdraws, mirrors, mark, closed, broken_hour, covered, net_of}
@@ -61,8 +59,8 @@ pub data Change : Type 0 where
 
 -- the number of the row that confirm names, or 0
 abbrev pub number_from : Option ℕ → ℕ
-number_from none = 0
-number_from (some i) = suc i
+number_from None = 0
+number_from (Some i) = suc i
 
 abbrev pub confirmed_number : Book → Request → ℕ
 confirmed_number b q = number_from (confirms b.part.rows q)
@@ -88,21 +86,21 @@ change commit b qs = add_rows (map proposed qs)
 
 -- the part as it was saved
 abbrev pub restored : Option Part → Part → Part
-restored none part = part
-restored (some saved) part = saved
+restored None part = part
+restored (Some saved) part = saved
 
 -- the book after a change
 unfoldable pub apply : Change → Book → Book
 apply (add_rows rows) b = with_rows b (b.part.rows ++ rows)
 apply (set_status number status) b = with_rows b (mark number status b.part.rows)
 apply (set_guarantee o g) b = with_guarantees b (put b.part.guarantees o g)
-apply save_part b = with_saved b (some b.part)
-apply restore_part b = with_saved (with_part b (restored b.saved b.part)) none
-apply drop_saved b = with_saved b none
+apply save_part b = with_saved b (Some b.part)
+apply restore_part b = with_saved (with_part b (restored b.saved b.part)) None
+apply drop_saved b = with_saved b None
 apply shut_gate b = with_phase (with_rows b (closed b.part.rows)) schedules_phase
 apply (add_schedule x) b = with_schedules b (b.schedules ++ x ∷ [])
 apply end_day b = with_phase b settled_phase
-apply (stand_ask r) b = with_asks b (put b.asks r.proposer (some r))
+apply (stand_ask r) b = with_asks b (put b.asks r.proposer (Some r))
 
 -- the book with the change that a kind makes, before any asks are cleared
 abbrev pub changed : Kind → Book → List Request → Book
@@ -146,7 +144,7 @@ checked_as k = if k one_of (ask ∷ []) then register else k
 -- what was found, where the test holds
 abbrev pub when : Bool → Option ℕ → Option ℕ
 when true found = found
-when false found = none
+when false found = None
 
 -- what its bytes are refused for themselves: 2 to 5; of a strip also 21, and 2 to 4 of its rows
 abbrev pub bytes_checks : List ℕ → List Check
@@ -216,11 +214,11 @@ drawn_up b c =
 
 -- no other kind works anything out
 unfoldable pub settles : Kind → Book → Call → Option Settled
-settles k b c = if k one_of (settle ∷ []) then some (drawn_up b c) else none
+settles k b c = if k one_of (settle ∷ []) then Some (drawn_up b c) else None
 
 -- what a call answers on a book of any form: the outcome, and the book and the two output buffers as the call leaves them
 pub record Answer (B : Type 0) : Type 0 where
-  pub outcome : Outcome
+  pub outcome : Verdict
   pub book : B
   pub results : List ℕ
   pub balances : List ℕ
@@ -230,7 +228,7 @@ abbrev pub carried : {A B : Type 0} → (A → B) → Answer A → Answer B
 carried form x = record { outcome = x.outcome; book = form x.book; results = x.results; balances = x.balances }
 
 -- a function that answers in bytes gives this answer: the outcome, and what it leaves of the book and of the two buffers
-pub record Gives (a : Answer (List ℕ)) (o : Outcome) (book results balances : List ℕ) : Type 0 where
+pub record Gives (a : Answer (List ℕ)) (o : Verdict) (book results balances : List ℕ) : Type 0 where
   pub outcome_given : o ≡ a.outcome
   pub book_left : book ≡ a.book
   pub results_left : results ≡ a.results
@@ -242,17 +240,17 @@ refused_on r b c = record { outcome = refused r; book = b; results = c.results; 
 
 -- results and balances fill the first places of their buffers, the rest is unchanged
 abbrev pub results_after : Option Settled → List ℕ → List ℕ
-results_after none buffer = buffer
-results_after (some w) buffer = filled w.results buffer
+results_after None buffer = buffer
+results_after (Some w) buffer = filled w.results buffer
 
 abbrev pub balances_after : Option Settled → List ℕ → List ℕ
-balances_after none buffer = buffer
-balances_after (some w) buffer = filled (balance_bytes w.balances) buffer
+balances_after None buffer = buffer
+balances_after (Some w) buffer = filled (balance_bytes w.balances) buffer
 
 -- the answer, by what the call is refused for
 unfoldable pub answer : Book → Call → Option Refusal → Answer Book
-answer b c (some r) = refused_on r b c
-answer b c none =
+answer b c (Some r) = refused_on r b c
+answer b c None =
     let w = settles (call_kind c) b c in
     record {
       outcome = accepted (given (call_kind c) b (call_requests c));
@@ -277,8 +275,8 @@ uncleared b c =
 
 -- what the call works out, by what it is refused for
 unfoldable pub worked_out : Book → Call → Option Refusal → Option Settled
-worked_out b c (some r) = none
-worked_out b c none = settles (call_kind c) b c
+worked_out b c (Some r) = None
+worked_out b c None = settles (call_kind c) b c
 
 -- what an accepted settle worked out; any other call works out nothing
 unfoldable pub settlement : Book → Call → Option Settled

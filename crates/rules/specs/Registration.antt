@@ -1,8 +1,7 @@
 -- Registration (document 01, "Registration"): rows, what an account holds in an hour, margins, exposure and what is available.
 -- Sums are natural numbers: a net position is what was bought and what was sold, each by itself.
-use Rattle.std.specs.Prelude.{ℕ, ◌+◌, ◌-◌, ◌*◌, Bool, false, not, ◌&&◌, ◌||◌, length, eqb, leb, ℤ, pos, ◌+ℤ◌, ◌-ℤ◌, if◌then◌else◌}
+use Rattle.std.specs.Prelude.{ℕ, ◌+◌, ◌-◌, ◌*◌, Bool, false, not, ◌&&◌, ◌||◌, length, eqb, leb, ℤ, pos, ◌+ℤ◌, ◌-ℤ◌, if◌then◌else◌, Option, None, Some}
 use mathlib.Core.List.{List, [], ◌∷◌, map, flat_map}
-use Rattle.std.proofs.Math.Option.{Option, none, some}
 use Rattle.std.proofs.Math.IntN.{sub_ℕ}
 use Rattle.units.specs.declared.CentsPerMwh.{CentsPerMwh}
 use Rattle.units.specs.Units.{kwh, cents, cents_per_mwh}
@@ -104,8 +103,8 @@ same_terms x y =
 
 -- an ask stands, with the terms of the row
 abbrev pub stands_with : Row → Option Row → Bool
-stands_with r none = false
-stands_with r (some x) = same_terms x r
+stands_with r None = false
+stands_with r (Some x) = same_terms x r
 
 -- a pending row with this proposer, counterparty and code
 unfoldable pub alike : ℕ → ℕ → ℕ → Row → Bool

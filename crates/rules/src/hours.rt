@@ -51,8 +51,8 @@ fn moved_net(net: Net, trade: Row, account: u8, hour: u8) -> Net
     let bought = moved(trade, buyer, account, hour);
     let sold = moved(trade, seller, account, hour);
     Net {
-        bought: net.bought.plus(bought),
-        sold: net.sold.plus(sold),
+        bought: net.bought + bought,
+        sold: net.sold + sold,
     }
 }
 
@@ -67,8 +67,8 @@ impl AccountHour {
         let purchases = waiting(trade, account, hour, BUYS);
         AccountHour {
             net,
-            sales: self.sales.plus(sales),
-            purchases: self.purchases.plus(purchases),
+            sales: self.sales + sales,
+            purchases: self.purchases + purchases,
         }
     }
 }

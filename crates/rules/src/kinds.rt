@@ -1,4 +1,5 @@
-// The kinds of request by their numbers, as `kind_number` of specs/Requests.antt has them.
+// The kinds of request by their numbers, as `kind_number` of specs/Requests.antt has them. Numbers, since a request may name one that is no kind
+// (`records::writer::write` refuses it), and since the kind decides by a `match` on its number.
 pub const REGISTER: u8 = 1;
 
 pub const CONFIRM: u8 = 2;

@@ -49,7 +49,7 @@ pub struct Point {
 }
 
 // A row, in the order in which it reads out. Side: 1 the proposer sells, 2 it buys. Status: 1 pending, 2 confirmed, 3 withdrawn.
-#[derive(Clone, Copy)]
+#[derive(Clone, Copy, PartialEq, Eq)]
 pub struct Row {
     pub proposer: u8,
     pub counterparty: u8,
@@ -163,24 +163,10 @@ pub enum Refusal {
     NoStandingAsk,
 }
 
-// What a row of checks comes to: nothing applies, or a refusal does.
-#[derive(Clone, Copy)]
-pub enum Checked {
-    Clear,
-    Fails(Refusal),
-}
-
-// Accepted with a number, or refused.
-#[derive(Clone, Copy)]
-pub enum Verdict {
-    Accepted { number: u16 },
-    Refused(Refusal),
-}
-
-// The answer of a call.
+// The answer of a call: accepted with a number, or refused with what goes with the refusal.
 #[derive(Clone, Copy)]
 pub struct Outcome {
-    pub verdict: Verdict,
+    pub verdict: Result<u16, Refusal>,
 }
 
 // A verdict's number and its two details, as the paper counts them. Details not named are 0.
@@ -189,25 +175,4 @@ pub struct Numbers {
     pub number: u8,
     pub first: u16,
     pub second: u16,
-}
-
-// What a record reads as.
-#[derive(Clone, Copy)]
-pub enum Reading {
-    Read(Request),
-    Unread(Refusal),
-}
-
-// The reading of a net position.
-#[derive(Clone, Copy)]
-pub enum NetReading {
-    Read(Position),
-    Unread(Refusal),
-}
-
-// The reading of an exposure.
-#[derive(Clone, Copy)]
-pub enum ExposureReading {
-    Read(MilliCents),
-    Unread(Refusal),
 }

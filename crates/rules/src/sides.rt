@@ -1,4 +1,4 @@
-// Sides, as specs/Books.antt numbers them.
+// Sides, as specs/Books.antt numbers them. Numbers, since rows, schedules and requests are read from any bytes, and tested after.
 
 // Of a row: what its proposer does.
 pub const SELLS: u8 = 1;

@@ -1,8 +1,8 @@
 -- A schedule handed in: its 11 bytes with the count are all that is written, and they make the image of the next book.
+use Rattle.std.specs.Prelude.{None}
 use Prim.Native.Nat.{ℕ, ◌+◌, ◌*◌}
 use mathlib.Core.Path.{◌≡◌, refl, ap, ◌∙◌}
 use mathlib.Core.List.{List, [], ◌∷◌}
-use mathlib.Core.Option.{none}
 use mathlib.Core.Bool.{true}
 use native.Mathlib.Omega.{arith}
 use lib.ListN.{length}
@@ -25,7 +25,7 @@ use Rattle.settlement.proofs.Decisions.{few_schedules}
 
 -- what an accepted schedule writes
 pub scheduled_answered : (s t : List ℕ) (h : is_sound s ≡ true) (q : Request) (n : ℕ) → Ready schedule (book_in s) q
-    → decided schedule (book_in s) q ≡ none → n ≡ length (book_in s).schedules
+    → decided schedule (book_in s) q ≡ None → n ≡ length (book_in s).schedules
     → t ≡ schedule_appended s n (scheduled q)
     → Answered schedule s q (accepted (n + 1)) t
 unfolding given

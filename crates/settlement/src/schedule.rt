@@ -13,9 +13,9 @@ use book::state::{phase, schedule_count};
 use image::layout::{SCHEDULE_COUNT_OFFSET, SCHEDULE_WIDTH, SCHEDULES_OFFSET};
 use image::schedules::schedule_bytes;
 use rules::limits::MOST_SCHEDULES;
-use rules::phases::SCHEDULES;
-use rules::{Checked, Outcome, Refusal, Request, Schedule, Verdict};
-use wire::numbers::put_u16;
+use rules::phases::Phase;
+use rules::{Refusal, Request, Schedule};
+use wire::numbers::put;
 use wire::regions::copy_in;
 
 // The schedule that the request hands in.
@@ -35,17 +35,17 @@ fn handed_in(request: Request) -> Schedule
 
 // What schedule is refused for.
 #[tactic(auto, using(crate::proofs::Decisions::places_full))]
-fn schedule_fault(book: &[u8]) -> Checked
+fn schedule_fault(book: &[u8]) -> Result<(), Refusal>
     requires { is_sound book.now ≡ true }
     ensures { (q : Request) → result ≡ checked (decided schedule (book_in book.now) q) }
 {
-    if phase(book) != SCHEDULES {
-        return Checked::Fails(Refusal::WrongPhase);
+    if phase(book) != Phase::Schedules {
+        return Err(Refusal::WrongPhase);
     }
     if MOST_SCHEDULES <= schedule_count(book) as usize {
-        return Checked::Fails(Refusal::SchedulesFull);
+        return Err(Refusal::SchedulesFull);
     }
-    Checked::Clear
+    Ok(())
 }
 
 // Puts a schedule after the `n` that there are, and counts it.
@@ -59,26 +59,20 @@ fn append_schedule(book: &mut [u8], n: u16, x: Schedule)
         SCHEDULES_OFFSET + SCHEDULE_WIDTH * (n as usize),
         &bytes,
     );
-    put_u16(book, SCHEDULE_COUNT_OFFSET, n + 1);
+    put(book, SCHEDULE_COUNT_OFFSET, n + 1);
 }
 
 // Kind 9: the schedule that the request hands in gets the next place.
-pub fn schedule(book: &mut [u8], request: Request) -> Outcome
+pub fn schedule(book: &mut [u8], request: Request) -> Result<u16, Refusal>
     requires known_book { is_sound book.old ≡ true }
     requires ready { Ready schedule (book_in book.old) request }
     ensures answer { result ≡ outcome_on schedule (book_in book.old) request }
     ensures bytes { book.new ≡ book_bytes (book_after schedule (book_in book.old) request) }
     ensures still { is_sound book.new ≡ true }
 {
-    if let Checked::Fails(r) = schedule_fault(book) {
-        return Outcome {
-            verdict: Verdict::Refused(r),
-        };
-    }
+    schedule_fault(book)?;
     let n = schedule_count(book);
     let x = handed_in(request);
     append_schedule(book, n, x);
-    Outcome {
-        verdict: Verdict::Accepted { number: n + 1 },
-    }
+    Ok(n + 1)
 }

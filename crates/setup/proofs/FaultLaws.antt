@@ -1,8 +1,8 @@
 -- A row of values is judged in parts: the first part that fails decides. So a loop over entries may stop there, and goes on otherwise.
-use Prim.Native.Nat.{ℕ, ◌+◌, ◌*◌, ◌≤◌}
-use mathlib.Core.Path.{◌≡◌, refl, sym, ◌∙◌}
-use mathlib.Core.List.{List, [], ◌∷◌, ◌++◌}
-use mathlib.Core.Option.{map}
+use Rattle.std.specs.Prelude.{Err, Ok, option_map}
+use Prim.Native.Nat.{ℕ, ◌+◌, ◌-◌, ◌*◌, ◌≤◌}
+use mathlib.Core.Path.{◌≡◌, refl, sym, ◌∙◌, ap}
+use mathlib.Core.List.{List, [], ◌∷◌, ◌++◌, append_assoc}
 use mathlib.Core.Bool.{Bool, true, false, not, ◌&&◌, and_assoc, and-true}
 use native.Mathlib.Omega.{arith}
 use lib.ListN.{length, take, drop, length-map}
@@ -10,37 +10,32 @@ use lib.Dec.{leb}
 use Rattle.wire.specs.Numbers.{number_at}
 use Rattle.units.specs.declared.Kwh.{Kwh}
 use Rattle.rules.specs.declared.Counts.{Counts}
-use Rattle.rules.specs.declared.Checked.{Checked}
-use Rattle.rules.specs.declared.Checked.TheVariants.{Clear, Fails}
 use Rattle.rules.specs.declared.Refusal.{Refusal}
 use Rattle.rules.specs.declared.Refusal.TheVariants.{SetupShape, SetupValue}
 use Rattle.rules.specs.Basics.{every, find, entries, within}
 use Rattle.rules.specs.Limits.{most_energy}
 use Rattle.rules.specs.Books.{injection_kind, withdrawal_kind}
-use Rattle.rules.specs.Verdicts.{◌⇒↑◌, first_to_apply, checked}
-use Rattle.rules.specs.Opening.{counts_in, Value, values_of, margin_values, account_values, values, margin_in, account_in, lower_offset, upper_offset, margin_width, account_entry, misshapen, faulty_offset, setup_of, setup_refusal, operators_in}
+use Rattle.rules.specs.Verdicts.{◌⇒↑◌, first_to_apply, checked, Checked}
+use Rattle.rules.specs.Opening.{counts_in, Value, values_of, estimate_values, operator_values, point_values, margin_values, account_values, values, margin_in, account_in, lower_offset, upper_offset, price_width, operator_entry, margin_width, account_entry, point_entry, estimates_offset, operators_offset, accounts_offset, points_offset, account_offset, estimates_in, accounts_in, points_in, misshapen, faulty_offset, setup_of, setup_refusal, operators_in}
 use Rattle.rules.proofs.Basics.Products.{one_more}
 use Rattle.rules.proofs.Setups.SetupShape.{shape_of, shape_length}
 use Rattle.rules.proofs.Setups.SetupEntries.{length_operators, length_accounts, length_points, account_at, values_done, values_step, values_split}
-use Rattle.setup.specs.Faults.{or_else, or_fault, first_fault_from, first_fault, estimate_faults, operator_faults, margins_from, margins_fine, margin_faults, account_faults, point_faults, Shaped}
+use Rattle.setup.specs.Faults.{or_fault, first_fault_from, first_fault, margins_from, margins_fine, margin_faults, Shaped}
 
 -- ---- one value
 
-pub in_range_lem : (found : Checked) (at : ℕ) {fine : Bool} → fine ≡ true → found ≡ or_fault found (at, fine)
-unfolding or_fault
-in_range_lem Clear at e = rw e
-in_range_lem (Fails r) at e = refl
+pub in_range_lem : (at : ℕ) {fine : Bool} → fine ≡ true → Ok tt ≡ first_fault ((at, fine) ∷ [])
+unfolding first_fault_from or_fault
+in_range_lem at e = rw e refl
 
-pub out_of_range : (found : Checked) (at : ℕ) {fine : Bool} {r : Checked} → fine ≡ false → r ≡ or_else found (Fails (SetupValue at))
-    → r ≡ or_fault found (at, fine)
-unfolding or_fault or_else
-out_of_range Clear at e h = rw e h
-out_of_range (Fails r) at e h = h
+pub out_of_range : (at : ℕ) {fine : Bool} → fine ≡ false → Err (SetupValue at) ≡ first_fault ((at, fine) ∷ [])
+unfolding first_fault_from or_fault
+out_of_range at e = rw e refl
 
 -- ---- in parts
 
 -- what failed stays
-pub judged_fails : (r : Refusal) (vs : List Value) → first_fault_from (Fails r) vs ≡ Fails r
+pub judged_fails : (r : Refusal) (vs : List Value) → first_fault_from (Err r) vs ≡ Err r
 unfolding first_fault_from or_fault
 judged_fails r [] = refl
 judged_fails r (v ∷ vs) = judged_fails r vs
@@ -50,13 +45,14 @@ unfolding first_fault_from
 judged_append_from found [] ws = refl
 judged_append_from found (v ∷ vs) ws = judged_append_from (or_fault found v) vs ws
 
-pub judged_from : (found : Checked) (vs : List Value) → first_fault_from found vs ≡ or_else found (first_fault vs)
-unfolding or_else
-judged_from Clear vs = refl
-judged_from (Fails r) vs = judged_fails r vs
+-- where the first part has no fault, the second decides; where it has one, that does
+module _ (vs ws : List Value) {f : Checked} (judgement : f ≡ first_fault vs) where
+  pub part_clear : f ≡ Ok tt → first_fault (vs ++ ws) ≡ first_fault ws
+  part_clear c = judged_append_from (Ok tt) vs ws ∙ ap (λ found. first_fault_from found ws) (sym judgement ∙ c)
 
-pub judged_append : (vs ws : List Value) → first_fault (vs ++ ws) ≡ or_else (first_fault vs) (first_fault ws)
-judged_append vs ws = judged_append_from Clear vs ws ∙ judged_from (first_fault vs) ws
+  pub part_fails : {r : Refusal} → f ≡ Err r → Err r ≡ first_fault (vs ++ ws)
+  part_fails {r} c =
+      sym (judged_append_from (Ok tt) vs ws ∙ ap (λ found. first_fault_from found ws) (sym judgement ∙ c) ∙ judged_fails r ws)
 
 -- ---- a loop over entries
 
@@ -65,28 +61,30 @@ pub record EntriesLeft {A : Type 0} (w : ℕ) (read : List ℕ → A) (say : ℕ
   pub inside : at + w * n ≤ length s
   pub come_to : first_fault (values_of w say at (entries w read n (drop at s))) ≡ all
 
+-- all are left before the first
+pub all_left : {A : Type 0} {w : ℕ} {read : List ℕ → A} {say : ℕ → A → List Value} {s : List ℕ} {all : Checked} (at n : ℕ) {place k : ℕ}
+    → place ≡ at → k ≡ n → at + w * n ≤ length s → first_fault (values_of w say at (entries w read n (drop at s))) ≡ all
+    → EntriesLeft w read say s all place k
+all_left at n p e inside come_to = rw (p, e) record { inside = inside; come_to = come_to }
+
 module _ {A : Type 0} {w : ℕ} {read : List ℕ → A} {say : ℕ → A → List Value} {s : List ℕ} {all : Checked} {at n : ℕ} (left : EntriesLeft w read say s all at n)
   where
     -- none is left
-    pub none_left : n ≤ 0 → Clear ≡ all
+    pub none_left : n ≤ 0 → (Ok tt) ≡ all
     unfolding first_fault_from
     none_left h = rw (values_done w read say at n (drop at s) h) at left.come_to
 
-    -- the first that is left lies inside the bytes
-    pub first_inside : (m : ℕ) → n ≡ m + 1 → at + w ≤ length s
-    first_inside m e = omega (arith, left.inside, one_more w n m e)
-
     module _ (m : ℕ) {x : A} {f : Checked} (e : n ≡ m + 1) (found : x ≡ read (take w (drop at s))) (judgement : f ≡ first_fault (say at x)) where
       -- it has no fault, and the others are left
-      pub first_clear : f ≡ Clear → EntriesLeft w read say s all (at + w) m
-      first_clear c =
-          record {
+      pub first_clear : {place k : ℕ} → place ≡ at + w → k ≡ m → f ≡ Ok tt → EntriesLeft w read say s all place k
+      first_clear p q c =
+          rw (p, q) record {
             inside = omega (arith, left.inside, one_more w n m e);
             come_to = rw (values_step w read say at n m s e, judged_append_from, ← found, ← judgement, c) at left.come_to;
           }
 
       -- it has a fault, and that decides
-      pub first_fails : {r : Refusal} → f ≡ Fails r → Fails r ≡ all
+      pub first_fails : {r : Refusal} → f ≡ Err r → Err r ≡ all
       first_fails {r} c =
           sym (judged_fails r _) ∙ (rw (values_step w read say at n m s e, judged_append_from, ← found, ← judgement, c) at left.come_to)
 
@@ -94,16 +92,20 @@ module _ {A : Type 0} {w : ℕ} {read : List ℕ → A} {say : ℕ → A → Lis
 pub at_counts : (F : Counts → ℕ → Checked) (from : Counts → ℕ) {n k : Counts} {at : ℕ} → n ≡ k → at ≡ from n → F n at ≡ F k (from k)
 at_counts F from e a = rw (a, e)
 
+-- the entry of an account ends where that of the next one begins
+pub next_account : (n : Counts) (a : ℕ) → 1 ≤ a → account_offset n (a + 1) ≡ account_offset n a + account_entry n
+next_account n a h = omega (arith, one_more (account_entry n) (a + 1 - 1) (a - 1) (omega arith))
+
 -- ---- margins side by side
 
 -- where all values are in range none is at fault
-clear_where_fine : (vs : List Value) → every (λ v. v.1) vs ≡ true → first_fault vs ≡ Clear
+clear_where_fine : (vs : List Value) → every (λ v. v.1) vs ≡ true → first_fault vs ≡ (Ok tt)
 unfolding every first_fault_from or_fault
 clear_where_fine [] h = refl
 clear_where_fine ((at, true) ∷ vs) h = clear_where_fine vs h
 clear_where_fine ((at, false) ∷ vs) h = cc
 
-pub no_margin_fault : (s : List ℕ) (from count : ℕ) {fine : Bool} → fine ≡ margins_fine s from count → fine ≡ true → Clear ≡ margin_faults s from count
+pub no_margin_fault : (s : List ℕ) (from count : ℕ) {fine : Bool} → fine ≡ margins_fine s from count → fine ≡ true → (Ok tt) ≡ margin_faults s from count
 unfolding margins_fine margin_faults
 no_margin_fault s from count e t = sym (clear_where_fine (margins_from s from count) (sym e ∙ t))
 
@@ -113,9 +115,6 @@ pub record MarginsLeft (s : List ℕ) (all fine : Bool) (at n : ℕ) : Type 0 wh
   pub come_to : (fine && margins_fine s at n) ≡ all
 
 module _ (s : List ℕ) (all : Bool) where
-  pub all_margins_left : (at n : ℕ) → at + margin_width * n ≤ length s → margins_fine s at n ≡ all → MarginsLeft s all true at n
-  all_margins_left at n inside e = record { inside = inside; come_to = e }
-
   pub no_margins_left : {fine : Bool} {at n : ℕ} → MarginsLeft s all fine at n → n ≤ 0 → fine ≡ all
   unfolding margins_fine every
   no_margins_left {fine} {at} {n} left h =
@@ -123,10 +122,11 @@ module _ (s : List ℕ) (all : Bool) where
 
   -- the first of them was tested
   pub margin_tested : {fine : Bool} {at n : ℕ} (m : ℕ) {x : Kwh} → MarginsLeft s all fine at n → n ≡ m + 1
-      → x ≡ margin_in (take margin_width (drop at s)) → MarginsLeft s all (fine && leb x.0 most_energy) (at + margin_width) m
+      → x ≡ margin_in (take margin_width (drop at s)) → {place k : ℕ} → place ≡ at + margin_width → k ≡ m
+      → MarginsLeft s all (fine && leb x.0 most_energy) place k
   unfolding margins_fine every margin_values
-  margin_tested {fine} {at = at} {n} m {x} left e found =
-      record {
+  margin_tested {fine} {at = at} {n} m {x} left e found p q =
+      rw (p, q) record {
         inside = omega (arith, left.inside);
         come_to =
             and_assoc fine (leb x.0 most_energy) (margins_fine s (at + margin_width) m)
@@ -137,22 +137,21 @@ module _ (s : List ℕ) (all : Bool) where
 
 -- its operator, its kind, and then its margins side by side, the upper ones past the lower ones
 pub account_judged : (s : List ℕ) (n : Counts) (at : ℕ)
-    → first_fault (account_values n at (account_in n (take (account_entry n) (drop at s))))
-    ≡ or_else
-    (or_fault (or_fault Clear (at, within 1 (number_at s at 1) n.operators)) (at + 1, within injection_kind (number_at s (at + 1) 1) withdrawal_kind))
-    (margin_faults s (at + lower_offset) (2 * n.hours))
-unfolding account_values first_fault_from margin_faults
+    → account_values n at (account_in n (take (account_entry n) (drop at s)))
+    ≡ (at, within 1 (number_at s at 1) n.operators)
+    ∷ (at + 1, within injection_kind (number_at s (at + 1) 1) withdrawal_kind)
+    ∷ margins_from s (at + lower_offset) (2 * n.hours)
+unfolding account_values
 account_judged s n at =
     let past : at + upper_offset n ≡ at + lower_offset + margin_width * n.hours = omega arith in
     let both : n.hours + n.hours ≡ 2 * n.hours = omega arith in
-    rw (account_at s at n, past, values_split margin_width margin_in margin_values (at + lower_offset) n.hours n.hours s, both)
-    (judged_from _ (values_of margin_width margin_values (at + lower_offset) (entries margin_width margin_in (2 * n.hours) (drop (at + lower_offset) s))))
+    rw (account_at s at n, past, values_split margin_width margin_in margin_values (at + lower_offset) n.hours n.hours s, both) refl
 
 -- ---- what a set-up is refused for
 
 -- the first value that is out of range, as `rules` finds it
 pub judged_is_found : (vs : List Value)
-    → checked (first_to_apply ((map (λ v. v.0) (find (λ v. not v.1) vs) ⇒↑ SetupValue) ∷ [])) ≡ first_fault vs
+    → checked (first_to_apply ((option_map (λ v. v.0) (find (λ v. not v.1) vs) ⇒↑ SetupValue) ∷ [])) ≡ first_fault vs
 unfolding first_to_apply find first_fault_from or_fault
 judged_is_found [] = refl
 judged_is_found ((at, true) ∷ vs) = judged_is_found vs
@@ -160,10 +159,13 @@ judged_is_found ((at, false) ∷ vs) = sym (judged_fails (SetupValue at) vs)
 
 module _ (s : List ℕ) where
   -- the values of a set-up are those of its four lists
-  pub list_by_list : or_else (or_else (or_else (estimate_faults s) (operator_faults s)) (account_faults s)) (point_faults s)
-      ≡ first_fault (values (setup_of s) (operators_in s))
-  unfolding values setup_of estimate_faults operator_faults account_faults point_faults
-  list_by_list = sym (simp (judged_append, length-map, length_operators, length_accounts, length_points))
+  pub list_by_list : values (setup_of s) (operators_in s)
+      ≡ values_of price_width estimate_values estimates_offset (estimates_in s)
+      ++ (values_of operator_entry operator_values (operators_offset (counts_in s)) (operators_in s)
+      ++ (values_of (account_entry (counts_in s)) (account_values (counts_in s)) (accounts_offset (counts_in s)) (accounts_in s)
+      ++ values_of point_entry (point_values (accounts_in s) (counts_in s).zones) (points_offset (counts_in s)) (points_in s)))
+  unfolding values setup_of
+  list_by_list = simp (length-map, length_operators, length_accounts, length_points, append_assoc)
 
   -- bytes in shape hold what their counts say
   pub shaped : misshapen s ≡ false → {n : Counts} → n ≡ counts_in s → Shaped n s
@@ -171,7 +173,7 @@ module _ (s : List ℕ) where
       let shape = shape_of s h in
       record { counted = e; whole = rw e (omega arith); short = omega (arith, shape_length s shape) }
 
-  pub refused_shape : misshapen s ≡ true → checked (setup_refusal s) ≡ Fails SetupShape
+  pub refused_shape : misshapen s ≡ true → checked (setup_refusal s) ≡ Err SetupShape
   unfolding setup_refusal first_to_apply
   refused_shape e = rw e
 

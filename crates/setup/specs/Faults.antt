@@ -1,11 +1,10 @@
 -- What a row of values comes to (document 01, "Verdicts", 9), value by value; bytes that hold the entries that their counts say.
-use Rattle.std.specs.Prelude.{ℕ, ◌+◌, ◌≤◌, ◌^◌, ◌≡◌, Bool, List, [], ◌∷◌, length, drop, eqb, leb, if◌then◌else◌}
+use Rattle.rules.specs.Verdicts.{Checked}
+use Rattle.std.specs.Prelude.{ℕ, ◌+◌, ◌≤◌, ◌^◌, ◌≡◌, Bool, List, [], ◌∷◌, length, drop, eqb, leb, if◌then◌else◌, Err, Ok}
 use Rattle.units.specs.Units.{cents}
 use Rattle.rules.specs.declared.Counts.{Counts}
 use Rattle.rules.specs.declared.Operator.{Operator}
 use Rattle.rules.specs.declared.Point.{Point}
-use Rattle.rules.specs.declared.Checked.{Checked}
-use Rattle.rules.specs.declared.Checked.TheVariants.{Clear, Fails}
 use Rattle.rules.specs.declared.Refusal.TheVariants.{SetupValue}
 use Rattle.rules.specs.Basics.{every, entries}
 use Rattle.rules.specs.Limits.{most_energy}
@@ -16,13 +15,13 @@ use Rattle.rules.specs.Books.{injection_kind, withdrawal_kind}
 
 -- the first of two that fails
 unfoldable pub or_else : Checked → Checked → Checked
-or_else Clear b = b
-or_else (Fails r) b = Fails r
+or_else (Ok tt) b = b
+or_else (Err r) b = Err r
 
 -- what was found so far, or the offset of a value that is out of range
 unfoldable pub or_fault : Checked → Value → Checked
-or_fault Clear v = if v.1 then Clear else Fails (SetupValue v.0)
-or_fault (Fails r) v = Fails r
+or_fault (Ok tt) v = if v.1 then (Ok tt) else Err (SetupValue v.0)
+or_fault (Err r) v = Err r
 
 -- what was found so far, or the first value that is out of range
 unfoldable pub first_fault_from : Checked → List Value → Checked
@@ -31,7 +30,7 @@ first_fault_from found (v ∷ vs) = first_fault_from (or_fault found v) vs
 
 -- the first value that is out of range
 abbrev pub first_fault : List Value → Checked
-first_fault vs = first_fault_from Clear vs
+first_fault vs = first_fault_from (Ok tt) vs
 
 -- the first fault among the estimates of set-up bytes
 unfoldable pub estimate_faults : List ℕ → Checked

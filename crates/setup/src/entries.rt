@@ -12,14 +12,14 @@ use crate::counts::{
 };
 use rules::{Margins, Operator, Point};
 use units::{Cents, CentsPerMwh, Kwh};
-use wire::numbers::{get_u8, get_u16, get_u32, get_u64};
+use wire::numbers::get;
 
 // The price in the bytes from `at` on.
 pub fn price_at(bytes: &[u8], at: usize) -> CentsPerMwh
     requires { at + price_width ≤ length bytes.now }
     ensures { result ≡ price_in (take price_width (drop at bytes.now)) }
 {
-    CentsPerMwh(get_u32(bytes, at))
+    CentsPerMwh(get::<u32>(bytes, at))
 }
 
 // The operator in the bytes from `at` on.
@@ -28,8 +28,8 @@ pub fn operator_at(bytes: &[u8], at: usize) -> Operator
     ensures { result ≡ operator_in (take operator_entry (drop at bytes.now)) }
 {
     Operator {
-        guarantee: Cents(get_u64(bytes, at)),
-        maintenance: get_u16(bytes, at + GUARANTEE_WIDTH),
+        guarantee: Cents(get::<u64>(bytes, at)),
+        maintenance: get::<u16>(bytes, at + GUARANTEE_WIDTH),
     }
 }
 
@@ -38,7 +38,7 @@ pub fn margin_at(bytes: &[u8], at: usize) -> Kwh
     requires { at + margin_width ≤ length bytes.now }
     ensures { result ≡ margin_in (take margin_width (drop at bytes.now)) }
 {
-    Kwh(get_u32(bytes, at))
+    Kwh(get::<u32>(bytes, at))
 }
 
 // The point in the bytes from `at` on.
@@ -47,11 +47,11 @@ pub fn point_at(bytes: &[u8], at: usize) -> Point
     ensures { result ≡ point_in (take point_entry (drop at bytes.now)) }
 {
     Point {
-        account: get_u8(bytes, at),
-        kind: get_u8(bytes, at + 1),
-        zone: get_u8(bytes, at + 2),
-        injection: Kwh(get_u32(bytes, at + 3)),
-        withdrawal: Kwh(get_u32(bytes, at + 7)),
+        account: get::<u8>(bytes, at),
+        kind: get::<u8>(bytes, at + 1),
+        zone: get::<u8>(bytes, at + 2),
+        injection: Kwh(get::<u32>(bytes, at + 3)),
+        withdrawal: Kwh(get::<u32>(bytes, at + 7)),
     }
 }
 
@@ -77,7 +77,7 @@ pub fn account_operator(setup: &[u8], number: u8) -> u8
     requires { Whole setup.now × (1 ≤ number) × (number ≤ (counts_in setup.now).accounts) }
     ensures { result ≡ operator_of (setup_of setup.now) number }
 {
-    get_u8(setup, account_offset(counts(setup), number))
+    get::<u8>(setup, account_offset(counts(setup), number))
 }
 
 // The margins of an account in an hour, both by their numbers, from 1.

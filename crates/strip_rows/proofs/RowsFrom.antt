@@ -1,5 +1,5 @@
 -- The rows of a strip from a place on: the first stands there, and the others stand one row further.
-use Prim.Native.Nat.{ℕ, zero, suc, ◌+◌, ◌-◌, ◌≤◌}
+use Prim.Native.Nat.{ℕ, zero, suc, ◌+◌, ◌-◌, ◌*◌, ◌≤◌, ◌<◌}
 use mathlib.Core.Path.{◌≡◌, refl}
 use mathlib.Core.List.{List, [], ◌∷◌}
 use native.Mathlib.Numerals.{add-one}
@@ -10,7 +10,7 @@ use Rattle.wire.specs.Parts.{chunks}
 use Rattle.rules.specs.Basics.{Each}
 use Rattle.rules.specs.Requests.{row_length}
 use Rattle.rules.proofs.Basics.Searches.{first_and_rest}
-use Rattle.strip_rows.specs.Rows.{rows_from}
+use Rattle.strip_rows.specs.Rows.{rows_from, row_of}
 
 pub rows_done : (s : List ℕ) (at n : ℕ) → n ≤ 0 → rows_from s at n ≡ []
 unfolding rows_from chunks
@@ -25,6 +25,13 @@ rows_step s at n m e = rw (e, add-one m, chunks, drop-drop row_length at s)
 pub rows_split : {P : List ℕ → Type 0} (s : List ℕ) (at n m : ℕ) → n ≡ m + 1 → Each P (rows_from s at n)
     → P (take row_length (drop at s)) × Each P (rows_from s (at + row_length) m)
 rows_split s at n m e h = first_and_rest (rw (rows_step s at n m e) at h)
+
+-- and each of them, by its number
+pub any_row : {P : List ℕ → Type 0} (s : List ℕ) (at n i : ℕ) → i < n → Each P (rows_from s at n) → P (row_of s at i)
+any_row s at n zero low h = let e : at + row_length * 0 ≡ at = omega arith in rw e (rows_split s at n (n - 1) (omega arith) h).0
+any_row s at n (suc i) low h =
+    let e : at + row_length * suc i ≡ at + row_length + row_length * i = omega arith in
+    rw e (any_row s (at + row_length) (n - 1) i (omega arith) (rows_split s at n (n - 1) (omega arith) h).1)
 
 -- a row that lies in the bytes has its length
 pub row_length_lem : (s : List ℕ) (at : ℕ) → at + row_length ≤ length s → length (take row_length (drop at s)) ≡ row_length

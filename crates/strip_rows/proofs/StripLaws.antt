@@ -1,8 +1,8 @@
 -- What a strip is refused for before the book is looked at, check by check: the first that applies decides.
+use Rattle.std.specs.Prelude.{None, Some}
 use Prim.Native.Nat.{ℕ, ◌+◌, ◌*◌, ◌<◌}
 use mathlib.Core.Path.{◌≡◌, refl, ◌∙◌}
 use mathlib.Core.List.{List, ◌∷◌}
-use mathlib.Core.Option.{none, some}
 use mathlib.Core.Bool.{Bool, true, false, not, ◌&&◌, ◌||◌}
 use native.Mathlib.Omega.{arith}
 use lib.ListN.{length, get_or-eq_default}
@@ -37,23 +37,23 @@ count_outside n = rw (below n 1, below most_strip n) (go (leb 1 n) (leb n most_s
     go false t = refl
 
 module _ (s : List ℕ) where
-  pub fails_2 : unreadable s ≡ true → first_to_apply (strip_checks s) ≡ some Unreadable
+  pub fails_2 : unreadable s ≡ true → first_to_apply (strip_checks s) ≡ Some Unreadable
   unfolding strip_checks
   fails_2 h = check_here (unreadable s ⇒ Unreadable) _ Unreadable (rw h)
 
   module _ (h : unreadable s ≡ false) where
-    pub fails_4 : (r : Refusal) → applies (map_check (kind_number strip) s) ≡ some r → first_to_apply (strip_checks s) ≡ some r
+    pub fails_4 : (r : Refusal) → applies (map_check (kind_number strip) s) ≡ Some r → first_to_apply (strip_checks s) ≡ Some r
     unfolding strip_checks
     fails_4 r e = check_next (unreadable s ⇒ Unreadable) _ (rw h) ∙ check_here (map_check (kind_number strip) s) _ r e
 
-    module _ (m : applies (map_check (kind_number strip) s) ≡ none) where
+    module _ (m : applies (map_check (kind_number strip) s) ≡ None) where
       past_4 : first_to_apply (strip_checks s)
           ≡ first_to_apply ((not (eqb (length s) (head_length + row_length * strip_count s)) ⇒ WrongLength)
           ∷ (not (within 1 (strip_count s) most_strip) ⇒ StripCount) ∷ row_checks (strip_rows s))
       unfolding strip_checks
       past_4 = check_next (unreadable s ⇒ Unreadable) _ (rw h) ∙ check_next (map_check (kind_number strip) s) _ m
 
-      pub fails_5 : (length s ≡ head_length + row_length * strip_count s → ⊥) → first_to_apply (strip_checks s) ≡ some WrongLength
+      pub fails_5 : (length s ≡ head_length + row_length * strip_count s → ⊥) → first_to_apply (strip_checks s) ≡ Some WrongLength
       fails_5 o = past_4 ∙ check_here _ _ WrongLength (rw (ne_eqb (length s) (head_length + row_length * strip_count s) o))
 
       module _ (l : length s ≡ head_length + row_length * strip_count s) where
@@ -61,7 +61,7 @@ module _ (s : List ℕ) where
             ≡ first_to_apply ((not (within 1 (strip_count s) most_strip) ⇒ StripCount) ∷ row_checks (strip_rows s))
         past_5 = past_4 ∙ check_next _ _ (rw (eq-eqb (length s) (head_length + row_length * strip_count s) l))
 
-        pub fails_21 : within 1 (strip_count s) most_strip ≡ false → first_to_apply (strip_checks s) ≡ some StripCount
+        pub fails_21 : within 1 (strip_count s) most_strip ≡ false → first_to_apply (strip_checks s) ≡ Some StripCount
         fails_21 e = past_5 ∙ check_here (not (within 1 (strip_count s) most_strip) ⇒ StripCount) _ StripCount (rw e)
 
         -- only its rows are left

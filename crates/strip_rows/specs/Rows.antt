@@ -1,5 +1,5 @@
 -- The rows of a strip from a place in its bytes on, and the requests that they say (document 02, note 3).
-use Rattle.std.specs.Prelude.{ℕ, ◌+◌, ◌*◌, ◌≤◌, List, map, length, drop}
+use Rattle.std.specs.Prelude.{ℕ, ◌+◌, ◌*◌, ◌≤◌, List, map, length, take, drop}
 use Rattle.wire.specs.Parts.{chunks}
 use Rattle.rules.specs.declared.Request.{Request}
 use Rattle.rules.specs.Basics.{Each}
@@ -10,6 +10,10 @@ use Rattle.rules.specs.Strips.{IsRegister}
 -- the n rows from `at` on
 unfoldable pub rows_from : List ℕ → ℕ → ℕ → List (List ℕ)
 rows_from s at n = chunks row_length n (drop at s)
+
+-- the row of that number, from 0
+abbrev pub row_of : List ℕ → ℕ → ℕ → List ℕ
+row_of s at i = take row_length (drop (at + row_length * i) s)
 
 -- the requests that they say
 abbrev pub requests_from : List ℕ → ℕ → ℕ → List Request

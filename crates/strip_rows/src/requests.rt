@@ -1,109 +1,57 @@
 // The requests that the rows of a strip say: 6 and 7 over all of them, and those that are alike in counterparty and code.
-ghost use Rattle.std.specs.Prelude.{◌≡◌, map, length};
+ghost use Rattle.std.specs.Prelude.{◌≡◌, length};
 ghost use Rattle.rules.specs.Basics.{any_passes};
 ghost use Rattle.rules.specs.Verdicts.{applies, first_to_apply, checked};
 ghost use Rattle.rules.specs.Requests.{head_length, row_length, kind_number, register, request_of};
 ghost use Rattle.rules.specs.Registration.{of_code, twins};
 ghost use Rattle.rules.specs.Strips.{IsRegister};
 ghost use Rattle.strip_rows.specs.Rows.{requests_from, RegisterRows, StripOf};
-ghost use Rattle.strip_rows.specs.Passes.{request_check, requests_checks};
+ghost use Rattle.strip_rows.specs.Passes.{range_check, accounts_check, requests_checks};
 
-use crate::rows::{HEAD_LENGTH, ROW_LENGTH, row_request};
+use crate::faults::first_fault;
+use crate::rows::{HEAD_LENGTH, ROW_LENGTH, request_at};
+use records::checks::fails_if;
 use records::ranges::trade_ranges;
-use rules::{Checked, Counts, Refusal, Request};
+use rules::{Counts, Refusal, Request};
 
-// A check that is put to one request after the other: its fields are in range, its accounts are two.
-#[derive(Clone, Copy)]
-pub enum RequestPass {
-    InRange,
-    TwoAccounts,
-}
-
-// The check of one request.
-fn request_fault(q: Request, pass: RequestPass, counts: Counts, proposer: u8) -> Checked
+// The lowest field of the request that is out of range, among others of which the first has this proposer.
+fn range_fault(q: Request, counts: Counts, proposer: u8) -> Result<(), Refusal>
     requires { q.kind ≡ kind_number register }
-    ensures { result ≡ checked (applies (request_check counts proposer pass q)) }
+    ensures { result ≡ checked (applies (range_check counts proposer q)) }
 {
-    match pass {
-        RequestPass::InRange => {
-            if q.account == proposer {
-                return trade_ranges(q, counts, Checked::Clear);
-            }
-            Checked::Fails(Refusal::OutOfRange { bit: 1 })
-        }
-        RequestPass::TwoAccounts => {
-            if q.account == q.other {
-                return Checked::Fails(Refusal::SameAccount);
-            }
-            Checked::Clear
-        }
+    if q.account == proposer {
+        return trade_ranges(q, counts);
     }
+    Err(Refusal::OutOfRange { bit: 1 })
 }
 
-// The check of the requests of `n` rows from `at` on: the first that it applies to.
-fn first_request_fault(
-    bytes: &[u8],
-    at: usize,
-    n: usize,
-    pass: RequestPass,
-    counts: Counts,
-    proposer: u8,
-) -> Checked
-    requires { RegisterRows bytes.now at n }
-    ensures { result ≡ checked (first_to_apply (map (request_check counts proposer pass) (requests_from bytes.now at n))) }
+// Both accounts of the request the same.
+fn accounts_fault(q: Request) -> Result<(), Refusal>
+    requires { q.kind ≡ kind_number register }
+    ensures { result ≡ checked (applies (accounts_check q)) }
 {
-    let mut left = n;
-    let found = loop {
-        if left == 0 {
-            break Checked::Clear;
-        }
-        let k = at + ROW_LENGTH * (n - left);
-        let q = row_request(&bytes[k..k + ROW_LENGTH]);
-        if let Checked::Fails(r) = request_fault(q, pass, counts, proposer) {
-            break Checked::Fails(r);
-        }
-        left = left - 1;
-    };
-    found
+    fails_if(q.account == q.other, Refusal::SameAccount)
 }
 
 // 6 of all requests, and then 7.
-pub fn requests_fault(bytes: &[u8], n: usize, counts: Counts) -> Checked
+pub fn requests_fault(bytes: &[u8], n: usize, counts: Counts) -> Result<(), Refusal>
     requires { StripOf bytes.now n }
     ensures { result ≡ checked (first_to_apply (requests_checks counts (requests_from bytes.now head_length n))) }
 {
-    let first = row_request(&bytes[HEAD_LENGTH..HEAD_LENGTH + ROW_LENGTH]);
+    let first = request_at(bytes, HEAD_LENGTH, 0);
     let proposer = first.account;
-    if let Checked::Fails(r) = first_request_fault(
-        bytes,
-        HEAD_LENGTH,
+    first_fault(
         n,
-        RequestPass::InRange,
-        counts,
-        proposer,
-    ) {
-        return Checked::Fails(r);
-    }
-    first_request_fault(
-        bytes,
-        HEAD_LENGTH,
-        n,
-        RequestPass::TwoAccounts,
-        counts,
-        proposer,
-    )
+        |i| range_fault(request_at(bytes, HEAD_LENGTH, i), counts, proposer),
+    )?;
+    first_fault(n, |i| accounts_fault(request_at(bytes, HEAD_LENGTH, i)))
 }
 
-// Whether the row has this counterparty and code. Codes mostly differ, so that the code is tested first.
-fn is_of_code(row: &[u8], other: u8, code: u64) -> bool
-    requires { (length row.now ≡ row_length) × IsRegister row.now }
-    ensures { result ≡ of_code other code (request_of row.now) }
+// Whether the request has this counterparty and code. Codes mostly differ, so that the code is tested first.
+fn is_of_code(q: Request, other: u8, code: u64) -> bool
+    ensures { result ≡ of_code other code q }
 {
-    let q = row_request(row);
-    if q.code != code {
-        return false;
-    }
-    q.other == other
+    (q.code == code) && (q.other == other)
 }
 
 // Whether one of the `n` rows from `at` on has this counterparty and code.
@@ -111,16 +59,7 @@ pub fn has_code(bytes: &[u8], at: usize, n: usize, other: u8, code: u64) -> bool
     requires { RegisterRows bytes.now at n }
     ensures { result ≡ any_passes (of_code other code) (requests_from bytes.now at n) }
 {
-    let mut k = at;
-    let mut left = n;
-    while 0 < left {
-        if is_of_code(&bytes[k..k + ROW_LENGTH], other, code) {
-            return true;
-        }
-        k = k + ROW_LENGTH;
-        left = left - 1;
-    }
-    false
+    (0..n).any(|i| is_of_code(request_at(bytes, at, i), other, code))
 }
 
 // Whether two of the `n` rows from `at` on are alike in counterparty and code.
@@ -128,13 +67,10 @@ pub fn has_twins(bytes: &[u8], at: usize, n: usize) -> bool
     requires { RegisterRows bytes.now at n }
     ensures { result ≡ twins (requests_from bytes.now at n) }
 {
-    let mut k = at;
-    let mut left = n;
-    while 0 < left {
-        let q = row_request(&bytes[k..k + ROW_LENGTH]);
-        k = k + ROW_LENGTH;
-        left = left - 1;
-        if has_code(bytes, k, left, q.other, q.code) {
+    for i in 0..n {
+        let q = request_at(bytes, at, i);
+        let behind = at + ROW_LENGTH * (i + 1);
+        if has_code(bytes, behind, n - i - 1, q.other, q.code) {
             return true;
         }
     }

@@ -1,15 +1,14 @@
 -- An accepted strip: its rows are appended, which makes the changed book, and a sound one.
+use Rattle.std.specs.Prelude.{None}
 use Prim.Native.Nat.{ℕ, ◌+◌, ◌≤◌}
 use mathlib.Core.Path.{◌≡◌, refl, ap, ◌∙◌}
 use mathlib.Core.List.{List}
-use mathlib.Core.Option.{none}
 use mathlib.Core.Bool.{true}
 use native.Mathlib.Omega.{arith}
 use lib.ListN.{length, length-map}
 use Rattle.wire.specs.Numbers.{Bytes}
-use Rattle.rules.specs.declared.Outcome.{Outcome}
 use Rattle.rules.specs.Limits.{most_hours, most_rows, book_size}
-use Rattle.rules.specs.Verdicts.{first_to_apply, accepted}
+use Rattle.rules.specs.Verdicts.{first_to_apply, accepted, Verdict}
 use Rattle.rules.specs.Books.{Book}
 use Rattle.rules.specs.Requests.{strip, head_length}
 use Rattle.rules.specs.Registration.{proposed}
@@ -28,12 +27,12 @@ use Rattle.strips.specs.Ready.{ReadyStrip, strip_requests, proposed_rows, propos
 use Rattle.strips.proofs.ReadyLaws.{requests_length, proposed-pending, ready_sound}
 
 -- the answer and the bytes after a strip that is accepted on the book of the bytes s
-abbrev pub StripAccepted : List ℕ → List ℕ → ℕ → Outcome → List ℕ → Type 0
+abbrev pub StripAccepted : List ℕ → List ℕ → ℕ → Verdict → List ℕ → Type 0
 StripAccepted s bytes n o t =
     (o ≡ accepted (given strip (book_in s) (strip_requests bytes n)))
     × ((t ≡ book_bytes (changed strip (book_in s) (strip_requests bytes n))) × (is_sound t ≡ true))
 
-module _ (s bytes : List ℕ) (n : ℕ) (free : first_to_apply (state_checks (book_in s) strip (strip_requests bytes n)) ≡ none) where
+module _ (s bytes : List ℕ) (n : ℕ) (free : first_to_apply (state_checks (book_in s) strip (strip_requests bytes n)) ≡ None) where
   state : Clear (state_checks (book_in s) strip (strip_requests bytes n))
   state = clear (state_checks (book_in s) strip (strip_requests bytes n)) free
 

@@ -1,18 +1,16 @@
 -- What a call with the bytes of a strip answers, stage by stage: its bytes, its requests against the counts of the book, the state.
+use Rattle.std.specs.Prelude.{Option, None, Some}
 use Prim.Native.Nat.{ℕ}
 use mathlib.Core.Path.{◌≡◌, refl, sym, ap, ◌∙◌}
 use mathlib.Core.List.{List, [], ◌∷◌, ◌++◌, map}
-use mathlib.Core.Option.{Option, none, some}
 use mathlib.Core.Bool.{true, false}
 use native.Mathlib.Omega.{arith}
 use borrow.Author.Tests.{eqb-true}
-use Rattle.rules.specs.declared.Outcome.{Outcome}
 use Rattle.rules.specs.declared.Request.{Request}
 use Rattle.rules.specs.declared.Counts.{Counts}
-use Rattle.rules.specs.declared.Checked.{Checked}
 use Rattle.rules.specs.declared.Refusal.{Refusal}
 use Rattle.rules.specs.declared.Refusal.TheVariants.{WrongLength, OutOfRange, BufferShort}
-use Rattle.rules.specs.Verdicts.{Check, ◌⇒◌, first_to_apply, checked, refused, accepted}
+use Rattle.rules.specs.Verdicts.{Check, ◌⇒◌, first_to_apply, checked, refused, accepted, Checked, Verdict}
 use Rattle.rules.specs.Books.{Book, counts_of}
 use Rattle.rules.specs.Opening.{counts_in}
 use Rattle.rules.specs.Requests.{strip, kind_number, kind_of, field_in, is_strip, strip_count, strip_rows, strip_checks, requests_of, first_of}
@@ -23,8 +21,7 @@ use Rattle.rules.proofs.Checks.Passed.{among_in_range, strip_requests_lem, strip
 use Rattle.rules.proofs.Checks.Stages.{bytes_refused, input_refused, state_decides, step_decided, change_decided}
 use Rattle.image.specs.Valid.{is_sound, book_in, book_bytes}
 use Rattle.strip_rows.specs.Rows.{rows_from, StripOf}
-use Rattle.strip_rows.specs.Passes.{request_check, requests_checks}
-use Rattle.strip_rows.specs.declared.requests.RequestPass.TheVariants.{InRange, TwoAccounts}
+use Rattle.strip_rows.specs.Passes.{range_check, accounts_check, requests_checks}
 use Rattle.book.proofs.StateLaws.{book_image}
 use Rattle.book.proofs.BookRows.{checks_found}
 use Rattle.strips.specs.Ready.{ReadyStrip, strip_requests}
@@ -33,7 +30,7 @@ use Rattle.strips.proofs.AcceptLaws.{StripAccepted}
 -- ---- the bytes
 
 -- a strip that is not refused for its bytes has its rows, each the record of a register
-pub read_strip : (s : List ℕ) (n : ℕ) → n ≡ strip_count s → first_to_apply (strip_checks s) ≡ none → StripOf s n
+pub read_strip : (s : List ℕ) (n : ℕ) → n ≡ strip_count s → first_to_apply (strip_checks s) ≡ None → StripOf s n
 unfolding strip_rows rows_from
 read_strip s n e h =
     let w = clear (strip_checks s) h in
@@ -53,15 +50,15 @@ module _ (cs ds : List Check) (a p z : Refusal) where
   abbrev first_checks : List Check
   first_checks = cs ++ (false ⇒ p) ∷ ds
 
-  sift_late : first_to_apply cs ≡ none → (o : Option Refusal) → first_to_apply ds ≡ o → first_to_apply (first_checks ++ (false ⇒ z) ∷ []) ≡ o
+  sift_late : first_to_apply cs ≡ None → (o : Option Refusal) → first_to_apply ds ≡ o → first_to_apply (first_checks ++ (false ⇒ z) ∷ []) ≡ o
   unfolding first_to_apply
-  sift_late e (some r) f = applies_first first_checks ((false ⇒ z) ∷ []) r (applies_later cs ((false ⇒ p) ∷ ds) e ∙ f)
-  sift_late e none f = applies_later first_checks ((false ⇒ z) ∷ []) (applies_later cs ((false ⇒ p) ∷ ds) e ∙ f)
+  sift_late e (Some r) f = applies_first first_checks ((false ⇒ z) ∷ []) r (applies_later cs ((false ⇒ p) ∷ ds) e ∙ f)
+  sift_late e None f = applies_later first_checks ((false ⇒ z) ∷ []) (applies_later cs ((false ⇒ p) ∷ ds) e ∙ f)
 
   sift_go : (o : Option Refusal) → first_to_apply cs ≡ o → first_to_apply (first_checks ++ (false ⇒ z) ∷ []) ≡ first_to_apply (cs ++ ds)
-  sift_go (some r) e =
+  sift_go (Some r) e =
       applies_first first_checks ((false ⇒ z) ∷ []) r (applies_first cs ((false ⇒ p) ∷ ds) r e) ∙ sym (applies_first cs ds r e)
-  sift_go none e = sift_late e (first_to_apply ds) refl ∙ sym (applies_later cs ds e)
+  sift_go None e = sift_late e (first_to_apply ds) refl ∙ sym (applies_later cs ds e)
 
   sift : first_to_apply ((false ⇒ a) ∷ (first_checks ++ (false ⇒ z) ∷ [])) ≡ first_to_apply (cs ++ ds)
   unfolding first_to_apply
@@ -71,7 +68,7 @@ pub input_is_requests : (b : Book) (c : Call) (qs : List Request) → first_to_a
 unfolding input_checks requests_checks
 input_is_requests b c qs =
     let n = counts_of b.setup in
-    sift (map (request_check n (first_of qs).account InRange) qs) (map (request_check n (first_of qs).account TwoAccounts) qs) WrongLength (OutOfRange 12) BufferShort
+    sift (map (range_check n (first_of qs).account) qs) (map accounts_check qs) WrongLength (OutOfRange 12) BufferShort
 
 -- what the two passes found, on the counts that a book begins with
 pub requests_found : (b : List ℕ) → is_sound b ≡ true → (n : Counts) (qs : List Request) (x : Checked) (o : Option Refusal) → n ≡ counts_in b
@@ -79,13 +76,13 @@ pub requests_found : (b : List ℕ) → is_sound b ≡ true → (n : Counts) (qs
 requests_found b h n qs = checks_found b h (λ m. requests_checks m qs) n
 
 -- requests that are not refused are in range, of one proposer, and have two accounts
-pub in_range_ready : (b : Book) (s : List ℕ) (n : ℕ) → StripOf s n → first_to_apply (requests_checks (counts_of b.setup) (strip_requests s n)) ≡ none → ReadyStrip b s n
+pub in_range_ready : (b : Book) (s : List ℕ) (n : ℕ) → StripOf s n → first_to_apply (requests_checks (counts_of b.setup) (strip_requests s n)) ≡ None → ReadyStrip b s n
 unfolding requests_checks
 in_range_ready b s n is h =
     let m = counts_of b.setup in
     let qs = strip_requests s n in
-    let fields : List Check = map (request_check m (first_of qs).account InRange) qs in
-    let accounts : List Check = map (request_check m (first_of qs).account TwoAccounts) qs in
+    let fields : List Check = map (range_check m (first_of qs).account) qs in
+    let accounts : List Check = map accounts_check qs in
     let w = clear_split fields accounts (clear (fields ++ accounts) h) in
     let fine = each_map (λ q e. among_in_range _ _ q (spared↑ _ _ e)) (clear_each _ qs w.0) in
     record {
@@ -108,40 +105,40 @@ module _ (b : Book) (c : Call) (s : List ℕ) (n : ℕ) (e : c.bytes ≡ s) (is 
   own_bytes : (o : Option Refusal) → first_to_apply (strip_checks s) ≡ o → first_to_apply (bytes_checks c.bytes) ≡ o
   own_bytes o h = rw (e, is) h
 
-  refused_step : (r : Refusal) → refusal b c ≡ some r → (refused r ≡ (step b c).outcome) × ((uncleared b c).book ≡ b)
-  refused_step r e = (sym (step_decided b c (some r) e).0, change_decided b c (some r) e)
+  refused_step : (r : Refusal) → refusal b c ≡ Some r → (refused r ≡ (step b c).outcome) × ((uncleared b c).book ≡ b)
+  refused_step r e = (sym (step_decided b c (Some r) e).0, change_decided b c (Some r) e)
 
-  pub strip_bytes_refused : (r : Refusal) → first_to_apply (strip_checks s) ≡ some r → (refused r ≡ (step b c).outcome) × ((uncleared b c).book ≡ b)
+  pub strip_bytes_refused : (r : Refusal) → first_to_apply (strip_checks s) ≡ Some r → (refused r ≡ (step b c).outcome) × ((uncleared b c).book ≡ b)
   strip_bytes_refused r h =
-      refused_step r (bytes_refused b c r (own_bytes (some r) h))
+      refused_step r (bytes_refused b c r (own_bytes (Some r) h))
 
-  module _ (h : first_to_apply (strip_checks s) ≡ none) where
+  module _ (h : first_to_apply (strip_checks s) ≡ None) where
     input : (o : Option Refusal) → first_to_apply (requests_checks (counts_of b.setup) (strip_requests s n)) ≡ o
         → first_to_apply (input_checks b c (checked_as (call_kind c)) (call_requests c)) ≡ o
     input o f = rw (kind, requests) (input_is_requests b c (strip_requests s n) ∙ f)
 
-    pub strip_input_refused : (r : Refusal) → first_to_apply (requests_checks (counts_of b.setup) (strip_requests s n)) ≡ some r
+    pub strip_input_refused : (r : Refusal) → first_to_apply (requests_checks (counts_of b.setup) (strip_requests s n)) ≡ Some r
         → (refused r ≡ (step b c).outcome) × ((uncleared b c).book ≡ b)
     strip_input_refused r f =
-        refused_step r (input_refused b c (own_bytes none h) r (input (some r) f))
+        refused_step r (input_refused b c (own_bytes None h) r (input (Some r) f))
 
-    module _ (f : first_to_apply (requests_checks (counts_of b.setup) (strip_requests s n)) ≡ none) where
+    module _ (f : first_to_apply (requests_checks (counts_of b.setup) (strip_requests s n)) ≡ None) where
       decided : (o : Option Refusal) → first_to_apply (state_checks b strip (strip_requests s n)) ≡ o → refusal b c ≡ o
-      decided o g = state_decides b c (own_bytes none h) (input none f) ∙ rw (kind, requests) g
+      decided o g = state_decides b c (own_bytes None h) (input None f) ∙ rw (kind, requests) g
 
-      pub strip_state_refused : (r : Refusal) → first_to_apply (state_checks b strip (strip_requests s n)) ≡ some r
+      pub strip_state_refused : (r : Refusal) → first_to_apply (state_checks b strip (strip_requests s n)) ≡ Some r
           → (refused r ≡ (step b c).outcome) × ((uncleared b c).book ≡ b)
-      strip_state_refused r g = refused_step r (decided (some r) g)
+      strip_state_refused r g = refused_step r (decided (Some r) g)
 
-      pub strip-step : first_to_apply (state_checks b strip (strip_requests s n)) ≡ none
+      pub strip-step : first_to_apply (state_checks b strip (strip_requests s n)) ≡ None
           → ((step b c).outcome ≡ accepted (given strip b (strip_requests s n))) × ((uncleared b c).book ≡ changed strip b (strip_requests s n))
       strip-step g =
-          ((step_decided b c none (decided none g)).0 ∙ rw (kind, requests), change_decided b c none (decided none g) ∙ rw (kind, requests))
+          ((step_decided b c None (decided None g)).0 ∙ rw (kind, requests), change_decided b c None (decided None g) ∙ rw (kind, requests))
 
 -- ---- every call with these bytes
 
 -- it is answered o, and leaves the bytes t, of a sound book
-abbrev pub AnsweredStrip : List ℕ → List ℕ → Outcome → List ℕ → Type 0
+abbrev pub AnsweredStrip : List ℕ → List ℕ → Verdict → List ℕ → Type 0
 AnsweredStrip s bytes o t =
     ((c : Call) → c.bytes ≡ bytes → o ≡ (step (book_in s) c).outcome)
     × (((c : Call) → c.bytes ≡ bytes → t ≡ book_bytes (uncleared (book_in s) c).book) × (is_sound t ≡ true))
@@ -152,7 +149,7 @@ pub refused-strip : (s bytes : List ℕ) (r : Refusal) → is_sound s ≡ true
 refused-strip s bytes r h f = ((λ c e. (f c e).0), ((λ c e. book_image s h ∙ ap book_bytes (sym (f c e).1)), h))
 
 -- accepted, it leaves the changed one
-pub accepted-strip : (s bytes : List ℕ) (n : ℕ) (o : Outcome) (t : List ℕ) → StripAccepted s bytes n o t
+pub accepted-strip : (s bytes : List ℕ) (n : ℕ) (o : Verdict) (t : List ℕ) → StripAccepted s bytes n o t
     → ((c : Call) → c.bytes ≡ bytes
     → ((step (book_in s) c).outcome ≡ accepted (given strip (book_in s) (strip_requests bytes n))) × ((uncleared (book_in s) c).book ≡ changed strip (book_in s) (strip_requests bytes n)))
     → AnsweredStrip s bytes o t

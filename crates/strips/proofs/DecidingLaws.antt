@@ -1,11 +1,10 @@
 -- What the state decides on a strip, test by test: as on a register of all its requests.
+use Rattle.std.specs.Prelude.{Err, Ok, Option, None, Some}
 use Prim.Native.Nat.{ℕ, ◌+◌, ◌<◌}
 use mathlib.Core.Path.{◌≡◌, sym, ap, ◌∙◌}
 use mathlib.Core.List.{List, map}
-use mathlib.Core.Option.{Option, none, some}
 use mathlib.Core.Bool.{Bool, true, false}
 use lib.ListN.{length}
-use Rattle.rules.specs.declared.Checked.TheVariants.{Clear, Fails}
 use Rattle.rules.specs.declared.Request.{Request}
 use Rattle.rules.specs.declared.Refusal.{Refusal}
 use Rattle.rules.specs.declared.Refusal.TheVariants.{WrongPhase, AlreadyPending, StripTwins, RowsFull, MarginBroken, Uncovered}
@@ -18,9 +17,6 @@ use Rattle.rules.specs.Registration.{proposed, has_twin, twins, broken_by}
 use Rattle.rules.specs.Calls.{state_checks}
 use Rattle.registration.specs.Cover.{covered_with_rows}
 use Rattle.registration.specs.Proposing.{Addable}
-use Rattle.registration.specs.Margins.{broken}
-use Rattle.registration.specs.declared.margins.Broken.TheVariants.{Hour, Nowhere}
-use Rattle.registration.proofs.MarginLaws.{tells_hour, tells_nowhere}
 use Rattle.registration.proofs.AddingLaws as Adding
 
 module _ (b : Book) (qs : List Request) where
@@ -28,34 +24,34 @@ module _ (b : Book) (qs : List Request) where
   decides o e = ap checked (sym (Adding.strip-decided b qs ∙ e))
 
   -- 11
-  pub later_decides : (b.phase ≡ 1 → ⊥) → Fails WrongPhase ≡ checked (first_to_apply (state_checks b strip qs))
-  later_decides n = decides (some WrongPhase) (Adding.adding_later b qs n)
+  pub later_decides : (b.phase ≡ 1 → ⊥) → Err WrongPhase ≡ checked (first_to_apply (state_checks b strip qs))
+  later_decides n = decides (Some WrongPhase) (Adding.adding_later b qs n)
 
   module _ (first : b.phase ≡ 1) where
     -- 14
-    pub standing_decides : any_passes (has_twin b.part.rows) qs ≡ true → Fails AlreadyPending ≡ checked (first_to_apply (state_checks b strip qs))
-    standing_decides e = decides (some AlreadyPending) (Adding.twin_pending b qs first e)
+    pub standing_decides : any_passes (has_twin b.part.rows) qs ≡ true → Err AlreadyPending ≡ checked (first_to_apply (state_checks b strip qs))
+    standing_decides e = decides (Some AlreadyPending) (Adding.twin_pending b qs first e)
 
     module _ (alone : any_passes (has_twin b.part.rows) qs ≡ false) where
       -- 22
-      pub twins_decide : twins qs ≡ true → Fails StripTwins ≡ checked (first_to_apply (state_checks b strip qs))
-      twins_decide e = decides (some StripTwins) (Adding.twins_among b qs first alone e)
+      pub twins_decide : twins qs ≡ true → Err StripTwins ≡ checked (first_to_apply (state_checks b strip qs))
+      twins_decide e = decides (Some StripTwins) (Adding.twins_among b qs first alone e)
 
       -- 15
-      pub no_room_decides : twins qs ≡ false → most_rows < length b.part.rows + length qs → Fails RowsFull ≡ checked (first_to_apply (state_checks b strip qs))
-      no_room_decides apart h = decides (some RowsFull) (Adding.no_numbers_left b qs first alone apart h)
+      pub no_room_decides : twins qs ≡ false → most_rows < length b.part.rows + length qs → Err RowsFull ≡ checked (first_to_apply (state_checks b strip qs))
+      no_room_decides apart h = decides (Some RowsFull) (Adding.no_numbers_left b qs first alone apart h)
 
   module _ (p : Addable b qs) where
     -- 18
-    pub margin_decides : (h : ℕ) → Hour h ≡ broken (broken_by b.setup b.part.rows (map proposed qs) (first_of qs).account)
-        → Fails (MarginBroken h) ≡ checked (first_to_apply (state_checks b strip qs))
-    margin_decides h e = decides (some (MarginBroken h)) (Adding.margin_breaks b qs p h (tells_hour _ h e))
+    pub margin_decides : (h : ℕ) → Some h ≡ broken_by b.setup b.part.rows (map proposed qs) (first_of qs).account
+        → Err (MarginBroken h) ≡ checked (first_to_apply (state_checks b strip qs))
+    margin_decides h e = decides (Some (MarginBroken h)) (Adding.margin_breaks b qs p h (sym e))
 
-    module _ (kept : Nowhere ≡ broken (broken_by b.setup b.part.rows (map proposed qs) (first_of qs).account)) (t : Bool)
+    module _ (kept : None ≡ broken_by b.setup b.part.rows (map proposed qs) (first_of qs).account) (t : Bool)
         (test : t ≡ covered_with_rows b (map proposed qs) (operator_of b.setup (first_of qs).account)) where
       -- 19
-      pub uncovered_decides : t ≡ false → Fails Uncovered ≡ checked (first_to_apply (state_checks b strip qs))
-      uncovered_decides f = decides (some Uncovered) (Adding.rows_uncovered b qs p (tells_nowhere _ kept) t test f)
+      pub uncovered_decides : t ≡ false → Err Uncovered ≡ checked (first_to_apply (state_checks b strip qs))
+      uncovered_decides f = decides (Some Uncovered) (Adding.rows_uncovered b qs p (sym kept) t test f)
 
-      pub covered_decides : t ≡ true → Clear ≡ checked (first_to_apply (state_checks b strip qs))
-      covered_decides f = decides none (Adding.rows_covered b qs p (tells_nowhere _ kept) t test f)
+      pub covered_decides : t ≡ true → (Ok tt) ≡ checked (first_to_apply (state_checks b strip qs))
+      covered_decides f = decides None (Adding.rows_covered b qs p (sym kept) t test f)

@@ -1,6 +1,5 @@
 -- A strip that was read and whose rows are in range of a book (document 02, note 3).
-use Rattle.std.specs.Prelude.{ℕ, ◌≡◌, List, map, Bool, false}
-use Rattle.std.proofs.Math.Option.{none}
+use Rattle.std.specs.Prelude.{ℕ, ◌≡◌, List, map, Bool, false, None}
 use Rattle.rules.specs.declared.Row.{Row}
 use Rattle.rules.specs.declared.Request.{Request}
 use Rattle.rules.specs.Basics.{any_passes, Each}
@@ -24,7 +23,7 @@ proposer s n = (first_of (strip_requests s n)).account
 -- a strip of n rows, each in range of the book, with two accounts, and of one proposer
 pub record ReadyStrip (b : Book) (s : List ℕ) (n : ℕ) : Type 0 where
   pub is_strip : StripOf s n
-  pub in_range : Each (λ q. faulty_bit (counts_of b.setup) q ≡ none) (strip_requests s n)
+  pub in_range : Each (λ q. faulty_bit (counts_of b.setup) q ≡ None) (strip_requests s n)
   pub one_proposer : Each (λ q. q.account ≡ proposer s n) (strip_requests s n)
   pub two_accounts : Each (λ q. same_accounts q ≡ false) (strip_requests s n)
 

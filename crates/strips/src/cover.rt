@@ -9,7 +9,7 @@ ghost use Rattle.registration.specs.Cover.{covered_with_rows};
 ghost use Rattle.strips.specs.Ready.{ReadyStrip, proposer, proposed_rows};
 
 use book::state::operator_of;
-use book::worth::{Added, account_operators, exposure_with, price_sums, sale_of};
+use book::worth::{account_operators, exposure_with, price_sums, sale_of};
 use registration::cover::covered_in_force;
 use registration::register::proposed_row;
 use strip_rows::rows::{HEAD_LENGTH, ROW_LENGTH, row_request};
@@ -30,14 +30,10 @@ fn strip_sales(
     ensures bounded { result.0 ≤ most_strip * most_sale_worth }
 {
     let mut sum = MilliCents(0);
-    let mut k = HEAD_LENGTH;
-    let mut left = n;
-    while 0 < left {
+    for i in 0..n {
+        let k = HEAD_LENGTH + ROW_LENGTH * i;
         let q = row_request(&bytes[k..k + ROW_LENGTH]);
-        let row = proposed_row(q);
-        sum = sum.plus(sale_of(book, sums, operators, operator, row));
-        k = k + ROW_LENGTH;
-        left = left - 1;
+        sum = sum + sale_of(book, sums, operators, operator, proposed_row(q));
     }
     sum
 }
@@ -49,9 +45,9 @@ pub fn covered_with_strip(book: &[u8], bytes: &[u8], n: usize, number: u8) -> bo
         result ≡ covered_with_rows b (proposed_rows bytes.now n) (operator_of b.setup number) }
 {
     let operator = operator_of(book, number);
-    let standing = exposure_with(book, operator, Added::Nothing);
+    let standing = exposure_with(book, operator, None);
     let sums = price_sums(book);
     let operators = account_operators(book);
     let added = strip_sales(book, &sums, &operators, operator, bytes, n);
-    covered_in_force(book, standing.plus(added), operator)
+    covered_in_force(book, standing + added, operator)
 }

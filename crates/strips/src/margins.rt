@@ -6,34 +6,28 @@ ghost use Rattle.rules.specs.Registration.{pending, broken_by};
 ghost use Rattle.image.specs.Valid.{is_sound, book_in};
 ghost use Rattle.book.specs.Members.{IsAccount};
 ghost use Rattle.book.specs.Waits.{WaitsOf, waits_size};
-ghost use Rattle.registration.specs.Margins.{broken};
 
 use book::waits::account_hour;
-use registration::margins::Broken;
 use rules::hours::keeps_margins;
 use setup::counts::counts;
 use setup::entries::margins;
 
 // The lowest hour in which the account breaks a margin; `waits` holds its pending sums, with those of rows that are to be added.
-pub fn broken_with(book: &[u8], waits: &[u32], number: u8) -> Broken
+pub fn broken_with(book: &[u8], waits: &[u32], number: u8) -> Option<u8>
     requires { (is_sound book.now ≡ true) × IsAccount (book_in book.now) number × (length waits.now ≡ waits_size) }
     ensures { (added : List Row) → (let b = book_in book.now in
         Each (λ x. pending x ≡ true) added → WaitsOf (b.part.rows ++ added) number waits.now
-        → result ≡ broken (broken_by b.setup b.part.rows added number)) }
+        → result ≡ broken_by b.setup b.part.rows added number) }
 {
     let n = counts(book);
-    let mut hour: u8 = 1;
-    let found = loop {
-        if n.hours < hour {
-            break Broken::Nowhere;
-        }
+    let mut broken = None;
+    for hour in 1..=n.hours {
         let own = margins(book, number, hour);
         let held = account_hour(book, waits, number, hour);
-        if keeps_margins(own, held) {
-            hour = hour + 1;
-        } else {
-            break Broken::Hour(hour);
+        if !keeps_margins(own, held) {
+            broken = Some(hour);
+            break;
         }
-    };
-    found
+    }
+    broken
 }

@@ -13,15 +13,9 @@ pub fn append_rows(book: &mut [u8], count: u16, bytes: &[u8], n: usize)
     requires { (length book.old ≡ book_size) × StripOf bytes.now n × (count + n ≤ most_rows) }
     ensures { book.new ≡ rows_appended book.old count (proposed_rows bytes.now n) }
 {
-    let mut number = count;
-    let mut k = HEAD_LENGTH;
-    let mut left = n;
-    while 0 < left {
+    for i in 0..n {
+        let k = HEAD_LENGTH + ROW_LENGTH * i;
         let q = row_request(&bytes[k..k + ROW_LENGTH]);
-        let row = proposed_row(q);
-        append_row(book, number, row);
-        number = number + 1;
-        k = k + ROW_LENGTH;
-        left = left - 1;
+        append_row(book, count + i as u16, proposed_row(q));
     }
 }

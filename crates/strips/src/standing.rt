@@ -12,7 +12,7 @@ use image::rows::{STATUS_OFFSET, row_at};
 use rules::statuses::PENDING;
 use strip_rows::requests::has_code;
 use strip_rows::rows::HEAD_LENGTH;
-use wire::numbers::get_u8;
+use wire::numbers::get;
 
 // Whether the row of that number is pending, has this proposer, and the counterparty and code of one of the strip's rows. Most rows have
 // another proposer, so that is tested first.
@@ -21,10 +21,10 @@ fn row_is_alike(book: &[u8], number: u16, bytes: &[u8], n: usize, account: u8) -
     ensures { result ≡ alike_among account (strip_requests bytes.now n) (numbered_row (book_in book.now) number) }
 {
     let at = row_offset(number);
-    if get_u8(book, at) != account {
+    if get::<u8>(book, at) != account {
         return false;
     }
-    if get_u8(book, at + STATUS_OFFSET) != PENDING {
+    if get::<u8>(book, at + STATUS_OFFSET) != PENDING {
         return false;
     }
     let r = row_at(book, at);
@@ -36,13 +36,9 @@ pub fn any_is_alike(book: &[u8], bytes: &[u8], n: usize, account: u8) -> bool
     requires { (is_sound book.now ≡ true) × RegisterRows bytes.now head_length n }
     ensures { result ≡ any_passes (alike_among account (strip_requests bytes.now n)) (book_in book.now).part.rows }
 {
-    let rows = row_count(book);
     let mut found = false;
-    let mut number: u16 = 1;
-    while number <= rows {
-        let here = row_is_alike(book, number, bytes, n, account);
-        found = found | here;
-        number = number + 1;
+    for number in 1..=row_count(book) {
+        found |= row_is_alike(book, number, bytes, n, account);
     }
     found
 }

@@ -16,12 +16,9 @@ pub fn fill_all_waits(table: &mut [u32], book: &[u8], bytes: &[u8], n: usize)
 {
     let first = row_request(&bytes[HEAD_LENGTH..HEAD_LENGTH + ROW_LENGTH]);
     fill_waits(table, book, first.account, first.other, first.code);
-    let mut left = n;
-    while 0 < left {
-        let k = HEAD_LENGTH + ROW_LENGTH * (n - left);
+    for i in 0..n {
+        let k = HEAD_LENGTH + ROW_LENGTH * i;
         let q = row_request(&bytes[k..k + ROW_LENGTH]);
-        let row = proposed_row(q);
-        add_waiting(table, row);
-        left = left - 1;
+        add_waiting(table, proposed_row(q));
     }
 }

@@ -2,15 +2,12 @@
 use Prim.Native.Nat.{ℕ, zero, suc, ◌+◌, ◌^◌, ◌≤◌, ◌<◌}
 use mathlib.Core.Path.{◌≡◌, refl, ap, ◌∙◌}
 use mathlib.Core.List.{List, [], ◌∷◌}
-use mathlib.Core.Logic.{⊎_elim}
 use native.Mathlib.Omega.{arith}
-use lib.ListN.{length, get_or, set, length-replicate, replicate, get_or-eq_default}
-use lib.Seq.{get_or-set_other, get_or-set_same}
+use lib.ListN.{length, get_or, length-replicate, replicate}
 use Rattle.rules.specs.declared.Row.{Row}
 use Rattle.rules.specs.Basics.{total}
 use Rattle.rules.specs.Limits.{most_energy}
 use Rattle.rules.specs.Registration.{moved, waiting}
-use Rattle.rules.proofs.Basics.Differences.{lt_or_ge}
 use Rattle.image.specs.Tables.{cell_of, InTable, Tabled, Room, table_size}
 use Rattle.image.proofs.Tables.SumLaws.{zero_at}
 use Rattle.tables.specs.Sums.{SumsOf, NoSums, RowAdded, lane_sum}
@@ -40,28 +37,6 @@ pub record Filling (top : ℕ) (all left : List Row) (table : List ℕ) (most : 
 
 pub none_of_zeros : (top n : ℕ) → table_size top ≤ n → NoSums top (replicate n 0)
 none_of_zeros top n h = record { whole = omega (arith, length-replicate {A = ℕ} n 0); zeros = zero_at n }
-
--- the cells below n hold nothing
-abbrev pub ClearedTo : List ℕ → ℕ → Type 0
-ClearedTo table n = (k : ℕ) → k < n → get_or table k 0 ≡ 0
-
-pub cleared_next : (table : List ℕ) (n : ℕ) → n < length table → ClearedTo table n → ClearedTo (set table n 0) (n + 1)
-cleared_next table n inside t k l =
-    ⊎_elim
-    (λ (w : k < n). get_or-set_other table n k _ 0 (λ z. omega arith) ∙ t k w)
-    (λ (w : n ≤ k). let same : k ≡ n = omega arith in rw same (get_or-set_same table n 0 0 inside))
-    (lt_or_ge k n)
-
-pub cleared_none : (top : ℕ) (table : List ℕ) (n : ℕ) → table_size top ≤ length table → length table ≤ n → ClearedTo table n → NoSums top table
-cleared_none top table n whole all t =
-    record {
-      whole = whole;
-      zeros = λ k. ⊎_elim (λ (w : k < n). t k w) (λ (w : n ≤ k). get_or-eq_default table 0 (omega arith)) (lt_or_ge k n);
-    }
-
-pub filling_none : {top : ℕ} (table : List ℕ) (rows : List Row) (most : ℕ) → NoSums top table → Filling top rows rows table most
-filling_none {top} table rows most e =
-    record { sums = λ lane a h l i. omega (arith, e.zeros (cell_of top lane a h)); bounded = λ k. omega (arith, e.zeros k) }
 
 -- there is room for a row more
 pub filling_room : {top : ℕ} (all left : List Row) (table : List ℕ) (most : ℕ) (r : Row) → Filling top all left table most → Tabled top r

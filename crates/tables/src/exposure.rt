@@ -21,7 +21,7 @@ fn hour_exposure(x: AccountHour, price: CentsPerMwh) -> MilliCents
     let short = short(x.net);
     let owed = short.at(price);
     let waits = x.sales.at(price);
-    owed.plus(waits)
+    owed + waits
 }
 
 // The exposure of an account over all hours, at the estimated prices.
@@ -32,12 +32,10 @@ fn account_exposure(book: &[u8], table: &[u32], top: usize, number: u8) -> Milli
 {
     let n = counts(book);
     let mut sum = MilliCents(0);
-    let mut hour: u8 = 1;
-    while hour <= n.hours {
+    for hour in 1..=n.hours {
         let x = account_hour(table, top, number, hour);
         let price = estimate(book, hour);
-        sum = sum.plus(hour_exposure(x, price));
-        hour = hour + 1;
+        sum = sum + hour_exposure(x, price);
     }
     sum
 }
@@ -62,10 +60,8 @@ pub fn exposure_of(book: &[u8], table: &[u32], top: usize, operator: u8) -> Mill
 {
     let n = counts(book);
     let mut sum = MilliCents(0);
-    let mut number: u8 = 1;
-    while number <= n.accounts {
-        sum = sum.plus(exposure_share(book, table, top, number, operator));
-        number = number + 1;
+    for number in 1..=n.accounts {
+        sum = sum + exposure_share(book, table, top, number, operator);
     }
     sum
 }

@@ -16,13 +16,10 @@ fn hours_kept(book: &[u8], table: &[u32], top: usize, number: u8) -> bool
     ensures { ForRowsSummedIn top table.now (λ rows. result ≡ account_keeps (setup_of book.now) rows number) }
 {
     let n = counts(book);
-    let mut hour: u8 = 1;
-    while hour <= n.hours {
+    for hour in 1..=n.hours {
         let own = margins(book, number, hour);
         let x = account_hour(table, top, number, hour);
-        if keeps_margins(own, x) {
-            hour = hour + 1;
-        } else {
+        if !keeps_margins(own, x) {
             return false;
         }
     }
@@ -35,11 +32,8 @@ pub fn margins_kept(book: &[u8], table: &[u32], top: usize) -> bool
     ensures { ForRowsSummedIn top table.now (λ rows. result ≡ margins_kept (setup_of book.now) rows) }
 {
     let n = counts(book);
-    let mut number: u8 = 1;
-    while number <= n.accounts {
-        if hours_kept(book, table, top, number) {
-            number = number + 1;
-        } else {
+    for number in 1..=n.accounts {
+        if !hours_kept(book, table, top, number) {
             return false;
         }
     }

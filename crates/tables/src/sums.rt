@@ -17,7 +17,7 @@ use rules::sides::{BUYS, SELLS};
 use rules::statuses::{CONFIRMED, PENDING};
 use rules::{AccountHour, Net, Row};
 use units::Kwh;
-use wire::numbers::get_u32;
+use wire::numbers::get;
 use wire::signed::MODULUS_U32;
 
 // The lanes of the table.
@@ -104,12 +104,7 @@ pub fn clear(table: &mut [u32])
     requires { table_size most_hours ≤ length table.old }
     ensures { NoSums most_hours table.new }
 {
-    let n = table.len();
-    let mut i = 0;
-    while i < n {
-        table[i] = 0;
-        i = i + 1;
-    }
+    table.fill(0);
 }
 
 // Adds the `n` rows from `at` on to a table of no rows.
@@ -117,13 +112,9 @@ pub fn fill(table: &mut [u32], top: usize, s: &[u8], at: usize, n: usize)
     requires { NoSums top table.old × (top ≤ most_periods) × RowsTabled top s.now at n }
     ensures { SumsOf top (rows_from s.now at n) table.new }
 {
-    let mut place = at;
-    let mut left = n;
-    while 0 < left {
-        let r = row_at(s, place);
+    for i in 0..n {
+        let r = row_at(s, at + ROW_WIDTH * i);
         add_row(table, top, r);
-        place = place + ROW_WIDTH;
-        left = left - 1;
     }
 }
 
@@ -158,7 +149,7 @@ fn net_matches(s: &[u8], nets: usize, table: &[u32], top: usize, account: u8, ho
     ensures { result ≡ net_stored top s.now nets table.now account hour }
 {
     let at = nets + NET_WIDTH * place(top, account, hour);
-    let stored = get_u32(s, at) as u64;
+    let stored = get::<u32>(s, at) as u64;
     let bought = sum_at(table, top, BOUGHT, account, hour) as u64;
     let sold = sum_at(table, top, SOLD, account, hour) as u64;
     (stored + sold) % MODULUS_U32 == bought % MODULUS_U32
@@ -169,11 +160,8 @@ fn account_nets_match(s: &[u8], nets: usize, table: &[u32], top: usize, account:
     requires { NetsInside top s.now nets × SumTable top table.now × AccountInTable account }
     ensures { result ≡ every (net_stored top s.now nets table.now account) (up_to top) }
 {
-    let mut hour: u8 = 1;
-    while hour as usize <= top {
-        if net_matches(s, nets, table, top, account, hour) {
-            hour = hour + 1;
-        } else {
+    for hour in 1..=top as u8 {
+        if !net_matches(s, nets, table, top, account, hour) {
             return false;
         }
     }
@@ -185,11 +173,8 @@ pub fn nets_match(s: &[u8], nets: usize, table: &[u32], top: usize) -> bool
     requires { NetsInside top s.now nets × SumTable top table.now }
     ensures { result ≡ nets_stored top s.now nets table.now }
 {
-    let mut account: u8 = 1;
-    while account <= MOST_ACCOUNTS {
-        if account_nets_match(s, nets, table, top, account) {
-            account = account + 1;
-        } else {
+    for account in 1..=MOST_ACCOUNTS {
+        if !account_nets_match(s, nets, table, top, account) {
             return false;
         }
     }

@@ -4,10 +4,11 @@
 ghost use Rattle.std.specs.Prelude.{◌<◌, ◌≤◌, length, IfOk};
 ghost use Rattle.io.specs.Counts.{IsPrefixLen};
 
-use rules::verdicts::refusal_numbers;
-use rules::{ExposureReading, NetReading, Numbers, Position, ValuedHour};
+use rules::{Numbers, Position, Refusal, ValuedHour};
 use std::io::{Read, Result, Write};
-use wire::numbers::get_u16;
+use std::result;
+use units::MilliCents;
+use wire::numbers::get;
 
 // The bytes of a case before its body: a tag and a length.
 pub const HEAD: usize = 3;
@@ -21,7 +22,7 @@ pub fn case_end(input: &[u8], at: usize) -> usize
     if left < HEAD {
         return input.len();
     }
-    let size = get_u16(input, at + 1) as usize;
+    let size = get::<u16>(input, at + 1) as usize;
     if left - HEAD < size {
         return input.len();
     }
@@ -33,6 +34,7 @@ pub fn read_full<R: Read>(from: &mut R, buffer: &mut [u8]) -> Result<usize>
     ensures { IfOk result (λ n. IsPrefixLen n buffer.new) }
 {
     let mut filled = 0;
+    // No index: a read says itself how far it came.
     while filled < buffer.len() {
         let more = from.read(&mut buffer[filled..])?;
         if more == 0 {
@@ -113,13 +115,18 @@ fn position<W: Write>(out: &mut W, p: Position) -> Result<()> {
 }
 
 // The line of a net position that was read.
-pub fn net_line<W: Write>(out: &mut W, account: u8, hour: u8, reading: NetReading) -> Result<()> {
+pub fn net_line<W: Write>(
+    out: &mut W,
+    account: u8,
+    hour: u8,
+    reading: result::Result<Position, Refusal>,
+) -> Result<()> {
     begin(out, b'a')?;
     small(out, account)?;
     small(out, hour)?;
     match reading {
-        NetReading::Unread(r) => verdict(out, refusal_numbers(r))?,
-        NetReading::Read(p) => {
+        Err(r) => verdict(out, r.into())?,
+        Ok(p) => {
             verdict(out, ACCEPTED)?;
             position(out, p)?;
         }
@@ -128,10 +135,13 @@ pub fn net_line<W: Write>(out: &mut W, account: u8, hour: u8, reading: NetReadin
 }
 
 // What is left of the line of an exposure that was read.
-fn exposure_rest<W: Write>(out: &mut W, reading: ExposureReading) -> Result<()> {
+fn exposure_rest<W: Write>(
+    out: &mut W,
+    reading: result::Result<MilliCents, Refusal>,
+) -> Result<()> {
     match reading {
-        ExposureReading::Unread(r) => verdict(out, refusal_numbers(r))?,
-        ExposureReading::Read(m) => {
+        Err(r) => verdict(out, r.into())?,
+        Ok(m) => {
             verdict(out, ACCEPTED)?;
             number(out, m.0)?;
         }
@@ -140,7 +150,11 @@ fn exposure_rest<W: Write>(out: &mut W, reading: ExposureReading) -> Result<()> 
 }
 
 // The line of an exposure that was read.
-pub fn exposure_line<W: Write>(out: &mut W, operator: u8, reading: ExposureReading) -> Result<()> {
+pub fn exposure_line<W: Write>(
+    out: &mut W,
+    operator: u8,
+    reading: result::Result<MilliCents, Refusal>,
+) -> Result<()> {
     begin(out, b'e')?;
     small(out, operator)?;
     exposure_rest(out, reading)
@@ -151,7 +165,7 @@ pub fn hourly_exposure_line<W: Write>(
     out: &mut W,
     operator: u8,
     hour: u8,
-    reading: ExposureReading,
+    reading: result::Result<MilliCents, Refusal>,
 ) -> Result<()> {
     begin(out, b'i')?;
     small(out, operator)?;

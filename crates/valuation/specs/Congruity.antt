@@ -7,6 +7,8 @@ use Rattle.rules.specs.declared.Schedule.{Schedule}
 use Rattle.rules.specs.Limits.{most_hours}
 use Rattle.rules.specs.Books.{Setup, injecting_side, mixed_kind}
 use Rattle.rules.specs.Settlement.{Judged, account_of}
+use Rattle.valuation.specs.declared.congruity.Judgement.{Judgement}
+use Rattle.valuation.specs.declared.congruity.Judgement.TheVariants.{Registered, OverPoint, OverAccount, NotTaken}
 use Rattle.valuation.specs.Tables.{setup_in, nets_in, cell_for, point_cells, used_cells, judged_as, JudgedInRange, UsedBy, UsedIn, judge_in}
 
 -- the table has a cell for the holder of a limit, of so many at most, in the schedule's hour and side
@@ -46,6 +48,13 @@ price_number hours p x = if eqb x.side injecting_side || eqb p.kind mixed_kind t
 -- taken at the price that is met
 abbrev pub taken_at : Schedule → CentsPerMwh → Bool
 taken_at x met = if eqb x.side injecting_side then leb x.price.0 met.0 else leb met.0 x.price.0
+
+-- the number of a result
+abbrev pub result_number : Judgement → ℕ
+result_number Registered = 0
+result_number OverPoint = 1
+result_number OverAccount = 2
+result_number NotTaken = 3
 
 -- the result, by the three tests
 abbrev pub result_by : Bool → Bool → Bool → ℕ

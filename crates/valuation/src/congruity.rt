@@ -5,7 +5,7 @@ ghost use Rattle.rules.specs.Opening.{price_width};
 ghost use Rattle.image.specs.Valid.{is_sound};
 ghost use Rattle.image.specs.Tables.{Room};
 ghost use Rattle.valuation.specs.Tables.{Priced, OnPoint, setup_in, numbered_price, cell_for, used_cells};
-ghost use Rattle.valuation.specs.Congruity.{InCells, nothing_used, greatest, left_by, over_point, over_account, price_number, taken_at, result_by, ResultIn, UsedWith};
+ghost use Rattle.valuation.specs.Congruity.{InCells, nothing_used, greatest, left_by, over_point, over_account, price_number, taken_at, result_number, result_by, ResultIn, UsedWith};
 
 use crate::prices::price;
 use book::positions::net_at;
@@ -16,14 +16,23 @@ use rules::{Net, Point, Schedule};
 use setup::counts::counts;
 use units::{CentsPerMwh, Kwh};
 
-// The results.
-pub const REGISTERED: u8 = 0;
+// The result of a schedule. In the order of their numbers, 0 to 3.
+#[derive(Clone, Copy)]
+pub enum Judgement {
+    Registered,
+    OverPoint,
+    OverAccount,
+    NotTaken,
+}
 
-const OVER_POINT: u8 = 1;
-
-const OVER_ACCOUNT: u8 = 2;
-
-const NOT_TAKEN: u8 = 3;
+impl Judgement {
+    // The number by which settle gives a result.
+    pub fn number(self) -> u8
+        ensures { (result ≡ result_number self) × (result ≤ 3) }
+    {
+        self as u8
+    }
+}
 
 // The table of what is used up: the cells of one holder of a limit, of all points, and of the whole.
 const HOLDER_CELLS: usize = 2 * PERIODS;
@@ -103,9 +112,9 @@ fn taken_at(x: Schedule, met: CentsPerMwh) -> bool
     ensures { result ≡ taken_at x met }
 {
     if x.side == INJECTS {
-        return x.price.at_most(met);
+        return x.price <= met;
     }
-    met.at_most(x.price)
+    met <= x.price
 }
 
 // Whether a schedule on the point is taken at the prices of the table.
@@ -119,27 +128,26 @@ fn is_taken(prices: &[u8], hours: u8, point: Point, x: Schedule) -> bool
 }
 
 // The result by three tests, in their order: the point's limit is passed, the account's is, the price takes it.
-fn ranked_result(point: bool, account: bool, taken: bool) -> u8
-    ensures { (result ≡ result_by point account taken) × (result ≤ 3) }
+fn ranked_result(point: bool, account: bool, taken: bool) -> Judgement
+    ensures { result_number result ≡ result_by point account taken }
 {
     if point {
-        return OVER_POINT;
+        return Judgement::OverPoint;
     }
     if account {
-        return OVER_ACCOUNT;
+        return Judgement::OverAccount;
     }
     if taken {
-        return REGISTERED;
+        return Judgement::Registered;
     }
-    NOT_TAKEN
+    Judgement::NotTaken
 }
 
 // The result of a schedule on its point, after those that used up what the table says.
-pub fn result_of(book: &[u8], prices: &[u8], used: &[u32], point: Point, x: Schedule) -> u8
+pub fn result_of(book: &[u8], prices: &[u8], used: &[u32], point: Point, x: Schedule) -> Judgement
     requires priced { Priced book.now prices.now }
     requires on_point { OnPoint (setup_in book.now) point x × (length used.now ≡ used_cells) }
-    ensures meaning { ResultIn book.now prices.now used.now x result }
-    ensures bounded { result ≤ 3 }
+    ensures { ResultIn book.now prices.now used.now x (result_number result) }
 {
     let n = counts(book);
     let over_point = over_point(used, x, point);
@@ -148,25 +156,17 @@ pub fn result_of(book: &[u8], prices: &[u8], used: &[u32], point: Point, x: Sche
     ranked_result(over_point, over_account, taken)
 }
 
-// What a schedule of that result uses up: its quantity where it is congruous.
+// What a schedule of the result with that number uses up: its quantity where it is congruous.
 fn share(quantity: Kwh, res: u8) -> Kwh
     ensures { (result.0 ≡ (if eqb res 0 || eqb res 3 then quantity.0 else 0)) × (result.0 ≤ quantity.0) }
 {
-    if (res == REGISTERED) | (res == NOT_TAKEN) {
+    if (res == Judgement::Registered as u8) | (res == Judgement::NotTaken as u8) {
         return quantity;
     }
     Kwh(0)
 }
 
-// Adds `q` to a cell.
-pub fn add_to(table: &mut [u32], k: usize, q: u32)
-    requires { (k < length table.old) × (get_or table.old k 0 + q < 2 ^ 32) }
-    ensures { table.new ≡ set table.old k (get_or table.old k 0 + q) }
-{
-    table[k] = table[k] + q;
-}
-
-// Counts a schedule of that result: a congruous one uses up its quantity of its point's and its account's limits.
+// Counts a schedule of the result with that number: a congruous one uses up its quantity of its point's and its account's limits.
 pub fn use_up(used: &mut [u32], account: u8, x: Schedule, res: u8)
     requires in_cells { InCells most_points x.point x × InCells most_accounts account x }
     requires used_table { (length used.old ≡ used_cells) × Room used.old 0 x.quantity.0 }
@@ -175,8 +175,8 @@ pub fn use_up(used: &mut [u32], account: u8, x: Schedule, res: u8)
     let q = share(x.quantity, res);
     let at_point = cell_for(x.point, x);
     let at_account = POINT_CELLS + cell_for(account, x);
-    add_to(used, at_point, q.0);
-    add_to(used, at_account, q.0);
+    used[at_point] += q.0;
+    used[at_account] += q.0;
 }
 
 // The table before any schedule is judged.

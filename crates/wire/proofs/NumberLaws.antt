@@ -1,6 +1,7 @@
 -- Numbers and their bytes, there and back, at every width.
-use Rattle.std.proofs.Common.{◌≡◌, ℕ, zero, suc, ◌+◌, ◌-◌, ◌*◌, ◌/◌, ◌%◌, ◌^◌, ◌<◌, ◌≤◌, Bool, true, false, cond, ltb, List, [], ◌∷◌, ◌++◌, length, get_or, take, drop, ℤ, pos, negsuc, neg_ℤ, nat_abs, sym, refl, ap, ◌∙◌, lt_of_lt_of_le, add-zero, mod-lt, mod-eq_of_lt, mul_assoc, suc-mul, zero-add, mul-add, arith, length-drop, length-take, length-take-le, w8, Fits, ltb-false, ltb-true, le-ltb, lt-ltb}
-use native.Mathlib.Nat.{mod-one, mod_self, mod-add-div, add-mul-mod_self_left, pow-succ', one-le-pow, pow-le-pow_right}
+use Rattle.std.proofs.Common.{◌≡◌, ℕ, zero, suc, ◌+◌, ◌-◌, ◌*◌, ◌/◌, ◌%◌, ◌^◌, ◌<◌, ◌≤◌, Bool, true, false, cond, ltb, List, [], ◌∷◌, ◌++◌, length, get_or, take, drop, ℤ, pos, negsuc, neg_ℤ, nat_abs, sym, refl, ap, ◌∙◌, lt_of_lt_of_le, add-zero, mod-lt, mod-eq_of_lt, mul_assoc, suc-mul, zero-add, mul-add, arith, length-drop, length-take, length-take-le, take_all, w8, Fits, ltb-false, ltb-true, le-ltb, lt-ltb}
+use Rattle.std.specs.Int.{bytes_low_first, byte_worth, sum_through}
+use native.Mathlib.Nat.{div-one, div-div-eq-div-mul, mod-one, mod_self, mod-add-div, add-mul-mod_self_left, pow-suc, pow-succ', one-le-pow, pow-le-pow_right}
 use lib.Seq.{take-nil}
 use lib.IntN.{sub_ℕ}
 use Rattle.wire.specs.Numbers.{number, number_at, le, signed, minus_word, figure_in, Bytes, none, more}
@@ -120,11 +121,6 @@ number_at_add s at (suc m) n =
     let f : at + suc m ≡ suc at + m = omega arith in
     rw (e, f, number_at-step s at (m + n), number_at-step s at m, number_at_add s (suc at) m n, pow-succ' 256 m) (omega (arith, mul_assoc 256 (256 ^ m) (number_at s (suc at + m) n)))
 
--- the same, of what was read in two parts
-pub number_at_join : (s : List ℕ) (at m n : ℕ) {low high : ℕ} → low ≡ number_at s at m → high ≡ number_at s (at + m) n
-    → low + 256 ^ m * high ≡ number_at s at (m + n)
-number_at_join s at m n e f = rw (e, f) (sym (number_at_add s at m n))
-
 -- a number fits its width, and every greater one
 pub number_at_below : {s : List ℕ} → Bytes s → (at w n : ℕ) → w ≤ n → number_at s at w < 256 ^ n
 unfolding number_at
@@ -141,6 +137,40 @@ pub le-number_at : {s : List ℕ} → Bytes s → (at w : ℕ) → at + w ≤ le
 unfolding number_at
 le-number_at {s} h at w f =
     le_number_wide (bytes_take w (bytes_drop at h)) w (length-take-le w (drop at s) (omega (arith, length-drop at s)))
+
+-- ---- the library's bytes
+
+-- k bytes of a number, from byte i upward
+library_bytes : (i k v : ℕ) → bytes_low_first i k v ≡ le k (v / 256 ^ i)
+unfolding le
+library_bytes i zero v = refl
+library_bytes zero (suc k) v =
+    let e : v / 256 ^ 0 ≡ v = div-one v in
+    rw e (ap (λ (bs : List ℕ). v % 256 ∷ bs) (library_bytes 1 k v))
+library_bytes (suc i) (suc k) v =
+    let e : v / 256 ^ suc i / 256 ≡ v / 256 ^ suc (suc i) = div-div-eq-div-mul v (256 ^ suc i) 256 ∙ ap (λ n. v / n) (sym (pow-suc 256 (suc i))) in
+    rw e (ap (λ (bs : List ℕ). v / 256 ^ suc i % 256 ∷ bs) (library_bytes (suc (suc i)) k v))
+
+-- the bytes that a number becomes
+pub to_bytes : (w v : ℕ) → bytes_low_first 0 w v ≡ le w v
+to_bytes w v = library_bytes 0 w v ∙ ap (le w) (div-one v)
+
+-- bytes are their number's, where it has no more of them
+pub number_whole : (s : List ℕ) (w : ℕ) → length s ≡ w → number_at s 0 w ≡ number s
+unfolding number_at
+number_whole s w e = ap number (take_all w s (omega arith))
+
+-- what the library adds up, of the first of the bytes
+sum_bytes : (s : List ℕ) (n : ℕ) → sum_through (λ i. byte_worth i (get_or s i 0)) n ≡ number_at s 0 (suc n)
+sum_bytes s zero = sym (number_at_one s 0)
+sum_bytes s (suc n) =
+    let e : suc (suc n) ≡ suc n + 1 = omega arith in
+    let high : number_at s (0 + suc n) 1 ≡ get_or s (suc n) 0 = rw (zero-add (suc n)) (number_at_one s (suc n)) in
+    rw (e, number_at_add s 0 (suc n) 1, high) (omega (arith, sum_bytes s n))
+
+-- the number that bytes make
+pub from_bytes : (s : List ℕ) (n : ℕ) → length s ≡ suc n → sum_through (λ i. byte_worth i (get_or s i 0)) n ≡ number s
+from_bytes s n e = sum_bytes s n ∙ number_whole s (suc n) e
 
 -- ---- signed numbers
 

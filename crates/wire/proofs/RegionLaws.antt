@@ -3,6 +3,10 @@ use Rattle.std.proofs.Common.{◌≡◌, ℕ, zero, suc, ◌+◌, ◌-◌, ◌^�
 use mathlib.Core.Bool.{and_assoc, and-true}
 use lib.ListN.{get_or-append}
 use lib.Seq.{paste-zero, paste-suc, length-paste, length_paste_head, take-length, drop-length, take-append-le, take-append-add, drop-append-le, drop-append-add, set_split}
+use borrow.Rule.Slice.PartMut.{put_mid}
+use Rattle.std.specs.List.{between}
+use Rattle.std.proofs.lemmas.List.Edits.{get_or-between}
+use Rattle.std.proofs.lemmas.Slice.{put_mid-paste}
 use Rattle.wire.specs.Numbers.{number, number_at, le, Bytes}
 use Rattle.wire.specs.Regions.{splice, pasted, Apart, zeros_from}
 use Rattle.wire.proofs.NumberLaws.{length-le, number-le, bytes_take, bytes_drop, bytes_append}
@@ -18,12 +22,10 @@ pub pasted-more : (d : List ℕ) (at : ℕ) (s x : List ℕ) (j : ℕ) → at + 
 unfolding pasted
 pasted-more d at s x j hd hs e = rw (e, add-one) (paste-suc d at s j 0 hd hs)
 
-pub pasted_all : (d : List ℕ) (at : ℕ) (s : List ℕ) (n : ℕ) → n ≡ length s → pasted d at s n ≡ splice d at s
-unfolding splice
-pasted_all d at s n e = rw e
-
-pub pasted-same : (d : List ℕ) (at : ℕ) (s : List ℕ) (n m : ℕ) → n ≡ m → pasted d at s n ≡ pasted d at s m
-pasted-same d at s n m e = rw e
+-- a part of a list that holds a region now
+pub part_spliced : (d : List ℕ) (at k : ℕ) (part s : List ℕ) → part ≡ s → k ≡ length s → put_mid at k d part ≡ splice d at s
+unfolding splice pasted
+part_spliced d at k part s e h = put_mid-paste at k d part s (length s) e (sym h) refl
 
 -- a copy of the first n bytes is a splice of them
 pub pasted-splice : (d : List ℕ) (at : ℕ) (s : List ℕ) (n : ℕ) → n ≤ length s → pasted d at s n ≡ splice d at (take n s)
@@ -164,9 +166,14 @@ pub zeros-step : (s : List ℕ) (k n m : ℕ) → n ≡ m + 1 → zeros_from s k
 unfolding zeros_from
 zeros-step s k n m e = rw (e, add-one m)
 
-pub zeros-so_far : (ok : Bool) (s : List ℕ) (k n m : ℕ) → n ≡ m + 1
-    → (ok && zeros_from s k n) ≡ ((ok && eqb (get_or s k 0) 0) && zeros_from s (k + 1) m)
-zeros-so_far ok s k n m e = rw (zeros-step s k n m e) (sym (and_assoc ok _ _))
+-- one byte more of the region from `from` on
+pub zeros-so_far : (ok : Bool) (s : List ℕ) (from n i : ℕ) → i < n
+    → (ok && zeros_from s (from + i) (n - i)) ≡ ((ok && eqb (get_or (between from (from + n) s) i 0) 0) && zeros_from s (from + (i + 1)) (n - (i + 1)))
+zeros-so_far ok s from n i h =
+    let b : get_or (between from (from + n) s) i 0 ≡ get_or s (from + i) 0 = get_or-between s from (from + n) i 0 (omega arith) in
+    let e : n - i ≡ n - (i + 1) + 1 = omega arith in
+    let a : from + i + 1 ≡ from + (i + 1) = omega arith in
+    rw (zeros-step s (from + i) (n - i) (n - (i + 1)) e, b, a) (sym (and_assoc ok _ _))
 
 pub zeros_all : (ok : Bool) (s : List ℕ) (k n : ℕ) → n ≤ 0 → (ok && zeros_from s k n) ≡ ok
 zeros_all ok s k n h = rw (zeros_done s k n h) (and-true ok)

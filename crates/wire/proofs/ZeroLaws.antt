@@ -1,11 +1,14 @@
 -- Zero bytes: how many, side by side, under a number or a region, and found by the test.
-use Rattle.std.proofs.Common.{◌≡◌, ℕ, zero, suc, ◌+◌, ◌-◌, ◌<◌, ◌≤◌, true, eqb, List, [], ◌∷◌, ◌++◌, length, get_or, take, drop, set, sym, refl, ap, ◌∙◌, add-one, arith, length-append, drop-cons, take_at, eq-eqb, eqb-true}
+use Rattle.std.proofs.Common.{◌≡◌, ℕ, zero, suc, ◌+◌, ◌-◌, ◌≤◌, true, eqb, List, [], ◌∷◌, ◌++◌, length, get_or, take, drop, replicate, sym, refl, ap, ◌∙◌, add-one, arith, length-append, drop-cons, take_at, eq-eqb, eqb-true}
 use mathlib.Core.Bool.{and-eq-true_iff}
-use lib.ListN.{length-replicate, get_or-replicate, replicate-append-replicate}
+use lib.ListN.{length-replicate, replicate-append-replicate}
+use borrow.Rule.Slice.PartMut.{put_mid}
+use Rattle.std.specs.List.{between}
+use Rattle.std.proofs.lemmas.List.Edits.{length-between}
 use Rattle.wire.specs.Numbers.{le, Bytes, none, more}
-use Rattle.wire.specs.Regions.{splice, pasted, zeros_from}
+use Rattle.wire.specs.Regions.{splice, zeros_from}
 use Rattle.wire.specs.Parts.{zeros, padded}
-use Rattle.wire.proofs.RegionLaws.{pasted-more, pasted_all, splice_left, splice_all}
+use Rattle.wire.proofs.RegionLaws.{part_spliced, splice_left, splice_all}
 
 pub length-zeros : (n : ℕ) → length (zeros n) ≡ n
 unfolding zeros
@@ -30,16 +33,13 @@ unfolding le zeros
 le_zero zero = refl
 le_zero (suc w) = ap (λ (l : List ℕ). 0 ∷ l) (le_zero w)
 
--- one byte more of a region that is cleared, and all of it
-pub cleared_more : (d : List ℕ) (at n : ℕ) (x : List ℕ) (j : ℕ) → at + n ≤ length d → j < n → x ≡ pasted d at (zeros n) j
-    → set x (at + j) 0 ≡ pasted d at (zeros n) (j + 1)
+-- a part of a list that is filled with zeros
+pub part_cleared : (d : List ℕ) (at n : ℕ) (part : List ℕ) → at + n ≤ length d
+    → part ≡ replicate (length (between at (at + n) d)) 0 → put_mid at (at + n - at) d part ≡ splice d at (zeros n)
 unfolding zeros
-cleared_more d at n x j h l e =
-    let z : get_or (zeros n) j 0 ≡ 0 = get_or-replicate n j 0 0 l in
-    ap (set x (at + j)) (sym z) ∙ pasted-more d at (zeros n) x j (omega arith) (omega (arith, length-zeros n)) e
-
-pub cleared_all : (d : List ℕ) (at n j : ℕ) → j ≡ n → pasted d at (zeros n) j ≡ splice d at (zeros n)
-cleared_all d at n j e = pasted_all d at (zeros n) j (e ∙ sym (length-zeros n))
+part_cleared d at n part h e =
+    let l : length (between at (at + n) d) ≡ n = length-between d at (at + n) h ∙ omega arith in
+    part_spliced d at (at + n - at) part (zeros n) (e ∙ ap (λ (k : ℕ). replicate k 0) l) (omega (arith, length-zeros n))
 
 -- ---- bytes, and zeros up to n
 

@@ -1,112 +1,107 @@
-// Numbers in bytes, low byte first: as arrays of bytes, read from a place of a slice, and written there.
-ghost use Rattle.std.specs.Prelude.{◌≡◌, ◌+◌, ◌≤◌, length};
-ghost use Rattle.wire.specs.Numbers.{number_at, le};
+// Numbers in bytes, low byte first: read from a place of a slice, and written there.
+ghost use Rattle.std.specs.Prelude.{◌≡◌, ℕ, ◌+◌, ◌≤◌, length};
+ghost use Rattle.wire.specs.Numbers.{number, number_at, le};
 ghost use Rattle.wire.specs.Regions.{splice};
 
-use crate::regions::copy_in;
+// An unsigned number of a fixed width in bytes.
+pub trait Word: Copy {
+    // How many bytes it fills.
+    const WIDTH: usize;
 
-// The 2 bytes of `v`.
-pub fn u16_bytes(v: u16) -> [u8; 2]
-    ensures { result ≡ le 2 v }
-{
-    [(v % 256) as u8, (v / 256 % 256) as u8]
+    ghost WIDTH: { ℕ };
+
+    // The number itself.
+    ghost value: { Self → ℕ };
+
+    // The number that these bytes make.
+    fn from_bytes(bytes: &[u8]) -> Self
+        requires { length bytes.now ≡ WIDTH }
+        ensures { value result ≡ number bytes.now };
+
+    // Puts the number into these bytes.
+    fn put_into(self, bytes: &mut [u8])
+        requires { length bytes.old ≡ WIDTH }
+        ensures { bytes.new ≡ le WIDTH (value self) };
 }
 
-// The 4 bytes of `v`.
-pub fn u32_bytes(v: u32) -> [u8; 4]
-    ensures { result ≡ le 4 v }
-{
-    [
-        (v % 256) as u8,
-        (v / 256 % 256) as u8,
-        (v / 256 / 256 % 256) as u8,
-        (v / 256 / 256 / 256 % 256) as u8,
-    ]
+impl Word for u8 {
+    const WIDTH: usize = 1;
+
+    ghost WIDTH = { 1 };
+
+    ghost value = { λ v. v };
+
+    fn from_bytes(bytes: &[u8]) -> u8 {
+        bytes[0]
+    }
+
+    fn put_into(self, bytes: &mut [u8]) {
+        bytes.copy_from_slice(&self.to_le_bytes());
+    }
 }
 
-// The 8 bytes of `v`.
-pub fn u64_bytes(v: u64) -> [u8; 8]
-    ensures { result ≡ le 8 v }
-{
-    [
-        (v % 256) as u8,
-        (v / 256 % 256) as u8,
-        (v / 256 / 256 % 256) as u8,
-        (v / 256 / 256 / 256 % 256) as u8,
-        (v / 256 / 256 / 256 / 256 % 256) as u8,
-        (v / 256 / 256 / 256 / 256 / 256 % 256) as u8,
-        (v / 256 / 256 / 256 / 256 / 256 / 256 % 256) as u8,
-        (v / 256 / 256 / 256 / 256 / 256 / 256 / 256 % 256) as u8,
-    ]
+impl Word for u16 {
+    const WIDTH: usize = 2;
+
+    ghost WIDTH = { 2 };
+
+    ghost value = { λ v. v };
+
+    fn from_bytes(bytes: &[u8]) -> u16 {
+        u16::from_le_bytes([bytes[0], bytes[1]])
+    }
+
+    fn put_into(self, bytes: &mut [u8]) {
+        bytes.copy_from_slice(&self.to_le_bytes());
+    }
 }
 
-// The byte at `at`.
-pub fn get_u8(s: &[u8], at: usize) -> u8
-    requires { at + 1 ≤ length s.now }
-    ensures { result ≡ number_at s.now at 1 }
-{
-    s[at]
+impl Word for u32 {
+    const WIDTH: usize = 4;
+
+    ghost WIDTH = { 4 };
+
+    ghost value = { λ v. v };
+
+    fn from_bytes(bytes: &[u8]) -> u32 {
+        u32::from_le_bytes([bytes[0], bytes[1], bytes[2], bytes[3]])
+    }
+
+    fn put_into(self, bytes: &mut [u8]) {
+        bytes.copy_from_slice(&self.to_le_bytes());
+    }
 }
 
-// The number in the 2 bytes from `at` on.
-pub fn get_u16(s: &[u8], at: usize) -> u16
-    requires { at + 2 ≤ length s.now }
-    ensures { result ≡ number_at s.now at 2 }
-{
-    let low = get_u8(s, at);
-    let high = get_u8(s, at + 1);
-    (low as u16) + 256 * (high as u16)
+impl Word for u64 {
+    const WIDTH: usize = 8;
+
+    ghost WIDTH = { 8 };
+
+    ghost value = { λ v. v };
+
+    fn from_bytes(bytes: &[u8]) -> u64 {
+        u64::from_le_bytes([
+            bytes[0], bytes[1], bytes[2], bytes[3], bytes[4], bytes[5], bytes[6], bytes[7],
+        ])
+    }
+
+    fn put_into(self, bytes: &mut [u8]) {
+        bytes.copy_from_slice(&self.to_le_bytes());
+    }
 }
 
-// The number in the 4 bytes from `at` on.
-pub fn get_u32(s: &[u8], at: usize) -> u32
-    requires { at + 4 ≤ length s.now }
-    ensures { result ≡ number_at s.now at 4 }
+// The number in the bytes from `at` on.
+pub fn get<W: Word>(s: &[u8], at: usize) -> W
+    requires { at + W.WIDTH ≤ length s.now }
+    ensures { W.value result ≡ number_at s.now at W.WIDTH }
 {
-    let low = get_u16(s, at);
-    let high = get_u16(s, at + 2);
-    (low as u32) + 65536 * (high as u32)
+    W::from_bytes(&s[at..at + W::WIDTH])
 }
 
-// The number in the 8 bytes from `at` on.
-pub fn get_u64(s: &[u8], at: usize) -> u64
-    requires { at + 8 ≤ length s.now }
-    ensures { result ≡ number_at s.now at 8 }
+// Puts `v` into the bytes from `at` on.
+pub fn put<W: Word>(s: &mut [u8], at: usize, v: W)
+    requires { at + W.WIDTH ≤ length s.old }
+    ensures { s.new ≡ splice s.old at (le W.WIDTH (W.value v)) }
 {
-    let low = get_u32(s, at);
-    let high = get_u32(s, at + 4);
-    (low as u64) + 4294967296 * (high as u64)
-}
-
-// Puts `v` into the byte at `at`.
-pub fn put_u8(s: &mut [u8], at: usize, v: u8)
-    requires { at + 1 ≤ length s.old }
-    ensures { s.new ≡ splice s.old at (le 1 v) }
-{
-    let b = [v];
-    copy_in(s, at, &b);
-}
-
-// Puts `v` into the 2 bytes from `at` on.
-pub fn put_u16(s: &mut [u8], at: usize, v: u16)
-    requires { at + 2 ≤ length s.old }
-    ensures { s.new ≡ splice s.old at (le 2 v) }
-{
-    copy_in(s, at, &u16_bytes(v));
-}
-
-// Puts `v` into the 4 bytes from `at` on.
-pub fn put_u32(s: &mut [u8], at: usize, v: u32)
-    requires { at + 4 ≤ length s.old }
-    ensures { s.new ≡ splice s.old at (le 4 v) }
-{
-    copy_in(s, at, &u32_bytes(v));
-}
-
-// Puts `v` into the 8 bytes from `at` on.
-pub fn put_u64(s: &mut [u8], at: usize, v: u64)
-    requires { at + 8 ≤ length s.old }
-    ensures { s.new ≡ splice s.old at (le 8 v) }
-{
-    copy_in(s, at, &u64_bytes(v));
+    v.put_into(&mut s[at..at + W::WIDTH]);
 }

@@ -1,9 +1,9 @@
 -- Every call leaves a valid book valid: a refused one leaves the book, an accepted one passed the checks of its kind.
+use Rattle.std.specs.Prelude.{Option, None, Some}
 use Prim.Native.Nat.{ℕ, ◌^◌, ◌<◌}
 use mathlib.Core.Path.{◌≡◌, refl, ap, ◌∙◌}
 use mathlib.Core.Logic.{◌⊎◌, inl, inr, ⊎_elim}
 use mathlib.Core.List.{List, [], ◌∷◌}
-use mathlib.Core.Option.{Option, none, some}
 use mathlib.Core.Bool.{Bool, true, false, not}
 use native.Mathlib.Omega.{arith}
 use Rattle.wire.specs.Numbers.{Bytes}
@@ -72,20 +72,20 @@ cleared_stands b = up_to_every _ most_accounts (λ a low high. rw (none_there a)
 -- an ask is judged whatever others stand
 judged_alone : (b : Book) (asks : List (Option Row)) (o : Option Row) → ask_stands (with_asks b asks) o ≡ ask_stands b o
 unfolding would_register state_checks apply
-judged_alone b asks none = refl
-judged_alone b asks (some r) = refl
+judged_alone b asks None = refl
+judged_alone b asks (Some r) = refl
 
 -- one more that register would accept stands beside the others
 pub stood_stands : (b : Book) (r : Row) → asks_stand b ≡ true → would_register b r ≡ true
-    → asks_stand (with_asks b (put b.asks r.proposer (some r))) ≡ true
+    → asks_stand (with_asks b (put b.asks r.proposer (Some r))) ≡ true
 unfolding asks_stand
 stood_stands b r old new =
     up_to_every _ most_accounts (λ a low high.
-    judged_alone b (put b.asks r.proposer (some r)) (nth (put b.asks r.proposer (some r)) a none)
+    judged_alone b (put b.asks r.proposer (Some r)) (nth (put b.asks r.proposer (Some r)) a None)
     ∙ place r.proposer a (every_up_to (λ a. ask_stands b (ask_at b a)) most_accounts old a low high))
   where
-    place : (p a : ℕ) → ask_stands b (ask_at b a) ≡ true → ask_stands b (nth (put b.asks p (some r)) a none) ≡ true
-    place p a h = ⊎_elim (λ w. rw w.1 new) (λ w. rw w.0 h) (put_place b.asks p a (some r) none)
+    place : (p a : ℕ) → ask_stands b (ask_at b a) ≡ true → ask_stands b (nth (put b.asks p (Some r)) a None) ≡ true
+    place p a h = ⊎_elim (λ w. rw w.1 new) (λ w. rw w.0 h) (put_place b.asks p a (Some r) None)
 
 -- an accepted ask is one that register would accept
 ask_would_register : (b : Book) (qs : List Request) → Asked ask qs → Clear (state_checks b register qs) → would_register b (proposed (first_of qs)) ≡ true
@@ -155,9 +155,9 @@ pub batch_calls_alone_change_saved : (b : Book) (c : Call) → call_kind c one_o
 batch_calls_alone_change_saved b c e = saved_go b c e (step_cases b c)
 
 -- while a batch is open the saved rows are the first of the present ones but for their status
-pub batch_follows : (b : Book) (p : Part) → SoundBook b → b.saved ≡ some p → follows p.rows b.part.rows ≡ true
+pub batch_follows : (b : Book) (p : Part) → SoundBook b → b.saved ≡ Some p → follows p.rows b.part.rows ≡ true
 batch_follows b p s e = follows_go b.saved e s.saved_sound
   where
-    follows_go : (saved : Option Part) → saved ≡ some p → SavedSound b.setup b.part.rows saved → follows p.rows b.part.rows ≡ true
-    follows_go none e h = let z : ◌≡◌ {A = ℕ} 0 1 = cc in absurd (omega arith)
-    follows_go (some old) e h = let same : old ≡ p = cc in rw (← same) h.1
+    follows_go : (saved : Option Part) → saved ≡ Some p → SavedSound b.setup b.part.rows saved → follows p.rows b.part.rows ≡ true
+    follows_go None e h = let z : ◌≡◌ {A = ℕ} 0 1 = cc in absurd (omega arith)
+    follows_go (Some old) e h = let same : old ≡ p = cc in rw (← same) h.1

@@ -1,9 +1,9 @@
 -- Every change that brings what it needs keeps a book sound.
+use Rattle.std.specs.Prelude.{Option, None, Some}
 use Prim.Native.Nat.{ℕ, ◌≤◌, ◌<◌}
 use mathlib.Core.Path.{◌≡◌, refl, ◌∙◌}
 use mathlib.Core.List.{List, [], ◌∷◌}
 use mathlib.Core.Logic.{⊎_elim}
-use mathlib.Core.Option.{Option, none, some}
 use mathlib.Core.Bool.{true, false}
 use native.Mathlib.Omega.{arith}
 use lib.ListN.{length, length-append}
@@ -37,7 +37,7 @@ Allowed b (set_guarantee o g) = (b.phase ≡ 1) × Coverable b.setup b.part o g
 Allowed b save_part = b.phase ≡ 1
 Allowed b restore_part = b.phase ≡ 1
 Allowed b drop_saved = b.phase ≡ 1
-Allowed b shut_gate = b.saved ≡ none
+Allowed b shut_gate = b.saved ≡ None
 Allowed b (add_schedule x) = Placeable b x
 Allowed b end_day = b.phase ≡ 1 → ⊥
 Allowed b (stand_ask r) = AskRow b.setup r.proposer r
@@ -62,7 +62,7 @@ in_registration b p saved s first part batch =
     }
 
 -- after phase 1, with no batch open, a sound part in which no row is pending and sound schedules make a sound book
-after_registration : (b : Book) (phase : ℕ) (p : Part) (xs : List Schedule) → SoundBook b → 2 ≤ phase → phase ≤ 3 → b.saved ≡ none
+after_registration : (b : Book) (phase : ℕ) (p : Part) (xs : List Schedule) → SoundBook b → 2 ≤ phase → phase ≤ 3 → b.saved ≡ None
     → SoundPart b.setup p → any_passes pending p.rows ≡ false → length xs ≤ most_schedules → Each (SoundSchedule b.setup) xs
     → SoundBook (with_schedules (with_part (with_phase b phase) p) xs)
 after_registration b phase p xs s later known batch part ended few schedules =
@@ -83,7 +83,7 @@ after_registration b phase p xs s later known batch part ended few schedules =
 
 -- other asks that are sound make a sound book
 pub asked_sound : (b : Book) (asks : List (Option Row)) → SoundBook b → length asks ≡ most_accounts
-    → ((a : ℕ) → 1 ≤ a → a ≤ most_accounts → SoundAsk b.setup a (nth asks a none)) → SoundBook (with_asks b asks)
+    → ((a : ℕ) → 1 ≤ a → a ≤ most_accounts → SoundAsk b.setup a (nth asks a None)) → SoundBook (with_asks b asks)
 asked_sound b asks s all each =
     record {
       setup_sound = s.setup_sound;
@@ -105,13 +105,13 @@ pub cleared_sound : (b : Book) → SoundBook b → SoundBook (with_asks b no_ask
 cleared_sound b s = asked_sound b no_asks s refl (λ a low high. rw (none_there a) tt)
 
 -- one ask put among sound ones, in the place of its account
-stood_sound : (b : Book) (r : Row) → SoundBook b → AskRow b.setup r.proposer r → SoundBook (with_asks b (put b.asks r.proposer (some r)))
+stood_sound : (b : Book) (r : Row) → SoundBook b → AskRow b.setup r.proposer r → SoundBook (with_asks b (put b.asks r.proposer (Some r)))
 stood_sound b r s own =
-    asked_sound b (put b.asks r.proposer (some r)) s (length_put b.asks r.proposer (some r) ∙ s.asks_all) (λ a low high.
+    asked_sound b (put b.asks r.proposer (Some r)) s (length_put b.asks r.proposer (Some r) ∙ s.asks_all) (λ a low high.
     ⊎_elim
     (λ w. rw w.1 (record { own = w.0; waits = own.waits; row_sound = own.row_sound }))
     (λ w. rw w.0 (s.asks_sound a low high))
-    (put_place b.asks r.proposer a (some r) none))
+    (put_place b.asks r.proposer a (Some r) None))
 
 past_first : (b : Book) → SoundBook b → (b.phase ≡ 1 → ⊥) → 2 ≤ b.phase
 past_first b s later = ⊎_elim (λ (l : b.phase < 2). absurd (later (omega (arith, s.phase_low)))) (λ l. l) (lt_or_ge b.phase 2)
@@ -119,13 +119,13 @@ past_first b s later = ⊎_elim (λ (l : b.phase < 2). absurd (later (omega (ari
 -- a saved part is followed yet
 saved_followed_lem : (u : Setup) (rows later : List Row) (saved : Option Part)
     → ((xs : List Row) → follows xs rows ≡ true → follows xs later ≡ true) → SavedSound u rows saved → SavedSound u later saved
-saved_followed_lem u rows later none f h = tt
-saved_followed_lem u rows later (some p) f h = (h.0, f p.rows h.1)
+saved_followed_lem u rows later None f h = tt
+saved_followed_lem u rows later (Some p) f h = (h.0, f p.rows h.1)
 
 saved_part : (u : Setup) (rows : List Row) (saved : Option Part) (p : Part) → SavedSound u rows saved → SoundPart u p
     → SoundPart u (restored saved p)
-saved_part u rows none p h s = s
-saved_part u rows (some old) p h s = h.0
+saved_part u rows None p h s = s
+saved_part u rows (Some old) p h s = h.0
 
 pub apply_keeps : (x : Change) (b : Book) → SoundBook b → Allowed b x → SoundBook (apply x b)
 unfolding apply
@@ -140,11 +140,11 @@ apply_keeps (set_status number status) b s w =
 apply_keeps (set_guarantee o g) b s w =
     in_registration b _ b.saved s w.0 (part_guaranteed b.setup b.part s.part_sound o g w.1) s.saved_sound
 apply_keeps save_part b s w =
-    in_registration b b.part (some b.part) s w s.part_sound (s.part_sound, follows_refl b.part.rows)
+    in_registration b b.part (Some b.part) s w s.part_sound (s.part_sound, follows_refl b.part.rows)
 -- undo restores a part that was sound
 apply_keeps restore_part b s w =
-    in_registration b _ none s w (saved_part b.setup b.part.rows b.saved b.part s.saved_sound s.part_sound) tt
-apply_keeps drop_saved b s w = in_registration b b.part none s w s.part_sound tt
+    in_registration b _ None s w (saved_part b.setup b.part.rows b.saved b.part s.saved_sound s.part_sound) tt
+apply_keeps drop_saved b s w = in_registration b b.part None s w s.part_sound tt
 apply_keeps shut_gate b s w =
     after_registration b 2 _ b.schedules s (omega arith) (omega arith) w (part_closed b.setup b.part s.part_sound) (closed_none_pending b.part.rows) s.schedules_high s.schedules_sound
 apply_keeps (add_schedule x) b s w =

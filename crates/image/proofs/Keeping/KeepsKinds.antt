@@ -1,8 +1,8 @@
 -- Each kind brings what its change needs: the checks that an accepted call passed say so of a sound book.
+use Rattle.std.specs.Prelude.{None}
 use Prim.Native.Nat.{ℕ, ◌^◌, ◌<◌}
 use mathlib.Core.Path.{◌≡◌, refl, ◌∙◌}
 use mathlib.Core.List.{List, ◌++◌, map}
-use mathlib.Core.Option.{none}
 use mathlib.Core.Bool.{true, false}
 use native.Mathlib.Omega.{arith}
 use lib.ListN.{get_or}
@@ -26,17 +26,17 @@ use Rattle.image.proofs.Keeping.KeepsChanges.{Allowed}
 -- ---- what an accepted request's fields hold
 
 -- each field of the kind is in range
-module _ (u : Setup) (k : Kind) (q : Request) (named : q.kind ≡ kind_number k) (fine : faulty_bit (counts_of u) q ≡ none) where
+module _ (u : Setup) (k : Kind) (q : Request) (named : q.kind ≡ kind_number k) (fine : faulty_bit (counts_of u) q ≡ None) where
   passed_field : (i : ℕ) → i < field_count → bit (wanted_map (kind_number k)) i ≡ true → get_or (in_range (counts_of u) q) i true ≡ true
   passed_field i l e = field_in_range (counts_of u) q i fine l (rw named e)
 
 -- and so is each of a trade
-trade_field : (u : Setup) (q : Request) → TradeFields q → faulty_bit (counts_of u) q ≡ none
+trade_field : (u : Setup) (q : Request) → TradeFields q → faulty_bit (counts_of u) q ≡ None
     → (i : ℕ) → i < field_count → bit (wanted_map (kind_number register)) i ≡ true → get_or (in_range (counts_of u) q) i true ≡ true
 trade_field u q fields fine i l e = field_in_range (counts_of u) q i fine l (rw fields e)
 
 -- what register proposes is a row of the book
-pub proposed_sound : (u : Setup) (q : Request) → TradeFields q → q.code < 256 ^ 8 → faulty_bit (counts_of u) q ≡ none
+pub proposed_sound : (u : Setup) (q : Request) → TradeFields q → q.code < 256 ^ 8 → faulty_bit (counts_of u) q ≡ None
     → same_accounts q ≡ false → SoundRow u (proposed q)
 unfolding bit in_range
 proposed_sound u q fields code fine differ =
@@ -66,7 +66,7 @@ proposed_sound u q fields code fine differ =
     }
 
 -- what schedule adds is a schedule of the book
-pub scheduled_sound : (u : Setup) (q : Request) → q.kind ≡ kind_number schedule → faulty_bit (counts_of u) q ≡ none → SoundSchedule u (scheduled q)
+pub scheduled_sound : (u : Setup) (q : Request) → q.kind ≡ kind_number schedule → faulty_bit (counts_of u) q ≡ None → SoundSchedule u (scheduled q)
 unfolding bit in_range
 scheduled_sound u q named fine =
     let field = passed_field u schedule q named fine in
@@ -94,7 +94,7 @@ CodesFit qs = Each (λ q. q.code < 256 ^ 8) qs
 
 -- each row that is proposed is one of the book
 pub each_proposed_sound : (u : Setup) {qs : List Request} → Each TradeFields qs → CodesFit qs
-    → Each (λ q. faulty_bit (counts_of u) q ≡ none) qs → Each (λ q. same_accounts q ≡ false) qs → Each (λ q. SoundRow u (proposed q)) qs
+    → Each (λ q. faulty_bit (counts_of u) q ≡ None) qs → Each (λ q. same_accounts q ≡ false) qs → Each (λ q. SoundRow u (proposed q)) qs
 each_proposed_sound u nil nil nil nil = nil
 each_proposed_sound u (cons {x = q} fields others) (cons code codes) (cons fine fines) (cons differ differs) =
     cons (proposed_sound u q fields code fine differ) (each_proposed_sound u others codes fines differs)
@@ -107,7 +107,7 @@ module _ (b : Book) (qs : List Request) (s : SoundBook b) where
   -- rows that are added: a register's, a strip's, a commit's
   rows_allowed : (k : Kind) (c : Call) → k one_of adding ≡ true → b.phase ≡ phase_of k → phase_of k ≡ registration_phase → Each TradeFields qs → CodesFit qs
       → Clear (input_checks b c k qs) → Clear (state_checks b k qs)
-      → broken_hour b.setup (b.part.rows ++ map proposed qs) (first_of qs).account ≡ none
+      → broken_hour b.setup (b.part.rows ++ map proposed qs) (first_of qs).account ≡ None
       → covered b.setup (part_rows b.part (b.part.rows ++ map proposed qs)) (operator_of b.setup (first_of qs).account) ≡ true
       → Allowed b (add_rows (map proposed qs))
   rows_allowed k c adds at first fields codes input state margins cover = (

@@ -1,10 +1,10 @@
 -- What a change makes of a sound part is sound, where it brings what it needs: each account is eased, or is the caller's, which was checked anew; so is each
 -- operator.
+use Rattle.std.specs.Prelude.{None}
 use Prim.Native.Nat.{ℕ, zero, suc, ◌+◌, ◌≤◌}
 use mathlib.Core.Path.{◌≡◌, refl, sym, ap, ◌∙◌}
 use mathlib.Core.Logic.{⊎_elim}
 use mathlib.Core.List.{List, ◌++◌, map}
-use mathlib.Core.Option.{none}
 use mathlib.Core.Bool.{Bool, true, false, not}
 use native.Mathlib.Omega.{arith}
 use lib.ListN.{length, length-append, length-map, length-set}
@@ -28,7 +28,7 @@ use Rattle.image.proofs.Keeping.KeepsRows.{each_set, row_marked, twins_added, tw
 use Rattle.image.proofs.Keeping.Easing.{ProposedBy, added_eases_others, confirm_eases_others, withdraw_eases, close_eases}
 
 -- no hour breaks a margin of the account
-pub unbroken : (u : Setup) (rows : List Row) (a : ℕ) → broken_hour u rows a ≡ none
+pub unbroken : (u : Setup) (rows : List Row) (a : ℕ) → broken_hour u rows a ≡ None
     → (h : ℕ) → 1 ≤ h → h ≤ periods u → keeps_margins (margins_at u a h) (account_hour rows a h) ≡ true
 unfolding broken_hour
 unbroken u rows a e h l m =
@@ -39,7 +39,7 @@ unbroken u rows a e h l m =
 
 module _ (u : Setup) (gs : List Cents) (rows later : List Row) (caller : ℕ)
     (eased : (a h : ℕ) → (a ≡ caller → ⊥) → Eased (account_hour rows a h) (account_hour later a h)) where
-  margins_kept : broken_hour u later caller ≡ none → (a h : ℕ) → 1 ≤ h → h ≤ periods u
+  margins_kept : broken_hour u later caller ≡ None → (a h : ℕ) → 1 ≤ h → h ≤ periods u
       → keeps_margins (margins_at u a h) (account_hour rows a h) ≡ true → keeps_margins (margins_at u a h) (account_hour later a h) ≡ true
   margins_kept checked a h l m old = go (eqb a caller) refl
     where
@@ -87,7 +87,7 @@ pub record Addable (u : Setup) (p : Part) (rows : List Row) : Type 0 where
   pub all_sound : Each (SoundRow u) rows
   pub none_alike : no_twins (p.rows ++ rows) ≡ true
   pub few : length p.rows + length rows ≤ most_rows
-  pub unbroken : broken_hour u (p.rows ++ rows) caller ≡ none
+  pub unbroken : broken_hour u (p.rows ++ rows) caller ≡ None
   pub backed : covered u (part_rows p (p.rows ++ rows)) (operator_of u caller) ≡ true
 
 -- a pending row that gets another status, which keeps every margin and guarantee
@@ -167,7 +167,7 @@ module _ (u : Setup) (p : Part) (sound : SoundPart u p) where
   -- what a register and a strip propose
   pub requests_addable : (qs : List Request) (caller : ℕ) → Each (λ q. q.account ≡ caller) qs → Each (λ q. SoundRow u (proposed q)) qs
       → any_passes (has_twin p.rows) qs ≡ false → twins qs ≡ false → length p.rows + length qs ≤ most_rows
-      → broken_hour u (p.rows ++ map proposed qs) caller ≡ none
+      → broken_hour u (p.rows ++ map proposed qs) caller ≡ None
       → covered u (part_rows p (p.rows ++ map proposed qs)) (operator_of u caller) ≡ true
       → Addable u p (map proposed qs)
   requests_addable qs caller own rows alone apart few unbroken backed =
@@ -183,7 +183,7 @@ module _ (u : Setup) (p : Part) (sound : SoundPart u p) where
 
   -- confirm is checked for its caller, the row's counterparty, and the caller's operator
   pub confirm_endable : (n caller : ℕ) → pending (nth p.rows n no_row) ≡ true → (nth p.rows n no_row).counterparty ≡ caller
-      → broken_hour u (mark n 2 p.rows) caller ≡ none
+      → broken_hour u (mark n 2 p.rows) caller ≡ None
       → covered u (part_rows p (mark n 2 p.rows)) (operator_of u caller) ≡ true
       → Endable u p n 2
   confirm_endable n caller waits calls unbroken backed =

@@ -1,9 +1,8 @@
 -- The book that an accepted set-up opens is valid: with no rows there is nothing to break a margin or to be covered.
-use Rattle.std.specs.Prelude.{if◌then◌else◌}
+use Rattle.std.specs.Prelude.{if◌then◌else◌, None}
 use Prim.Native.Nat.{ℕ, ◌+◌, ◌*◌, ◌≤◌}
 use mathlib.Core.Path.{◌≡◌, refl, sym, ◌∙◌}
 use mathlib.Core.List.{List, [], map}
-use mathlib.Core.Option.{none}
 use mathlib.Core.Bool.{Bool, true, false}
 use native.Mathlib.Nat.{mul-zero}
 use native.Mathlib.Omega.{arith}
@@ -43,7 +42,7 @@ nothing_exposed u o = total_none _ (up_to (account_count u)) (λ a. go a (eqb (o
     go a true = total_none _ (up_to (periods u)) (λ h. mul-zero (estimate_at u h).0)
     go a false = refl
 
-module _ (s : List ℕ) (h : setup_refusal s ≡ none) where
+module _ (s : List ℕ) (h : setup_refusal s ≡ None) where
   opened_part : SoundPart (setup_of s) (opened s).part
   unfolding opened setup_of guarantees_of no_twins keeps_margins covered moved waiting total
   opened_part =

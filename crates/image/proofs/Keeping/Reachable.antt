@@ -1,9 +1,9 @@
 -- What holds of every book that calls reach from a freshly opened one: such a book is valid, and a valid book's tests say that nets
 -- cancel, margins are kept and exposures are covered.
+use Rattle.std.specs.Prelude.{None}
 use Prim.Native.Nat.{ℕ, ◌≤◌}
 use mathlib.Core.Path.{◌≡◌, refl, ◌∙◌}
 use mathlib.Core.List.{List, [], ◌∷◌}
-use mathlib.Core.Option.{none}
 use mathlib.Core.Bool.{true}
 use lib.IntN.{pos, neg_ℤ}
 use lib.Signed.{◌≤ℤ◌}
@@ -93,7 +93,7 @@ after_setup b [] = refl
 after_setup b (c ∷ cs) = after_setup (step b c).book cs ∙ no_call_changes_setup b c
 
 -- from the book that accepted set-up bytes open
-module _ (s : List ℕ) (h : setup_refusal s ≡ none) (cs : List Call) (bytes : OfBytes cs) where
+module _ (s : List ℕ) (h : setup_refusal s ≡ None) (cs : List Call) (bytes : OfBytes cs) where
   pub reachable_valid : valid (after step (opened s) cs) ≡ true
   reachable_valid = after_valid (opened s) cs bytes (opened_valid s h)
 

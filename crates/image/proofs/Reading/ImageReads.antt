@@ -1,8 +1,8 @@
 -- What stands at a place of an image: each place lies in one section, and there in one cell.
+use Rattle.std.specs.Prelude.{Option, None, Some}
 use Prim.Native.Nat.{ℕ, zero, suc, ◌+◌, ◌-◌, ◌*◌, ◌%◌, ◌^◌, ◌≤◌, ◌<◌}
 use mathlib.Core.Path.{◌≡◌, refl, ap, ◌∙◌}
 use mathlib.Core.List.{List, [], ◌∷◌, map}
-use mathlib.Core.Option.{Option, none, some}
 use native.Mathlib.Omega.{arith}
 use lib.ListN.{length, get_or, take, drop, length-map}
 use lib.Seq.{take_all}
@@ -115,8 +115,8 @@ module _ (top size : ℕ) (b : Book) (f : Fits b) where
       ∙ number_alone 1 (flag b.saved) (small b.saved)
     where
       small : (o : Option Part) → flag o < 256 ^ 1
-      small none = omega arith
-      small (some p) = omega arith
+      small None = omega arith
+      small (Some p) = omega arith
 
   pub schedule_count_read : number_at (image top size b) schedule_count_offset 2 ≡ length b.schedules
   unfolding image sections sections_with
@@ -159,7 +159,7 @@ module _ (top size : ℕ) (b : Book) (f : Fits b) where
       read_part (book_widths top size) (sections top size b) (wide_book top size b f) 5 j m at (omega arith) l (omega arith)
 
   -- a piece of the saved part
-  pub saved_read : (p : Part) (j m at : ℕ) → b.saved ≡ some p → j + m ≤ part_size top → at ≡ saved_offset top + j
+  pub saved_read : (p : Part) (j m at : ℕ) → b.saved ≡ Some p → j + m ≤ part_size top → at ≡ saved_offset top + j
       → take m (drop at (image top size b)) ≡ take m (drop j (part_bytes top p))
   unfolding image sections sections_with saved_bytes
   saved_read p j m at s l e =
@@ -171,10 +171,10 @@ module _ (top size : ℕ) (b : Book) (f : Fits b) where
       → take row_width (drop at (image top size b)) ≡ ask_bytes (ask_at b a)
   unfolding image sections sections_with
   ask_read (suc i) at low high e =
-      let o : Option Row = get_or b.asks i none in
+      let o : Option Row = get_or b.asks i None in
       let af = f.asks_fit in
       read_part (book_widths top size) (sections top size b) (wide_book top size b f) asks_section (row_width * i) row_width at (omega arith) (omega arith) (omega arith)
-      ∙ slots_get row_width most_accounts ask_bytes length_ask b.asks i 0 row_width (row_width * i) none af (omega arith) (omega arith) (omega arith)
+      ∙ slots_get row_width most_accounts ask_bytes length_ask b.asks i 0 row_width (row_width * i) None af (omega arith) (omega arith) (omega arith)
       ∙ take_all row_width (ask_bytes o) (omega (arith, length_ask o))
   ask_read zero at low high e = absurd (omega arith)
 
@@ -183,7 +183,7 @@ module _ (top size : ℕ) (b : Book) (f : Fits b) where
   row_count_read =
       ap number (present_read row_count_offset 2 (present_offset + row_count_offset) (omega arith) refl) ∙ part_row_count top b.part f.part_fits
 
-  pub saved_row_count_read : (p : Part) → b.saved ≡ some p → number_at (image top size b) (saved_offset top + row_count_offset) 2 ≡ length p.rows
+  pub saved_row_count_read : (p : Part) → b.saved ≡ Some p → number_at (image top size b) (saved_offset top + row_count_offset) 2 ≡ length p.rows
   unfolding number_at
   saved_row_count_read p s =
       let sf : PartFits p = rw s at f.saved_fits in

@@ -1,8 +1,8 @@
 -- Set-up bytes are said again by what was read from them, and opening accepts them exactly where the set-up that they say is sound.
+use Rattle.std.specs.Prelude.{None}
 use Prim.Native.Nat.{ℕ, ◌*◌, ◌≤◌, ◌<◌}
 use mathlib.Core.Path.{◌≡◌, refl, sym, ap, ◌∙◌}
 use mathlib.Core.List.{List, [], ◌∷◌, ◌++◌, map}
-use mathlib.Core.Option.{none}
 use mathlib.Core.Bool.{true, false, not, ◌||◌}
 use native.Mathlib.Omega.{arith}
 use lib.ListN.{length, get_or, take, drop, replicate, length-map, length-drop}
@@ -95,7 +95,7 @@ module _ (s : List ℕ) where
 
 -- ---- bytes that opening accepts
 
-module _ (s : List ℕ) (h : setup_refusal s ≡ none) where
+module _ (s : List ℕ) (h : setup_refusal s ≡ None) where
   shape : misshapen s ≡ false
   unfolding setup_refusal
   shape = spared (misshapen s) _ (clear (setup_checks s) h).0
@@ -133,13 +133,13 @@ module _ (s : List ℕ) (h : setup_refusal s ≡ none) where
       )
 
 -- sound bytes as long as their counts say, with no guarantees, are accepted
-pub sound_accepted : (s : List ℕ) → length s ≡ setup_length (counts_in s) → NoGuarantees s → setup_ok (setup_of s) ≡ true → setup_refusal s ≡ none
+pub sound_accepted : (s : List ℕ) → length s ≡ setup_length (counts_in s) → NoGuarantees s → setup_ok (setup_of s) ≡ true → setup_refusal s ≡ None
 unfolding setup_ok setup_refusal misshapen
 sound_accepted s l z h =
     let bad : bad_counts (counts_in s) ≡ false = ap bad_counts (sym (counts_of_setup s)) ∙ not-true _ (holds_at 0 (setup_tests (setup_of s)) h) in
     let os : operators_of (replicate (operator_count (setup_of s)) (cents 0)) (setup_of s).maintenance ≡ operators_in s =
     ap (λ (gs : List Cents). operators_of gs (setup_of s).maintenance) (stored_guarantees s z) ∙ operators_read s in
-    let v : faulty_offset (setup_of s) (operators_in s) ≡ none = ap (faulty_offset (setup_of s)) (sym os) ∙ (sound_setup (setup_of s) h).in_range in
+    let v : faulty_offset (setup_of s) (operators_in s) ≡ None = ap (faulty_offset (setup_of s)) (sym os) ∙ (sound_setup (setup_of s) h).in_range in
     let short : ltb (length s) counts_width ≡ false = le-ltb (length s) counts_width (omega arith) in
     clear_applies (setup_checks s) (rw (short, bad, eq-eqb _ _ l), (rw v, tt))
 
@@ -190,10 +190,10 @@ module _ (r : List ℕ) where
       rw (hours, zones, estimates_front, operators_front, accounts_front, points_front)
 
   -- opening accepts the front of such bytes where the set-up in them is sound and no guarantee stands there
-  pub front_sound : setup_refusal (take (setup_length (counts_in r)) r) ≡ none → setup_ok (setup_of r) ≡ true
+  pub front_sound : setup_refusal (take (setup_length (counts_in r)) r) ≡ None → setup_ok (setup_of r) ≡ true
   front_sound h = ap setup_ok (sym setup_front) ∙ accepted_sound _ h
 
-  pub front_accepted : setup_length (counts_in r) ≤ length r → NoGuarantees r → setup_ok (setup_of r) ≡ true → setup_refusal (take (setup_length (counts_in r)) r) ≡ none
+  pub front_accepted : setup_length (counts_in r) ≤ length r → NoGuarantees r → setup_ok (setup_of r) ≡ true → setup_refusal (take (setup_length (counts_in r)) r) ≡ None
   unfolding front guarantees_of
   front_accepted l z h =
       sound_accepted front

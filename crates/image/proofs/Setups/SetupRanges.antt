@@ -1,10 +1,8 @@
 -- The values of a set-up are in range exactly where none is found at fault: entry by entry, whatever their offsets.
-use Rattle.std.specs.Prelude.{if◌then◌else◌}
+use Rattle.std.specs.Prelude.{if◌then◌else◌, option_map, Option, None, Some}
 use Prim.Native.Nat.{ℕ, ◌+◌, ◌≤◌}
 use mathlib.Core.Path.{◌≡◌, refl, ap}
 use mathlib.Core.List.{List, [], ◌∷◌, ◌++◌, map}
-use mathlib.Core.Option
-use mathlib.Core.Option.{Option, none, some}
 use mathlib.Core.Bool.{true, not, ◌||◌}
 use native.Mathlib.Omega.{arith}
 use lib.ListN.{length, replicate}
@@ -152,11 +150,11 @@ pub record InRange (u : Setup) (operators : List Operator) : Type 0 where
   pub accounts_sound : Each (SoundAccount (operator_count u)) u.accounts
   pub points_sound : Each (SoundPoint u.accounts u.zones) u.points
 
-none_found : (o : Option Value) → Option.map (λ v. v.0) o ≡ none → o ≡ none
-none_found none h = refl
-none_found (some v) h = cc
+none_found : (o : Option Value) → option_map (λ v. v.0) o ≡ None → o ≡ None
+none_found None h = refl
+none_found (Some v) h = cc
 
-pub values-in_range : (u : Setup) (operators : List Operator) → faulty_offset u operators ≡ none → InRange u operators
+pub values-in_range : (u : Setup) (operators : List Operator) → faulty_offset u operators ≡ None → InRange u operators
 unfolding faulty_offset values
 values-in_range u os h =
     let good : Each Good (values u os) = each_map (λ v e. not-false v.1 e) (find_none (λ v. not v.1) (values u os) (none_found _ h)) in
@@ -170,7 +168,7 @@ values-in_range u os h =
       points_sound = values_each point_entry (point_values u.accounts u.zones) (sound_point u.accounts u.zones) _ _ d.1;
     }
 
-pub in_range-values : (u : Setup) (operators : List Operator) → InRange u operators → faulty_offset u operators ≡ none
+pub in_range-values : (u : Setup) (operators : List Operator) → InRange u operators → faulty_offset u operators ≡ None
 unfolding faulty_offset values
 in_range-values u os s =
     let good : Each Good (values u os) =

@@ -1,9 +1,9 @@
 -- What the tests of a sound part and of a sound book say, each by its name, and that they say no more. A valid book is sound, and its asks
 -- stand.
+use Rattle.std.specs.Prelude.{Option, None, Some}
 use Prim.Native.Nat.{ℕ, ◌≤◌}
 use mathlib.Core.Path.{◌≡◌, refl}
 use mathlib.Core.List.{List}
-use mathlib.Core.Option.{Option, none, some}
 use mathlib.Core.Bool.{true, false, not, ◌&&◌}
 use lib.ListN.{length}
 use lib.Dec.{eqb}
@@ -64,8 +64,8 @@ part_sound u p s =
 -- ---- a book
 
 abbrev pub SavedSound : Setup → List Row → Option Part → Type 0
-SavedSound u rows none = Unit {0}
-SavedSound u rows (some p) = SoundPart u p × (follows p.rows rows ≡ true)
+SavedSound u rows None = Unit {0}
+SavedSound u rows (Some p) = SoundPart u p × (follows p.rows rows ≡ true)
 
 -- a row that stands as the ask of an account
 pub record AskRow (u : Setup) (a : ℕ) (r : Row) : Type 0 where
@@ -74,8 +74,8 @@ pub record AskRow (u : Setup) (a : ℕ) (r : Row) : Type 0 where
   pub row_sound : SoundRow u r
 
 abbrev pub SoundAsk : Setup → ℕ → Option Row → Type 0
-SoundAsk u a none = Unit {0}
-SoundAsk u a (some r) = AskRow u a r
+SoundAsk u a None = Unit {0}
+SoundAsk u a (Some r) = AskRow u a r
 
 pub record SoundBook (b : Book) : Type 0 where
   pub setup_sound : SoundSetup b.setup
@@ -87,30 +87,30 @@ pub record SoundBook (b : Book) : Type 0 where
   pub schedules_sound : Each (SoundSchedule b.setup) b.schedules
   pub none_pending : (b.phase ≡ 1 → ⊥) → any_passes pending b.part.rows ≡ false
   pub no_schedules : b.phase ≡ 1 → length b.schedules ≡ 0
-  pub no_batch : (b.phase ≡ 1 → ⊥) → b.saved ≡ none
+  pub no_batch : (b.phase ≡ 1 → ⊥) → b.saved ≡ None
   pub asks_all : length b.asks ≡ most_accounts
   pub asks_sound : (a : ℕ) → 1 ≤ a → a ≤ most_accounts → SoundAsk b.setup a (ask_at b a)
 
 sound_saved : (u : Setup) (rows : List Row) (o : Option Part) → saved_ok u rows o ≡ true → SavedSound u rows o
 unfolding saved_ok
-sound_saved u rows none h = tt
-sound_saved u rows (some p) h = let w = (and_both (part_ok u p) (follows p.rows rows)).0 h in (sound_part u p w.0, w.1)
+sound_saved u rows None h = tt
+sound_saved u rows (Some p) h = let w = (and_both (part_ok u p) (follows p.rows rows)).0 h in (sound_part u p w.0, w.1)
 
 saved_sound : (u : Setup) (rows : List Row) (o : Option Part) → SavedSound u rows o → saved_ok u rows o ≡ true
 unfolding saved_ok
-saved_sound u rows none h = refl
-saved_sound u rows (some p) h = (and_both (part_ok u p) (follows p.rows rows)).1 (part_sound u p h.0, h.1)
+saved_sound u rows None h = refl
+saved_sound u rows (Some p) h = (and_both (part_ok u p) (follows p.rows rows)).1 (part_sound u p h.0, h.1)
 
 sound_ask : (u : Setup) (a : ℕ) (o : Option Row) → ask_ok u a o ≡ true → SoundAsk u a o
-sound_ask u a none h = tt
-sound_ask u a (some r) h =
+sound_ask u a None h = tt
+sound_ask u a (Some r) h =
     let w = (and_both (eqb r.proposer a && pending r) (row_ok u r)).0 h in
     let v = (and_both (eqb r.proposer a) (pending r)).0 w.0 in
     record { own = eqb-true _ _ v.0; waits = v.1; row_sound = sound_row u r w.1 }
 
 ask_sound : (u : Setup) (a : ℕ) (o : Option Row) → SoundAsk u a o → ask_ok u a o ≡ true
-ask_sound u a none h = refl
-ask_sound u a (some r) h =
+ask_sound u a None h = refl
+ask_sound u a (Some r) h =
     (and_both (eqb r.proposer a && pending r) (row_ok u r)).1
     ((and_both (eqb r.proposer a) (pending r)).1 (eq-eqb _ _ h.own, h.waits), row_sound u r h.row_sound)
 

@@ -1,7 +1,7 @@
 -- What the tests of a sound set-up, row and schedule say, each by its name, and that they say no more.
+use Rattle.std.specs.Prelude.{Option, None}
 use Prim.Native.Nat.{ℕ, zero, suc, ◌+◌, ◌^◌, ◌≤◌, ◌<◌}
 use mathlib.Core.Path.{◌≡◌, refl}
-use mathlib.Core.Option.{Option, none}
 use mathlib.Core.Bool.{Bool, true, false, not, ◌||◌}
 use native.Mathlib.Omega.{arith}
 use lib.ListN.{length, replicate}
@@ -71,10 +71,10 @@ pub record SoundSetup (u : Setup) : Type 0 where
   pub zones_high : u.zones ≤ most_zones
   pub estimates_all : length u.estimates ≡ u.hours
   pub margins_all : Each (MarginsAll u.hours) u.accounts
-  pub in_range : faulty_offset u (operators_of (replicate (operator_count u) (cents 0)) u.maintenance) ≡ none
+  pub in_range : faulty_offset u (operators_of (replicate (operator_count u) (cents 0)) u.maintenance) ≡ None
 
 -- an option that holds nothing
-pub not_some : {A : Type 0} (o : Option A) → not (is_some o) ≡ true → o ≡ none
+pub not_some : {A : Type 0} (o : Option A) → not (is_some o) ≡ true → o ≡ None
 not_some o h = none_of o (not-true (is_some o) h)
 
 setup_facts : (u : Setup) → Holds (setup_tests u) → SoundSetup u

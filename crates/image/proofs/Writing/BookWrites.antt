@@ -1,9 +1,9 @@
 -- What a change writes: bytes of the image replaced, copied or looped over are the image of the book after it. Each write lies in
 -- one section, and the others stand.
+use Rattle.std.specs.Prelude.{None, Some}
 use Prim.Native.Nat.{ℕ, suc, ◌+◌, ◌-◌, ◌*◌, ◌^◌, ◌≤◌, ◌<◌}
 use mathlib.Core.Path.{◌≡◌, refl, ap, ◌∙◌}
 use mathlib.Core.List.{List, [], ◌∷◌, ◌++◌}
-use mathlib.Core.Option.{none, some}
 use mathlib.Core.Bool.{true}
 use native.Mathlib.Omega.{arith}
 use lib.ListN.{length, get_or, set, drop, length-append, length-drop}
@@ -185,7 +185,7 @@ module _ (top size : ℕ) (b : Book) (f : Fits b) where
 
   -- ---- a part restored: the saved one copied over the present one and cleared, then the flag
 
-  pub write_restored : (p : Part) → used_size top ≤ size → b.saved ≡ some p
+  pub write_restored : (p : Part) → used_size top ≤ size → b.saved ≡ Some p
       → splice (splice (pasted (image top size b) present_offset (drop (saved_offset top) (image top size b)) (part_size top)) (saved_offset top) (zeros (part_size top))) flag_offset (le 1 0)
       ≡ image top size (apply restore_part b)
   unfolding apply image sections sections_with saved_bytes
@@ -284,12 +284,12 @@ module _ (top size : ℕ) (b : Book) (f : Fits b) where
       let ss : List (List ℕ) = sections top size b in
       let w = wide_book top size b f in
       let af = f.asks_fit in
-      let old : List ℕ = ask_bytes (get_or b.asks i none) in
-      let lo = length_ask (get_or b.asks i none) in
+      let old : List ℕ = ask_bytes (get_or b.asks i None) in
+      let lo = length_ask (get_or b.asks i None) in
       let lr = length_row r in
-      let whole : splice old 0 (row_bytes r) ≡ ask_bytes (some r) = splice_all old (row_bytes r) (omega arith) in
+      let whole : splice old 0 (row_bytes r) ≡ ask_bytes (Some r) = splice_all old (row_bytes r) (omega arith) in
       let one = write_part ws ss w asks_section (row_width * i) at (row_bytes r) (omega arith) (omega arith) (omega arith) in
-      let put = slots_set row_width most_accounts ask_bytes length_ask b.asks i 0 (row_width * i) (row_bytes r) none (some r) af (omega arith) (omega arith) (omega arith) whole in
+      let put = slots_set row_width most_accounts ask_bytes length_ask b.asks i 0 (row_width * i) (row_bytes r) None (Some r) af (omega arith) (omega arith) (omega arith) whole in
       one ∙ rw (put, e)
 
   -- ---- all asks cleared

@@ -1,8 +1,8 @@
 -- What fits its room, asked as sizes and never as validity: each section of an image then has its width, whatever values stand in it.
+use Rattle.std.specs.Prelude.{Option, None, Some}
 use Prim.Native.Nat.{ℕ, suc, ◌*◌, ◌^◌, ◌≤◌, ◌<◌}
 use mathlib.Core.Path.{◌≡◌, refl, ap, ◌∙◌}
 use mathlib.Core.List.{List, [], ◌∷◌, map}
-use mathlib.Core.Option.{Option, none, some}
 use native.Mathlib.Omega.{arith}
 use lib.ListN.{length, length-append, length-map, length-replicate}
 use Rattle.wire.specs.Numbers.{le, signed}
@@ -56,8 +56,8 @@ pub record PartFits (p : Part) : Type 0 where
   pub rows_fit : length p.rows ≤ most_rows
 
 abbrev pub SavedFits : Option Part → Type 0
-SavedFits none = Unit {0}
-SavedFits (some p) = PartFits p
+SavedFits None = Unit {0}
+SavedFits (Some p) = PartFits p
 
 pub record Fits (b : Book) : Type 0 where
   pub setup_fits : length (stored_setup b.setup) ≤ setup_room
@@ -73,8 +73,8 @@ unfolding row_bytes
 length_row r = length-pack row_widths (row_values r) refl
 
 pub length_ask : (o : Option Row) → length (ask_bytes o) ≡ row_width
-length_ask none = length-zeros row_width
-length_ask (some r) = length_row r
+length_ask None = length-zeros row_width
+length_ask (Some r) = length_row r
 
 pub length-schedule : (x : Schedule) → length (schedule_bytes x) ≡ schedule_width
 unfolding schedule_bytes
@@ -115,8 +115,8 @@ length_part top p f = length-flat (part_widths top) (part_sections top p) (wide_
 
 pub length_saved : (top : ℕ) (o : Option Part) → SavedFits o → length (saved_bytes top o) ≡ part_size top
 unfolding saved_bytes
-length_saved top none f = length-zeros (part_size top)
-length_saved top (some p) f = length_part top p f
+length_saved top None f = length-zeros (part_size top)
+length_saved top (Some p) f = length_part top p f
 
 -- ---- a book
 
@@ -259,5 +259,5 @@ fits b s =
     }
   where
     saved : (rows : List Row) (o : Option Part) → SavedSound b.setup rows o → SavedFits o
-    saved rows none h = tt
-    saved rows (some p) h = part_fits_of b.setup p s.setup_sound.operators_high h.0
+    saved rows None h = tt
+    saved rows (Some p) h = part_fits_of b.setup p s.setup_sound.operators_high h.0

@@ -1,9 +1,9 @@
 -- What a search over a list says of its elements, by recursion on the list and cases on the test of its first element.
+use Rattle.std.specs.Prelude.{Option, None, Some}
 use Prim.Native.Nat.{ℕ, zero, suc, ◌+◌, ◌-◌, ◌≤◌, ◌<◌}
 use mathlib.Core.Path.{◌≡◌, refl, sym, ap, ◌∙◌}
 use mathlib.Core.Logic.{◌⊎◌, inl, inr, ⊎_elim}
 use mathlib.Core.List.{List, [], ◌∷◌, ◌++◌, map}
-use mathlib.Core.Option.{Option, none, some}
 use mathlib.Core.Bool.{Bool, true, false, ◌||◌}
 use native.Mathlib.Omega.{arith}
 use lib.ListN.{length, get_or}
@@ -11,13 +11,13 @@ use Rattle.rules.proofs.Basics.Tests.{and_both}
 use Rattle.rules.specs.Basics.{any_passes, every, find, index_of, is_some, nth, put, counting, Each, nil, cons}
 
 -- an option that holds something
-pub some_of {ℓ} : {A : Type ℓ} (o : Option A) → is_some o ≡ true → (x : A) × (o ≡ some x)
-some_of none e = let z : ◌≡◌ {A = ℕ} 0 1 = cc in absurd (omega arith)
-some_of (some x) e = (x, refl)
+pub some_of : {A : Type 0} (o : Option A) → is_some o ≡ true → (x : A) × (o ≡ Some x)
+some_of None e = let z : ◌≡◌ {A = ℕ} 0 1 = cc in absurd (omega arith)
+some_of (Some x) e = (x, refl)
 
-pub none_of {ℓ} : {A : Type ℓ} (o : Option A) → is_some o ≡ false → o ≡ none
-none_of none e = refl
-none_of (some x) e = let z : ◌≡◌ {A = ℕ} 0 1 = cc in absurd (omega arith)
+pub none_of : {A : Type 0} (o : Option A) → is_some o ≡ false → o ≡ None
+none_of None e = refl
+none_of (Some x) e = let z : ◌≡◌ {A = ℕ} 0 1 = cc in absurd (omega arith)
 
 -- the numbers counted, by index
 pub counting_at : (n from d i : ℕ) → i < n → get_or (counting n from) i d ≡ from + i
@@ -118,7 +118,7 @@ pub record First {ℓ} {A : Type ℓ} (p : A → Bool) (xs : List A) (d : A) (i 
   pub passes : p (get_or xs i d) ≡ true
   pub before : (j : ℕ) → j < i → p (get_or xs j d) ≡ false
 
-module _ {ℓ} {A : Type ℓ} (p : A → Bool) where
+module _ {A : Type 0} (p : A → Bool) where
   -- the first passes, or one of the others
   pub any_step : (x : A) (xs : List A) → any_passes p (x ∷ xs) ≡ p x || any_passes p xs
   unfolding any_passes
@@ -164,16 +164,16 @@ module _ {ℓ} {A : Type ℓ} (p : A → Bool) where
   each_every nil = refl
   each_every (cons {x = x} {xs = xs} e es) = (and_both (p x) (every p xs)).1 (e, each_every es)
 
-  find_go : (x : A) (xs : List A) (t : Bool) → p x ≡ t → find p (x ∷ xs) ≡ none → (p x ≡ false) × (find p xs ≡ none)
+  find_go : (x : A) (xs : List A) (t : Bool) → p x ≡ t → find p (x ∷ xs) ≡ None → (p x ≡ false) × (find p xs ≡ None)
   unfolding find
-  find_go x xs true e h = let z : some x ≡ none = rw (e, find) at h in (cc, cc)
+  find_go x xs true e h = let z : Some x ≡ None = rw (e, find) at h in (cc, cc)
   find_go x xs false e h = (e, rw (e, find) at h)
 
-  pub find_none : (xs : List A) → find p xs ≡ none → Each (λ x. p x ≡ false) xs
+  pub find_none : (xs : List A) → find p xs ≡ None → Each (λ x. p x ≡ false) xs
   find_none [] h = nil
   find_none (x ∷ xs) h = let w = find_go x xs (p x) refl h in cons w.0 (find_none xs w.1)
 
-  pub none_find : {xs : List A} → Each (λ x. p x ≡ false) xs → find p xs ≡ none
+  pub none_find : {xs : List A} → Each (λ x. p x ≡ false) xs → find p xs ≡ None
   unfolding find
   none_find nil = refl
   none_find (cons e es) = rw (e, find) (none_find es)
@@ -186,21 +186,21 @@ module _ {ℓ} {A : Type ℓ} (p : A → Bool) where
       before (suc j) h = f.before j (omega arith)
 
   index_go : (d x : A) (xs : List A) (i : ℕ) (t : Bool) → p x ≡ t → (o : Option ℕ) → index_of p xs ≡ o
-      → ((j : ℕ) → index_of p xs ≡ some j → First p xs d j) → index_of p (x ∷ xs) ≡ some i → First p (x ∷ xs) d i
+      → ((j : ℕ) → index_of p xs ≡ Some j → First p xs d j) → index_of p (x ∷ xs) ≡ Some i → First p (x ∷ xs) d i
   unfolding index_of
   index_go d x xs i true e o f ih h =
-      let z : some 0 ≡ some i = rw (e, index_of) at h in
+      let z : Some 0 ≡ Some i = rw (e, index_of) at h in
       let y : 0 ≡ i = cc in
       rw (← y) (record { inside = omega arith; passes = e; before = λ j l. absurd (omega arith) })
-  index_go d x xs i false e none f ih h =
-      let z : none ≡ some i = rw (e, index_of, f) at h in let y : ◌≡◌ {A = ℕ} 0 1 = cc in absurd (omega arith)
-  index_go d x xs i false e (some j) f ih h =
-      let z : some (suc j) ≡ some i = rw (e, index_of, f) at h in
+  index_go d x xs i false e None f ih h =
+      let z : None ≡ Some i = rw (e, index_of, f) at h in let y : ◌≡◌ {A = ℕ} 0 1 = cc in absurd (omega arith)
+  index_go d x xs i false e (Some j) f ih h =
+      let z : Some (suc j) ≡ Some i = rw (e, index_of, f) at h in
       let y : suc j ≡ i = cc in
       rw (← y) (first_next d x xs j e (ih j f))
 
   -- the index found is that of the first that passes
-  pub index_first : (d : A) (xs : List A) (i : ℕ) → index_of p xs ≡ some i → First p xs d i
+  pub index_first : (d : A) (xs : List A) (i : ℕ) → index_of p xs ≡ Some i → First p xs d i
   unfolding index_of
   index_first d [] i h = let y : ◌≡◌ {A = ℕ} 0 1 = cc in absurd (omega arith)
   index_first d (x ∷ xs) i h = index_go d x xs i (p x) refl (index_of p xs) refl (index_first d xs) h

@@ -1,11 +1,10 @@
 -- What an accepted call passed: no check of its ranked list applies, so each test of the list is false. A law for each number
 -- says that of its test, at the kinds to which the number applies.
-use Rattle.std.specs.Prelude.{if◌then◌else◌}
+use Rattle.std.specs.Prelude.{if◌then◌else◌, Option, None, Some}
 use Prim.Native.Nat.{ℕ, ◌+◌, ◌*◌, ◌^◌, ◌≤◌, ◌<◌}
 use mathlib.Core.Path.{◌≡◌, refl, sym, ap, ◌∙◌}
 use mathlib.Core.Logic.{◌⊎◌, inl, inr}
 use mathlib.Core.List.{List, [], ◌∷◌, ◌++◌, map}
-use mathlib.Core.Option.{Option, none, some}
 use mathlib.Core.Bool.{Bool, true, false, not, ◌&&◌, ◌||◌}
 use native.Mathlib.Omega.{arith}
 use lib.ListN.{length, get_or, length-map}
@@ -194,7 +193,7 @@ readable s h =
 -- ---- 5 to 10, of the input beside the book
 
 -- no field is at fault: each that stands is in range
-pub field_in_range : (n : Counts) (q : Request) (k : ℕ) → faulty_bit n q ≡ none → k < field_count
+pub field_in_range : (n : Counts) (q : Request) (k : ℕ) → faulty_bit n q ≡ None → k < field_count
     → bit (wanted_map q.kind) k ≡ true → get_or (in_range n q) k true ≡ true
 unfolding faulty_bit faulty_field bits
 field_in_range n q k h l e =
@@ -206,11 +205,11 @@ unfolding same_accounts
 two_accounts q h e = eqb-false _ _ (and_spared _ _ e h)
 
 -- one of a call's requests is not at fault: it has the proposer, and its fields are in range
-pub among_in_range : (n : Counts) (proposer : ℕ) (q : Request) → faulty_bit_among n proposer q ≡ none → (q.account ≡ proposer) × (faulty_bit n q ≡ none)
+pub among_in_range : (n : Counts) (proposer : ℕ) (q : Request) → faulty_bit_among n proposer q ≡ None → (q.account ≡ proposer) × (faulty_bit n q ≡ None)
 unfolding faulty_bit_among
 among_in_range n proposer q h = go (eqb q.account proposer) refl h
   where
-    go : (t : Bool) → eqb q.account proposer ≡ t → (if t then faulty_bit n q else some 1) ≡ none → (q.account ≡ proposer) × (faulty_bit n q ≡ none)
+    go : (t : Bool) → eqb q.account proposer ≡ t → (if t then faulty_bit n q else Some 1) ≡ None → (q.account ≡ proposer) × (faulty_bit n q ≡ None)
     go true e h = (eqb-true _ _ e, h)
     go false e h = let z : ◌≡◌ {A = ℕ} 0 1 = cc in absurd (omega arith)
 
@@ -237,18 +236,18 @@ module _ (b : Book) (c : Call) (qs : List Request) where
       ∷ []
 
   -- no field is at fault, then no price, then no pair of accounts, then no buffer
-  parts : (k : Kind) → Clear (input_checks b c k qs) → Clear ranges × ((applies (prices k) ≡ none) × (Clear accounts × Clear (buffers k)))
+  parts : (k : Kind) → Clear (input_checks b c k qs) → Clear ranges × ((applies (prices k) ≡ None) × (Clear accounts × Clear (buffers k)))
   unfolding input_checks
   parts k h =
       let w = clear_split (ranges ++ prices k ∷ accounts) (buffers k) h.1 in
       let v = clear_split ranges (prices k ∷ accounts) w.0 in
       (v.0, (v.1.0, (v.1.1, w.1)))
 
-  among : (k : Kind) → Clear (input_checks b c k qs) → Each (λ q. (q.account ≡ (first_of qs).account) × (faulty_bit (counts_of b.setup) q ≡ none)) qs
+  among : (k : Kind) → Clear (input_checks b c k qs) → Each (λ q. (q.account ≡ (first_of qs).account) × (faulty_bit (counts_of b.setup) q ≡ None)) qs
   among k h = each_map (λ q e. among_in_range _ _ q (spared↑ _ _ e)) (clear_each _ qs (parts k h).0)
 
   -- every field is in range
-  pub passed_6 : (k : Kind) → Clear (input_checks b c k qs) → Each (λ q. faulty_bit (counts_of b.setup) q ≡ none) qs
+  pub passed_6 : (k : Kind) → Clear (input_checks b c k qs) → Each (λ q. faulty_bit (counts_of b.setup) q ≡ None) qs
   passed_6 k h = each_map (λ q e. e.1) (among k h)
 
   -- all requests have one account
@@ -277,13 +276,13 @@ module _ (b : Book) (qs : List Request) where
   passed_11 k h = eqb-true _ _ (not-false _ (spared _ _ (clear_at 0 (state_checks b k qs) h)))
 
   -- no batch is open
-  pub passed_12 : (k : Kind) → k one_of (open_batch ∷ close_gate ∷ []) ≡ true → Clear (state_checks b k qs) → b.saved ≡ none
+  pub passed_12 : (k : Kind) → k one_of (open_batch ∷ close_gate ∷ []) ≡ true → Clear (state_checks b k qs) → b.saved ≡ None
   unfolding state_checks
   passed_12 k e h = none_of b.saved (spared_for _ _ _ e (clear_at 1 (state_checks b k qs) h))
 
   -- a batch is open
   pub passed_13 : (k : Kind) → k one_of (undo ∷ keep ∷ []) ≡ true → Clear (state_checks b k qs)
-      → (part : Part) × (b.saved ≡ some part)
+      → (part : Part) × (b.saved ≡ Some part)
   unfolding state_checks
   passed_13 k e h = some_of b.saved (not-false _ (spared_for _ _ _ e (clear_at 2 (state_checks b k qs) h)))
 
@@ -308,7 +307,7 @@ module _ (b : Book) (qs : List Request) where
   passed_15 k e h = leb-true _ _ (not-false _ (spared_for _ _ _ e (clear_at 6 (state_checks b k qs) h)))
 
   -- the row is there
-  pub passed_16_confirm : Clear (state_checks b confirm qs) → (i : ℕ) × (confirms b.part.rows (first_of qs) ≡ some i)
+  pub passed_16_confirm : Clear (state_checks b confirm qs) → (i : ℕ) × (confirms b.part.rows (first_of qs) ≡ Some i)
   unfolding state_checks
   passed_16_confirm h = some_of _ (not-false _ (spared _ _ (clear_at 7 (state_checks b confirm qs) h)))
 
@@ -323,7 +322,7 @@ module _ (b : Book) (qs : List Request) where
 
   -- no margin of the calling account is broken on the book as it will be
   pub passed_18 : (k : Kind) → k one_of (confirm ∷ adding) ≡ true → Clear (state_checks b k qs)
-      → broken_hour b.setup (changed k b qs).part.rows (first_of qs).account ≡ none
+      → broken_hour b.setup (changed k b qs).part.rows (first_of qs).account ≡ None
   unfolding state_checks
   passed_18 k e h = spared↑_for _ _ _ e (clear_at 10 (state_checks b k qs) h)
 
@@ -368,7 +367,7 @@ cleared_either P k b with_asks_lem without = go (k one_of (ask ∷ []))
 pub passed_asked : {b : Book} {c : Call} → Passed b c → Asked (call_kind c) (call_requests c)
 passed_asked {c} p = bytes_asked c.bytes p.read
 
-pub passed : (b : Book) (c : Call) → refusal b c ≡ none → Passed b c
+pub passed : (b : Book) (c : Call) → refusal b c ≡ None → Passed b c
 unfolding step answer refusal checks
 passed b c e =
     let r = bytes_checks c.bytes in
@@ -378,13 +377,13 @@ passed b c e =
     let inner = clear_split r i outer.0 in
     record { book = rw e; outcome = rw e; read = inner.0; input = inner.1; state = outer.1 }
 
-pub refused_keeps : (b : Book) (c : Call) (r : Refusal) → refusal b c ≡ some r → Kept b c
+pub refused_keeps : (b : Book) (c : Call) (r : Refusal) → refusal b c ≡ Some r → Kept b c
 unfolding step answer
 refused_keeps b c r e = record { why = r; outcome = rw e; book = rw e; results = rw e; balances = rw e }
 
 cases_go : (b : Book) (c : Call) (o : Option Refusal) → refusal b c ≡ o → Kept b c ⊎ Passed b c
-cases_go b c (some r) e = inl (refused_keeps b c r e)
-cases_go b c none e = inr (passed b c e)
+cases_go b c (Some r) e = inl (refused_keeps b c r e)
+cases_go b c None e = inr (passed b c e)
 
 -- a call is refused and keeps everything, or passed every check
 pub step_cases : (b : Book) (c : Call) → Kept b c ⊎ Passed b c
@@ -392,8 +391,8 @@ step_cases b c = cases_go b c (refusal b c) refl
 
 accepted_go : (b : Book) (c : Call) (n : ℕ) (o : Option Refusal) → refusal b c ≡ o → (answer b c o).outcome ≡ accepted n → Passed b c
 unfolding answer
-accepted_go b c n (some r) e h = absurd (never_both r n h)
-accepted_go b c n none e h = passed b c e
+accepted_go b c n (Some r) e h = absurd (never_both r n h)
+accepted_go b c n None e h = passed b c e
 
 -- a call that is accepted passed every check
 pub accepted_passed : (b : Book) (c : Call) (n : ℕ) → (step b c).outcome ≡ accepted n → Passed b c

@@ -1,11 +1,11 @@
 -- The ledger agrees with the book after any list of calls: an accepted call changes both alike, a refused one neither. The copy that undo
 -- puts back is the part that the book saved, and no schedule comes while a batch is open.
+use Rattle.std.specs.Prelude.{Option, None, Some}
 use Prim.Native.Nat.{ℕ}
 use mathlib.Core.Path.{◌≡◌, refl, sym, ap, ◌∙◌}
 use mathlib.Core.Bool.{true, false}
 use mathlib.Core.Logic.{◌⊎◌, inl, inr}
 use mathlib.Core.List.{List, [], ◌∷◌, ◌++◌, map}
-use mathlib.Core.Option.{Option, none, some}
 use native.Mathlib.Omega.{arith}
 use Rattle.rules.specs.declared.Schedule.{Schedule}
 use Rattle.rules.specs.declared.Request.{Request}
@@ -35,8 +35,8 @@ pub record CopyAgrees (now : ℕ) (xs : List Schedule) (p : Part) (g : Page) : T
   pub part : PartAgrees p g
 
 abbrev pub SavedAgrees : ℕ → List Schedule → Option Part → Page → Type 0
-SavedAgrees phase xs none g = Unit {0}
-SavedAgrees phase xs (some p) g = CopyAgrees phase xs p g
+SavedAgrees phase xs None g = Unit {0}
+SavedAgrees phase xs (Some p) g = CopyAgrees phase xs p g
 
 pub record Agrees (b : Book) (l : Ledger) : Type 0 where
   pub setup : b.setup ≡ l.setup
@@ -60,13 +60,13 @@ opened_agrees s =
 -- in phase 2 no batch is open
 saved_later : (phase : ℕ) (xs ys : List Schedule) (o : Option Part) (g : Page) (after : ℕ) → phase ≡ 2
     → SavedAgrees phase xs o g → SavedAgrees after ys o g
-saved_later phase xs ys none g after e s = tt
-saved_later phase xs ys (some p) g after e s = absurd (omega (arith, s.phase))
+saved_later phase xs ys None g after e s = tt
+saved_later phase xs ys (Some p) g after e s = absurd (omega (arith, s.phase))
 
 -- nor when the gate closes
-saved_none : (phase : ℕ) (xs : List Schedule) (o : Option Part) (g : Page) → o ≡ none → SavedAgrees phase xs o g
-saved_none phase xs none g e = tt
-saved_none phase xs (some p) g e = let z : ◌≡◌ {A = ℕ} 0 1 = cc in absurd (omega arith)
+saved_none : (phase : ℕ) (xs : List Schedule) (o : Option Part) (g : Page) → o ≡ None → SavedAgrees phase xs o g
+saved_none phase xs None g e = tt
+saved_none phase xs (Some p) g e = let z : ◌≡◌ {A = ℕ} 0 1 = cc in absurd (omega arith)
 
 confirmed-trade : (b : Book) (c : Call) (qs : List Request) → Asked confirm qs → Clear (input_checks b c confirm qs)
     → Clear (state_checks b confirm qs) → Ranged b
@@ -76,7 +76,7 @@ confirmed-trade b c qs a i h r =
     let p = each_nth no_row (confirmed_number b (first_of qs)) r.rows x.low x.high in
     same_trade (first_of qs) _ x.row x.terms p.side_low p.side_high (confirm_side b c qs a i)
 
-undone : (phase : ℕ) (xs : List Schedule) (o : Option Part) (p : Part) (g : Page) → o ≡ some p → SavedAgrees phase xs o g
+undone : (phase : ℕ) (xs : List Schedule) (o : Option Part) (p : Part) (g : Page) → o ≡ Some p → SavedAgrees phase xs o g
     → CopyAgrees phase xs p g
 undone phase xs o p g e s = rw e at s
 

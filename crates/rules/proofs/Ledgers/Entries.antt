@@ -1,9 +1,9 @@
 -- The ledger's pending entries are the book's pending rows with their numbers: each change of the rows ends or adds the same one, since
 -- both look for the first row that passes the same test.
+use Rattle.std.specs.Prelude.{Option, None, Some}
 use Prim.Native.Nat.{ℕ, zero, suc, ◌+◌}
 use mathlib.Core.Path.{◌≡◌, refl, sym, ap}
 use mathlib.Core.List.{List, [], ◌∷◌, ◌++◌}
-use mathlib.Core.Option.{Option, none, some}
 use mathlib.Core.Bool.{Bool, true, false}
 use native.Mathlib.Omega.{arith}
 use native.Mathlib.Nat.{add-zero}
@@ -61,27 +61,27 @@ entries_register n (x ∷ xs) r p = snoc_go n x r xs (pending x) refl (entries_r
 
 module _ (t : Row → Bool) (only : (r : Row) → pending r ≡ false → t r ≡ false) (status : ℕ) (ends : eqb status 1 ≡ false) where
   confirm_go : (n i : ℕ) (r : Row) (rs : List Row) (s : Bool) → t r ≡ s → (p : Bool) → pending r ≡ p → (o : Option ℕ) → index_of t rs ≡ o
-      → ((j : ℕ) → index_of t rs ≡ some j
+      → ((j : ℕ) → index_of t rs ≡ Some j
       → without (λ e. t e.row) (entries_from (suc n) rs) ≡ entries_from (suc n) (mark (suc j) status rs))
-      → index_of t (r ∷ rs) ≡ some i
+      → index_of t (r ∷ rs) ≡ Some i
       → without (λ e. t e.row) (entries_from n (r ∷ rs)) ≡ entries_from n (mark (suc i) status (r ∷ rs))
   unfolding index_of without entries_from mark
   confirm_go n i r rs true d true e o f ih h =
-      let z : some 0 ≡ some i = rw (d, index_of) at h in
+      let z : Some 0 ≡ Some i = rw (d, index_of) at h in
       let y : 0 ≡ i = cc in
       rw (← y, e, entries_from, d, without, ends)
   confirm_go n i r rs true d false e o f ih h = let z = only r e in let y : true ≡ false = cc in cc
-  confirm_go n i r rs false d p e none f ih h = let z : none ≡ some i = rw (d, index_of, f) at h in cc
-  confirm_go n i r rs false d true e (some j) f ih h =
-      let z : some (suc j) ≡ some i = rw (d, index_of, f) at h in
+  confirm_go n i r rs false d p e None f ih h = let z : None ≡ Some i = rw (d, index_of, f) at h in cc
+  confirm_go n i r rs false d true e (Some j) f ih h =
+      let z : Some (suc j) ≡ Some i = rw (d, index_of, f) at h in
       let y : suc j ≡ i = cc in
       rw (← y, e, entries_from, d, without) (ap (λ (l : List Entry). record { number = n; row = r } ∷ l) (ih j f))
-  confirm_go n i r rs false d false e (some j) f ih h =
-      let z : some (suc j) ≡ some i = rw (d, index_of, f) at h in
+  confirm_go n i r rs false d false e (Some j) f ih h =
+      let z : Some (suc j) ≡ Some i = rw (d, index_of, f) at h in
       let y : suc j ≡ i = cc in
       rw (← y, e, entries_from) (ih j f)
 
-  pub entries_first : (n i : ℕ) (rows : List Row) → index_of t rows ≡ some i
+  pub entries_first : (n i : ℕ) (rows : List Row) → index_of t rows ≡ Some i
       → without (λ e. t e.row) (entries_from n rows) ≡ entries_from n (mark (suc i) status rows)
   unfolding index_of
   entries_first n i [] h = cc
@@ -89,7 +89,7 @@ module _ (t : Row → Bool) (only : (r : Row) → pending r ≡ false → t r �
       confirm_go n i r rs (t r) refl (pending r) refl (index_of t rs) refl (λ j. entries_first (suc n) j rs) h
 
 -- the row that is named by proposer, counterparty and code
-pub entries_confirm : (p c k i : ℕ) (rows : List Row) → index_of (alike p c k) rows ≡ some i
+pub entries_confirm : (p c k i : ℕ) (rows : List Row) → index_of (alike p c k) rows ≡ Some i
     → without (λ e. alike p c k e.row) (entries_of rows) ≡ entries_of (mark (suc i) 2 rows)
 entries_confirm p c k i rows h = entries_first (alike p c k) (alike-ended p c k) 2 refl 1 i rows h
 

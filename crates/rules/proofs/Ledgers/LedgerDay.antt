@@ -1,17 +1,14 @@
 -- Demand 3 over a day: a set-up opens the book, calls run on it, and the ledger hears each record and whether it was accepted. The two
 -- agree after any list of calls, so that readings and an accepted settle are the ledger's.
-use Rattle.std.specs.Prelude.{if◌then◌else◌}
+use Rattle.std.specs.Prelude.{if◌then◌else◌, Ok, Option, None, Some}
 use Prim.Native.Nat.{ℕ}
 use mathlib.Core.Path.{◌≡◌, refl, ◌∙◌}
 use mathlib.Core.List.{List, [], ◌∷◌, map}
-use mathlib.Core.Option.{Option, none, some}
 use mathlib.Core.Bool.{Bool, true, false}
 use native.Mathlib.Omega.{arith}
 use Rattle.units.specs.Units.{milli_cents}
 use Rattle.rules.specs.declared.Refusal.{Refusal}
 use Rattle.rules.specs.declared.Request.{Request}
-use Rattle.rules.specs.declared.NetReading.{NetReading}
-use Rattle.rules.specs.declared.ExposureReading.{ExposureReading}
 use Rattle.rules.specs.Basics.{sum_of, within}
 use Rattle.rules.specs.Books.{Book, account_count, operator_count, periods}
 use Rattle.rules.specs.Opening.{opened, setup_of}
@@ -36,11 +33,11 @@ pub record SettledBy (l : Ledger) (c : Call) (w : Settled) : Type 0 where
   -- the balances total what the ledger's registered schedules are worth
   pub total : sum_of (map balance_figure w.balances) ≡ registered_total l.setup (ledger_net l) (prices_in l.setup c.prices) l.page.schedules
 
-never : (w : Settled) → none ≡ some w → ⊥
+never : (w : Settled) → None ≡ Some w → ⊥
 never w h = let z : ◌≡◌ {A = ℕ} 0 1 = cc in omega arith
 
 module _ (b : Book) (c : Call) (l : Ledger) (w : Settled) (owned : Owned b.setup) (r : Ranged b) (g : Agrees b l) where
-  settles_go : (t : Bool) → (if t then some (drawn_up b c) else none) ≡ some w → SettledBy l c w
+  settles_go : (t : Bool) → (if t then Some (drawn_up b c) else None) ≡ Some w → SettledBy l c w
   unfolding drawn_up
   settles_go false h = absurd (never w h)
   settles_go true h =
@@ -57,12 +54,12 @@ module _ (b : Book) (c : Call) (l : Ledger) (w : Settled) (owned : Owned b.setup
         total = book_total b t owned r ∙ total_is_the_ledgers b l g t ∙ rw g.setup;
       })
 
-  worked_go : (o : Option Refusal) → worked_out b c o ≡ some w → SettledBy l c w
+  worked_go : (o : Option Refusal) → worked_out b c o ≡ Some w → SettledBy l c w
   unfolding worked_out settles
-  worked_go (some x) h = absurd (never w h)
-  worked_go none h = settles_go (call_kind c one_of (settle ∷ [])) h
+  worked_go (Some x) h = absurd (never w h)
+  worked_go None h = settles_go (call_kind c one_of (settle ∷ [])) h
 
-  pub settled_by : settlement b c ≡ some w → SettledBy l c w
+  pub settled_by : settlement b c ≡ Some w → SettledBy l c w
   unfolding settlement
   settled_by h = worked_go (refusal b c) h
 
@@ -103,17 +100,17 @@ module _ (s : List ℕ) (cs : List Call) where
 
   -- every reading of net
   pub day_net : (a h : ℕ) → within 1 a (account_count (setup_of s)) ≡ true → within 1 h (periods (setup_of s)) ≡ true
-      → net_reading day_book a h ≡ NetReading.Read (position (ledger_net day_ledger a h))
+      → net_reading day_book a h ≡ Ok (position (ledger_net day_ledger a h))
   day_net a h i j = net_read_is_the_ledgers day_book day_ledger agrees a h (rw day_setup i) (rw day_setup j)
 
   -- every reading of exposure
   pub day_exposure : (o : ℕ) → within 1 o (operator_count (setup_of s)) ≡ true
-      → exposure_reading day_book o ≡ ExposureReading.Read (milli_cents (ledger_exposure day_ledger o))
+      → exposure_reading day_book o ≡ Ok (milli_cents (ledger_exposure day_ledger o))
   day_exposure o i = exposure_read_is_the_ledgers day_book day_ledger agrees o (rw day_setup i)
 
   -- every reading of hourly exposure
   pub day_hourly_exposure : (o h : ℕ) → within 1 o (operator_count (setup_of s)) ≡ true → within 1 h (periods (setup_of s)) ≡ true
-      → hourly_exposure_reading day_book o h ≡ ExposureReading.Read (milli_cents (ledger_hourly_exposure day_ledger o h))
+      → hourly_exposure_reading day_book o h ≡ Ok (milli_cents (ledger_hourly_exposure day_ledger o h))
   day_hourly_exposure o h i j = hourly_exposure_read_is_the_ledgers day_book day_ledger agrees o h (rw day_setup i) (rw day_setup j)
 
   -- what is available
@@ -121,6 +118,6 @@ module _ (s : List ℕ) (cs : List Call) where
   day_available o = available_is_the_ledgers day_book day_ledger agrees o
 
   -- an accepted settle
-  pub day_settled : Owned (setup_of s) → (c : Call) (w : Settled) → settlement day_book c ≡ some w → SettledBy day_ledger c w
+  pub day_settled : Owned (setup_of s) → (c : Call) (w : Settled) → settlement day_book c ≡ Some w → SettledBy day_ledger c w
   day_settled owned c w h =
       settled_by day_book c day_ledger w (rw (agrees.setup, day_setup) owned) (last_ranged (opened s) cs (opened_ranged s)) agrees h

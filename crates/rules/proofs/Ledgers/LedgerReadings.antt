@@ -1,5 +1,6 @@
 -- Net, exposure, available and settlement are the ledger's wherever it agrees with the book: each is a function of the set-up, of what
 -- accounts bought, sold and wait for, of guarantees, schedules and prices, and in all of these the two agree.
+use Rattle.std.specs.Prelude.{Ok}
 use Prim.Native.Nat.{ℕ}
 use mathlib.Core.Path.{◌≡◌, fun_ext}
 use mathlib.Core.List.{List}
@@ -8,8 +9,6 @@ use lib.Dec.{eqb}
 use Rattle.units.specs.declared.CentsPerMwh.{CentsPerMwh}
 use Rattle.units.specs.Units.{milli_cents}
 use Rattle.rules.specs.declared.Row.{Row}
-use Rattle.rules.specs.declared.NetReading.{NetReading}
-use Rattle.rules.specs.declared.ExposureReading.{ExposureReading}
 use Rattle.rules.specs.Basics.{within}
 use Rattle.rules.specs.Verdicts.{first_to_apply}
 use Rattle.rules.specs.Books.{Book, account_count, operator_count, periods}
@@ -64,19 +63,19 @@ module _ (b : Book) (l : Ledger) (g : Agrees b l) where
 
   -- a net position that is read is the ledger's
   pub net_read_is_the_ledgers : (a h : ℕ) → within 1 a (account_count l.setup) ≡ true → within 1 h (periods l.setup) ≡ true
-      → net_reading b a h ≡ NetReading.Read (position (ledger_net l a h))
+      → net_reading b a h ≡ Ok (position (ledger_net l a h))
   unfolding net_reading first_to_apply
   net_read_is_the_ledgers a h i j = rw (g.setup, i, j, net_is_the_ledgers a h)
 
   -- and so is an exposure
   pub exposure_read_is_the_ledgers : (o : ℕ) → within 1 o (operator_count l.setup) ≡ true
-      → exposure_reading b o ≡ ExposureReading.Read (milli_cents (ledger_exposure l o))
+      → exposure_reading b o ≡ Ok (milli_cents (ledger_exposure l o))
   unfolding exposure_reading first_to_apply
   exposure_read_is_the_ledgers o i = rw (exposure_is_the_ledgers o, g.setup, i)
 
   -- and so is an hourly one
   pub hourly_exposure_read_is_the_ledgers : (o h : ℕ) → within 1 o (operator_count l.setup) ≡ true → within 1 h (periods l.setup) ≡ true
-      → hourly_exposure_reading b o h ≡ ExposureReading.Read (milli_cents (ledger_hourly_exposure l o h))
+      → hourly_exposure_reading b o h ≡ Ok (milli_cents (ledger_hourly_exposure l o h))
   unfolding hourly_exposure_reading first_to_apply
   hourly_exposure_read_is_the_ledgers o h i j = rw (hourly_exposure_is_the_ledgers o h, g.setup, i, j)
 

@@ -1,10 +1,9 @@
 -- The ledger's page agrees with the book's part, and each change of the part changes both alike. A confirmed row and the trade of the
 -- request that confirms it are the same, since the request mirrors the row.
-use Rattle.std.specs.Prelude.{if◌then◌else◌}
+use Rattle.std.specs.Prelude.{if◌then◌else◌, Some}
 use Prim.Native.Nat.{ℕ, suc, ◌+◌, ◌≤◌}
 use mathlib.Core.Path.{◌≡◌, refl, sym, ap, ◌∙◌}
 use mathlib.Core.List.{List, [], ◌∷◌, ◌++◌, append_assoc, append-nil}
-use mathlib.Core.Option.{some}
 use mathlib.Core.Bool.{Bool, true, false, ◌&&◌}
 use native.Mathlib.Omega.{arith}
 use lib.ListN.{length, length-append}
@@ -94,7 +93,7 @@ module _ (p : Part) (g : Page) (s : PartAgrees p g) where
 
   -- the row of a number is confirmed as that trade: it is the first pending one with these accounts and this code
   pub confirmed_agrees : (proposer counterparty code number i : ℕ) (t : Trade) → number ≡ suc i
-      → index_of (alike proposer counterparty code) p.rows ≡ some i → pending (nth p.rows number no_row) ≡ true
+      → index_of (alike proposer counterparty code) p.rows ≡ Some i → pending (nth p.rows number no_row) ≡ true
       → SameTrade (nth p.rows number no_row) t
       → PartAgrees (part_rows p (mark number 2 p.rows))
       (page_trades (page_pending g (without (λ e. alike proposer counterparty code e.row) g.pending)) (g.trades ++ t ∷ []))

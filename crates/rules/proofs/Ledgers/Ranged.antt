@@ -1,10 +1,10 @@
 -- Every book that calls make has rows between its accounts and schedules on its points: a call adds only what passed the test of ranges,
 -- and no other call changes a row's parties or side.
+use Rattle.std.specs.Prelude.{Option, None, Some}
 use Prim.Native.Nat.{ℕ, ◌≤◌}
 use mathlib.Core.Path.{◌≡◌, refl}
 use mathlib.Core.Logic.{◌⊎◌, inl, inr}
 use mathlib.Core.List.{List, [], ◌∷◌, map}
-use mathlib.Core.Option.{Option, none, some}
 use mathlib.Core.Bool.{true}
 use native.Mathlib.Omega.{arith}
 use Rattle.rules.specs.declared.Counts.{Counts}
@@ -40,7 +40,7 @@ parties_status n status r p =
 
 -- ---- what a request in range names
 
-module _ (n : Counts) (q : Request) (f : faulty_bit n q ≡ none) where
+module _ (n : Counts) (q : Request) (f : faulty_bit n q ≡ None) where
   pub account_in_range : bit (wanted_map q.kind) 1 ≡ true → (1 ≤ q.account) × (q.account ≤ n.accounts)
   unfolding in_range
   account_in_range e = (within_true 1 q.account n.accounts).0 (field_in_range n q 1 f (omega arith) e)
@@ -62,7 +62,7 @@ bit_stands : (k : Kind) (q : Request) (i : ℕ) → q.kind ≡ kind_number k →
     → bit (wanted_map q.kind) i ≡ true
 bit_stands k q i e h = rw e h
 
-proposed_parties : (n : Counts) (q : Request) → TradeFields q → faulty_bit n q ≡ none → Parties n.accounts (proposed q)
+proposed_parties : (n : Counts) (q : Request) → TradeFields q → faulty_bit n q ≡ None → Parties n.accounts (proposed q)
 unfolding bit
 proposed_parties n q e f =
     parties n.accounts (proposed q)
@@ -92,8 +92,8 @@ scheduled_on_point b c qs a i =
     record { low = p.0; high = p.1 }
 
 abbrev pub SavedParties : ℕ → Option Part → Type 0
-SavedParties n none = Unit {0}
-SavedParties n (some p) = Each (Parties n) p.rows
+SavedParties n None = Unit {0}
+SavedParties n (Some p) = Each (Parties n) p.rows
 
 -- rows and saved rows are between the book's accounts, schedules on its points
 pub record Ranged (b : Book) : Type 0 where
@@ -103,8 +103,8 @@ pub record Ranged (b : Book) : Type 0 where
 
 restored_parties : (n : ℕ) (o : Option Part) (p : Part) → SavedParties n o → Each (Parties n) p.rows
     → Each (Parties n) (restored o p).rows
-restored_parties n none p s e = e
-restored_parties n (some x) p s e = s
+restored_parties n None p s e = e
+restored_parties n (Some x) p s e = s
 
 -- what a change adds is between the book's accounts, or on one of its points
 abbrev Adds : Book → Change → Type 0
@@ -135,7 +135,7 @@ apply_ranged end_day b new g = record { rows = g.rows; saved = g.saved; schedule
 apply_ranged (stand_ask r) b new g = record { rows = g.rows; saved = g.saved; schedules = g.schedules }
 
 -- each row that is proposed
-rows_parties : (n : Counts) {qs : List Request} → Each TradeFields qs → Each (λ q. faulty_bit n q ≡ none) qs
+rows_parties : (n : Counts) {qs : List Request} → Each TradeFields qs → Each (λ q. faulty_bit n q ≡ None) qs
     → Each (Parties n.accounts) (map proposed qs)
 rows_parties n fields fine = each_image proposed (each_both (proposed_parties n) fields fine)
 

@@ -1,10 +1,10 @@
 -- Asks and commits, on every book: an ask answers as the register of its fields, and changes only its own place of the asks; every other
 -- accepted call leaves none. A commit whose ask stands is refused for nothing more, and gives the number that its ask gave.
+use Rattle.std.specs.Prelude.{Option, None, Some}
 use Prim.Native.Nat.{ℕ, zero, suc, ◌^◌, ◌≤◌, ◌<◌}
 use mathlib.Core.Path.{◌≡◌, refl, sym, ap, ◌∙◌}
 use mathlib.Core.Logic.{◌⊎◌, inl, inr, ⊎_elim}
 use mathlib.Core.List.{List, [], ◌∷◌}
-use mathlib.Core.Option.{Option, none, some}
 use mathlib.Core.Bool.{Bool, true, false, not, ◌&&◌, ◌||◌, or-false}
 use native.Mathlib.Omega.{arith}
 use lib.ListN.{length, get_or, set, replicate, length-set}
@@ -119,7 +119,7 @@ module _ (s : List ℕ) (third : get_or s 2 0 ≡ kind_number ask) (e : bit (map
   same_bytes = rw (kind_renamed, kind_asked, same_map s, length-set s 2 1)
 
 -- without a kind bytes are refused by 2
-no_kind : (b : Book) (c : Call) → bit (map_of c.bytes) 0 ≡ false → refusal b c ≡ some Unreadable
+no_kind : (b : Book) (c : Call) → bit (map_of c.bytes) 0 ≡ false → refusal b c ≡ Some Unreadable
 unfolding refusal checks read_checks unreadable first_to_apply
 no_kind b c e = rw (field_in_absent c.bytes 0 e, e, middle_true (ltb (length c.bytes) 3) (leb (2 ^ 13) (map_of c.bytes)))
   where
@@ -152,15 +152,15 @@ module _ (b : Book) (c : Call) (third : get_or c.bytes 2 0 ≡ kind_number ask) 
     -- by what it is refused for, the outcome is the same and both buffers are left
     same_answer : (o : Option Refusal) → (answer b c o).outcome ≡ (answer b (as_register c) o).outcome
     unfolding answer given
-    same_answer (some r) = refl
-    same_answer none = rw (kind_renamed c.bytes third e, kind_asked c.bytes third e)
+    same_answer (Some r) = refl
+    same_answer None = rw (kind_renamed c.bytes third e, kind_asked c.bytes third e)
 
     buffers_left : (o : Option Refusal) → LeavesBuffers c (answer b c o) × LeavesBuffers c (answer b (as_register c) o)
     unfolding answer settles
-    buffers_left (some r) = ((refl, refl), (refl, refl))
-    buffers_left none = rw (kind_renamed c.bytes third e, kind_asked c.bytes third e) ((refl, refl), (refl, refl))
+    buffers_left (Some r) = ((refl, refl), (refl, refl))
+    buffers_left None = rw (kind_renamed c.bytes third e, kind_asked c.bytes third e) ((refl, refl), (refl, refl))
 
-  both_unreadable : bit (map_of c.bytes) 0 ≡ false → (refusal b c ≡ some Unreadable) × (refusal b (as_register c) ≡ some Unreadable)
+  both_unreadable : bit (map_of c.bytes) 0 ≡ false → (refusal b c ≡ Some Unreadable) × (refusal b (as_register c) ≡ Some Unreadable)
   both_unreadable e = (no_kind b c e, no_kind b (as_register c) (ap (λ (m : ℕ). bit m 0) (same_map c.bytes) ∙ e))
 
   -- an ask answers as the register of its fields, whatever its bytes are
@@ -199,7 +199,7 @@ one_request s k e single = go (is_strip s) refl
 module _ (b : Book) (c : Call) (passes : accepts step b c ≡ true) where
   -- an ask changes its own place of the asks, and nothing else
   pub ask_stands_lem : call_kind c ≡ ask
-      → (step b c).book ≡ with_asks b (put b.asks (request_of c.bytes).account (some (proposed (request_of c.bytes))))
+      → (step b c).book ≡ with_asks b (put b.asks (request_of c.bytes).account (Some (proposed (request_of c.bytes))))
   unfolding apply
   ask_stands_lem e = (accepts_passed b c passes).book ∙ rw (e, one_request c.bytes ask e refl)
 
@@ -246,9 +246,9 @@ same_terms_lem x y pends pends-too h =
 -- ---- past 23
 
 -- what stands with the terms of a row is an ask, of an account
-asked_row : (r : Row) (o : Option Row) → stands_with r o ≡ true → (x : Row) × ((o ≡ some x) × (same_terms x r ≡ true))
-asked_row r none h = let z : ◌≡◌ {A = ℕ} 0 1 = cc in absurd (omega arith)
-asked_row r (some x) h = (x, (refl, h))
+asked_row : (r : Row) (o : Option Row) → stands_with r o ≡ true → (x : Row) × ((o ≡ Some x) × (same_terms x r ≡ true))
+asked_row r None h = let z : ◌≡◌ {A = ℕ} 0 1 = cc in absurd (omega arith)
+asked_row r (Some x) h = (x, (refl, h))
 
 asked_account : (b : Book) (a : ℕ) (r : Row) → stands_with r (ask_at b a) ≡ true → 1 ≤ a
 asked_account b zero r h = let z : ◌≡◌ {A = ℕ} 0 1 = cc in absurd (omega arith)
@@ -262,7 +262,7 @@ same_fields_judged b q = refl
 -- a commit whose ask stands, in a book whose asks register would accept
 module _ (b : Book) (q : Request) (stand : asks_stand b ≡ true) (counts : q.account ≤ most_accounts)
     (asked : stands_with (proposed q) (ask_at b q.account) ≡ true) where
-  the_ask : (x : Row) × ((ask_at b q.account ≡ some x) × (same_terms x (proposed q) ≡ true))
+  the_ask : (x : Row) × ((ask_at b q.account ≡ Some x) × (same_terms x (proposed q) ≡ true))
   the_ask = asked_row (proposed q) (ask_at b q.account) asked
 
   would_register_lem : would_register b the_ask.0 ≡ true
@@ -273,7 +273,7 @@ module _ (b : Book) (q : Request) (stand : asks_stand b ≡ true) (counts : q.ac
       ap (ask_stands b) (sym the_ask.1.0) ∙ counted_has most_accounts 1 q.account all low (omega arith)
 
   -- register would accept its fields
-  pub register_passes : first_to_apply (state_checks b register (q ∷ [])) ≡ none
+  pub register_passes : first_to_apply (state_checks b register (q ∷ [])) ≡ None
   unfolding would_register
   register_passes =
       ap first_to_apply (sym (same_fields_judged b q))
@@ -281,7 +281,7 @@ module _ (b : Book) (q : Request) (stand : asks_stand b ≡ true) (counts : q.ac
       ∙ none_of _ (not-true _ would_register_lem)
 
   -- and nothing refuses it
-  pub commit_passes : first_to_apply (state_checks b commit (q ∷ [])) ≡ none
+  pub commit_passes : first_to_apply (state_checks b commit (q ∷ [])) ≡ None
   unfolding state_checks first_to_apply apply
   commit_passes = rw asked register_passes
 
@@ -307,11 +307,11 @@ commit_decided b q stand counts = go (eqb b.phase registration_phase) refl (stan
 -- ---- between an ask and its commit
 
 -- no place holds an ask where none stands
-pub none_there : (a : ℕ) → nth no_asks a none ≡ none
+pub none_there : (a : ℕ) → nth no_asks a None ≡ None
 none_there zero = refl
 none_there (suc i) = go most_accounts i
   where
-    go : (n i : ℕ) → get_or {A = Option Row} (replicate n none) i none ≡ none
+    go : (n i : ℕ) → get_or {A = Option Row} (replicate n None) i None ≡ None
     go zero i = refl
     go (suc n) zero = refl
     go (suc n) (suc i) = go n i
@@ -324,7 +324,7 @@ Between b a c = accepts_as step (ask ∷ []) b c && eqb (request_of c.bytes).acc
 data Leaves (b : Book) (a : ℕ) (c : Call) : Type 0 where
   stays : (step b c).book.part ≡ b.part → ask_at (step b c).book a ≡ ask_at b a
       → not (accepts step b c) || accepts_as step (ask ∷ []) b c ≡ true → Leaves b a c
-  clears : ask_at (step b c).book a ≡ none → Leaves b a c
+  clears : ask_at (step b c).book a ≡ None → Leaves b a c
 
 leaves : (b : Book) (a : ℕ) (c : Call) → Between b a c → Leaves b a c
 leaves b a c h = go (accepts step b c) refl (call_kind c one_of (ask ∷ [])) refl
@@ -336,8 +336,8 @@ leaves b a c h = go (accepts step b c) refl (call_kind c one_of (ask ∷ [])) re
     go true e true f =
         let book = ask_stands_lem b c e (the_kind (call_kind c) ask f) in
         let apart : eqb (request_of c.bytes).account a ≡ false = rw (e, f) at h in
-        stays (ap (λ (x : Book). x.part) book) (ap (λ (x : Book). ask_at x a) book ∙ ⊎_elim (λ w. absurd (eqb-false _ a apart w.0)) (λ w. w.0) (put_place b.asks _ a _ none)) (rw (e, f))
-    go true e false f = clears (ap (λ (l : List (Option Row)). nth l a none) (others_clear b c e f) ∙ none_there a)
+        stays (ap (λ (x : Book). x.part) book) (ap (λ (x : Book). ask_at x a) book ∙ ⊎_elim (λ w. absurd (eqb-false _ a apart w.0)) (λ w. w.0) (put_place b.asks _ a _ None)) (rw (e, f))
+    go true e false f = clears (ap (λ (l : List (Option Row)). nth l a None) (others_clear b c e f) ∙ none_there a)
 
 -- the first call and the rest
 first_between : (a : ℕ) (b : Book) (c : Call) (cs : List Call) → no_ask_of step a b (c ∷ cs) ≡ true
@@ -346,12 +346,12 @@ unfolding no_ask_of runs every
 first_between a b c cs h = let w = (and_both _ _).0 h in (not-true _ w.0, w.1)
 
 -- where no ask stands for the account, none does later
-still_none : (a : ℕ) (b : Book) (cs : List Call) → no_ask_of step a b cs ≡ true → ask_at b a ≡ none → ask_at (after step b cs) a ≡ none
+still_none : (a : ℕ) (b : Book) (cs : List Call) → no_ask_of step a b cs ≡ true → ask_at b a ≡ None → ask_at (after step b cs) a ≡ None
 unfolding after
 still_none a b [] h e = e
 still_none a b (c ∷ cs) h e = let w = first_between a b c cs h in still_none a (step b c).book cs w.1 (go (leaves b a c w.0))
   where
-    go : Leaves b a c → ask_at (step b c).book a ≡ none
+    go : Leaves b a c → ask_at (step b c).book a ≡ None
     go (stays part same only) = same ∙ e
     go (clears gone) = gone
 
@@ -361,13 +361,13 @@ record Stays (a : ℕ) (b : Book) (cs : List Call) : Type 0 where
   part : (after step b cs).part ≡ b.part
   place : ask_at (after step b cs) a ≡ ask_at b a
 
-stays_or_gone : (a : ℕ) (b : Book) (cs : List Call) → no_ask_of step a b cs ≡ true → Stays a b cs ⊎ (ask_at (after step b cs) a ≡ none)
+stays_or_gone : (a : ℕ) (b : Book) (cs : List Call) → no_ask_of step a b cs ≡ true → Stays a b cs ⊎ (ask_at (after step b cs) a ≡ None)
 unfolding after only_asks runs every
 stays_or_gone a b [] h = inl (record { only = refl; part = refl; place = refl })
 stays_or_gone a b (c ∷ cs) h = let w = first_between a b c cs h in go (leaves b a c w.0) (stays_or_gone a (step b c).book cs w.1) w.1
   where
-    go : Leaves b a c → Stays a (step b c).book cs ⊎ (ask_at (after step (step b c).book cs) a ≡ none) → no_ask_of step a (step b c).book cs ≡ true
-        → Stays a b (c ∷ cs) ⊎ (ask_at (after step b (c ∷ cs)) a ≡ none)
+    go : Leaves b a c → Stays a (step b c).book cs ⊎ (ask_at (after step (step b c).book cs) a ≡ None) → no_ask_of step a (step b c).book cs ≡ true
+        → Stays a b (c ∷ cs) ⊎ (ask_at (after step b (c ∷ cs)) a ≡ None)
     go (stays part same only) (inl w) rest = inl (record { only = (and_both _ _).1 (only, w.only); part = w.part ∙ part; place = w.place ∙ same })
     go (stays part same only) (inr gone) rest = inr gone
     go (clears gone) w rest = inr (still_none a (step b c).book cs rest gone)
@@ -392,7 +392,7 @@ module _ (b : Book) (asking : Call) (between : List Call) (committing : Call) (p
   committed : Passed (after step b (asking ∷ between)) committing × (call_kind committing ≡ commit)
   committed = passed_as (after step b (asking ∷ between)) committing commit pair.commits
 
-  ask_left : (step b asking).book ≡ with_asks b (put b.asks a (some row))
+  ask_left : (step b asking).book ≡ with_asks b (put b.asks a (Some row))
   ask_left = ask_stands_lem b asking ((and_both _ _).0 pair.asks).0 asked.1
 
   -- the commit's ask stood
@@ -404,7 +404,7 @@ module _ (b : Book) (asking : Call) (between : List Call) (committing : Call) (p
       ap (λ (n : ℕ). stands_with (proposed (request_of committing.bytes)) (ask_at x n)) (sym pair.own)
       ∙ passed_23 x (request_of committing.bytes ∷ []) state
 
-  not_gone : ask_at (after step b (asking ∷ between)) a ≡ none → ⊥
+  not_gone : ask_at (after step b (asking ∷ between)) a ≡ None → ⊥
   not_gone e = let z : false ≡ true = rw e at stood in let y : ◌≡◌ {A = ℕ} 0 1 = cc in omega arith
 
   latest : no_ask_of step a (step b asking).book between ≡ true
@@ -412,11 +412,11 @@ module _ (b : Book) (asking : Call) (between : List Call) (committing : Call) (p
   latest = pair.latest
 
   -- so the ask has a place, and stayed in it through the list
-  in_place : ask_at (step b asking).book a ≡ some row
+  in_place : ask_at (step b asking).book a ≡ Some row
   unfolding after
   in_place =
       let here = ap (λ (x : Book). ask_at x a) ask_left in
-      here ∙ the_one (⊎_elim (λ w. inl w.1) (λ w. inr (w.0 ∙ w.1 refl)) (put_place b.asks a a (some row) none)) (λ e. not_gone (still_none a (step b asking).book between latest (here ∙ e)))
+      here ∙ the_one (⊎_elim (λ w. inl w.1) (λ w. inr (w.0 ∙ w.1 refl)) (put_place b.asks a a (Some row) None)) (λ e. not_gone (still_none a (step b asking).book between latest (here ∙ e)))
 
   stayed : Stays a (step b asking).book between
   unfolding after
@@ -458,8 +458,8 @@ module _ (b : Book) (c : Call) where
   cleared_step h = go (refusal b c) refl
     where
       go : (o : Option Refusal) → refusal b c ≡ o → (step b c).book ≡ with_asks (uncleared b c).book no_asks
-      go (some r) e = let z : false ≡ true = rw (refused_keeps b c r e).outcome at h in let y : ◌≡◌ {A = ℕ} 0 1 = cc in absurd (omega arith)
-      go none e =
+      go (Some r) e = let z : false ≡ true = rw (refused_keeps b c r e).outcome at h in let y : ◌≡◌ {A = ℕ} 0 1 = cc in absurd (omega arith)
+      go None e =
           let w = passed b c e in
           let other : call_kind c one_of (ask ∷ []) ≡ false = says_ask w ∙ not-true _ (rw w.outcome at h) in
           w.book ∙ rw (e, other)
@@ -470,8 +470,8 @@ module _ (b : Book) (c : Call) where
   uncleared_step h = go (refusal b c) refl
     where
       go : (o : Option Refusal) → refusal b c ≡ o → (step b c).book ≡ (uncleared b c).book
-      go (some r) e = (refused_keeps b c r e).book ∙ rw e
-      go none e =
+      go (Some r) e = (refused_keeps b c r e).book ∙ rw e
+      go None e =
           let w = passed b c e in
           let asks : call_kind c one_of (ask ∷ []) ≡ true = says_ask w ∙ not-false _ (rw w.outcome at h) in
           w.book ∙ rw (e, asks)

@@ -1,11 +1,10 @@
 -- An accepted undo gives back the book of its open, without its asks: while the batch is open only rows, guarantees and asks change, and the
 -- part that was saved at the open stays as it is. So does an empty kept batch, and a list that has one in that place says the same.
-use Rattle.std.specs.Prelude.{if◌then◌else◌}
+use Rattle.std.specs.Prelude.{if◌then◌else◌, Option, None, Some}
 use Prim.Native.Nat.{ℕ, ◌+◌, ◌-◌}
 use mathlib.Core.Path.{◌≡◌, refl, sym, ap, ◌∙◌}
 use mathlib.Core.Logic.{◌⊎◌, inl, inr}
 use mathlib.Core.List.{List, [], ◌∷◌, ◌++◌, map}
-use mathlib.Core.Option.{Option, none, some}
 use mathlib.Core.Bool.{true, false, or-false}
 use native.Mathlib.Nat.{zero-add, add-zero, add_comm, add_assoc}
 use native.Mathlib.Omega.{arith}
@@ -44,7 +43,7 @@ passed_as b c k h = let w = (and_both _ _).0 h in (accepts_passed b c w.0, the_k
 record Within (o : Book) (n : ℕ) (b : Book) : Type 0 where
   part : Part
   asks : List (Option Row)
-  book : b ≡ with_asks (with_saved (with_part o part) (some o.part)) asks
+  book : b ≡ with_asks (with_saved (with_part o part) (Some o.part)) asks
   phase : o.phase ≡ 1
   numbers : length part.rows ≡ n + length o.part.rows
 
@@ -76,7 +75,7 @@ module _ {o b : Book} {n : ℕ} (w : Within o n b) (qs : List Request) where
       record { part = w.part; asks = asks; book = ap (λ (x : Book). with_asks x asks) w.book; phase = w.phase; numbers = w.numbers }
 
   -- a batch is open
-  saved_never : b.saved ≡ none → ⊥
+  saved_never : b.saved ≡ None → ⊥
   saved_never e = let s = ap (λ (x : Book). x.saved) w.book in let z : ◌≡◌ {A = ℕ} 0 1 = cc in omega arith
 
   rows_more : Within o (length qs + n) (apply (add_rows (map proposed qs)) b)
@@ -143,7 +142,7 @@ module _ (b : Book) (opening : Call) (opens : accepts_as step (open_batch ∷ []
   phase_open : b.phase ≡ 1
   phase_open = passed_11 b (call_requests opening) open_batch open_state
 
-  saved_none : b.saved ≡ none
+  saved_none : b.saved ≡ None
   saved_none = passed_12 b (call_requests opening) open_batch refl open_state
 
   -- where it was kept at once, only the asks are gone

@@ -1,5 +1,7 @@
 -- Lists of calls put together, and calls in the place of others, whatever form the book has: calls that lead to the same book leave the
 -- same trace after them.
+use Rattle.std.specs.Prelude.{is_ok}
+use Rattle.rules.specs.Verdicts.{Verdict}
 use Prim.Native.Nat.{ℕ, suc, ◌+◌}
 use mathlib.Core.Path.{◌≡◌, refl, sym, ap, ◌∙◌}
 use mathlib.Core.Logic.{◌⊎◌, inl, inr}
@@ -8,11 +10,10 @@ use mathlib.Core.Bool.{true, false}
 use native.Mathlib.Omega.{arith}
 use lib.ListN.{length, take, drop, length-append}
 use lib.Seq.{take_at, drop_at}
-use Rattle.rules.specs.declared.Outcome.{Outcome}
 use Rattle.rules.specs.Basics.{Each, nil, cons}
 use Rattle.rules.specs.Books.{Book}
 use Rattle.rules.specs.Calls.{Call, Answer, step}
-use Rattle.rules.specs.Lists.{runs, after, is_acceptance, accepts, Matched}
+use Rattle.rules.specs.Lists.{runs, after, accepts, Matched}
 use Rattle.rules.proofs.Checks.Passed.{Passed, Kept, step_cases}
 
 -- ---- lists, put together
@@ -71,10 +72,10 @@ module _ {B : Type 0} (answer : B → Call → Answer B) where
 
 module _ {b : Book} {c : Call} where
   pub kept_refused : Kept b c → accepts step b c ≡ false
-  kept_refused w = ap (λ (o : Outcome). is_acceptance o.verdict) w.outcome
+  kept_refused w = ap (λ (o : Verdict). is_ok o) w.outcome
 
   pub passed_accepted : Passed b c → accepts step b c ≡ true
-  passed_accepted w = ap (λ (o : Outcome). is_acceptance o.verdict) w.outcome
+  passed_accepted w = ap (λ (o : Verdict). is_ok o) w.outcome
 
 accepts_go : (b : Book) (c : Call) → accepts step b c ≡ true → Kept b c ⊎ Passed b c → Passed b c
 accepts_go b c h (inl w) = let n = kept_refused w in let z : ◌≡◌ {A = ℕ} 0 1 = cc in absurd (omega arith)

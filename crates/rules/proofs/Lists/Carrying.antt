@@ -1,5 +1,6 @@
 -- Lists of calls on books of two forms: where every call answers alike on both, so does every list, and what is heard, accepted, ended
 -- undone, kept and committed on the one is so on the other.
+use Rattle.std.specs.Prelude.{is_ok}
 use Prim.Native.Nat.{ℕ}
 use mathlib.Core.Path.{◌≡◌, refl, sym, ap, ◌∙◌}
 use mathlib.Core.List.{List, [], ◌∷◌, map, map-map}
@@ -7,7 +8,7 @@ use mathlib.Core.Bool.{Bool, ◌&&◌}
 use Rattle.rules.specs.Basics.{every, Each, nil, cons}
 use Rattle.rules.specs.Requests.{Kind, open_batch, undo, keep, ask, commit}
 use Rattle.rules.specs.Calls.{Call, Answer, carried, call_kind, ◌one_of◌}
-use Rattle.rules.specs.Lists.{Run, is_acceptance, runs, after, accepts_as, heard, ends_no_batch, UndoneBatch, EmptyKeptBatch}
+use Rattle.rules.specs.Lists.{Run, runs, after, accepts_as, heard, ends_no_batch, UndoneBatch, EmptyKeptBatch}
 use Rattle.rules.specs.Asks.{call_account, no_ask_of, only_asks, AskCommitted, CommittedAsAsked}
 use Rattle.rules.proofs.Lists.CallLists.{after_keeps}
 
@@ -60,7 +61,7 @@ module _ {A B : Type 0} {answer : A → Call → Answer A} {other : B → Call �
     only_asks_carried = rw (runs-carried, every_map)
 
   pub accepts_carried : (ks : List Kind) (a : A) (c : Call) → Good a → accepts_as other ks (form a) c ≡ accepts_as answer ks a c
-  accepts_carried ks a c g = ap (λ (x : Answer B). is_acceptance x.outcome.verdict && call_kind c one_of ks) (k.alike a c g)
+  accepts_carried ks a c g = ap (λ (x : Answer B). is_ok x.outcome && call_kind c one_of ks) (k.alike a c g)
 
   -- a batch undone on the other form is undone on the one
   pub undone_carried : (a : A) (opening : Call) (between : List Call) (undoing : Call) → Each Sort (opening ∷ between) → Good a

@@ -1,9 +1,9 @@
 -- Strips and registers, on every book: a strip of one kind 1 record answers as that register, and an accepted strip leaves the book that
 -- its registers in turn would leave, and is heard as them.
+use Rattle.std.specs.Prelude.{Option, None, Some}
 use Prim.Native.Nat.{ℕ, ◌+◌, ◌*◌, ◌≤◌}
 use mathlib.Core.Path.{◌≡◌, refl, sym, ap, ◌∙◌}
 use mathlib.Core.List.{List, [], ◌∷◌, ◌++◌, map, append_assoc}
-use mathlib.Core.Option.{Option, none, some}
 use mathlib.Core.Bool.{Bool, true, false, not}
 use native.Mathlib.Omega.{arith}
 use lib.ListN.{length, get_or, drop, length-append, length-drop}
@@ -49,7 +49,7 @@ in_two b c = ap first_to_apply (append_assoc (bytes_checks c.bytes) _ _)
 left_out : (front : List Check) (r : Refusal) (rest : List Check) → first_to_apply (front ++ (false ⇒ r) ∷ rest) ≡ first_to_apply (front ++ rest)
 unfolding first_to_apply
 left_out [] r rest = refl
-left_out (c ∷ front) r rest = ap (λ (o : Option Refusal). elim (applies c) [ some y ↦ some y | none ↦ o ]) (left_out front r rest)
+left_out (c ∷ front) r rest = ap (λ (o : Option Refusal). elim (applies c) [ Some y ↦ Some y | None ↦ o ]) (left_out front r rest)
 
 -- the bytes of the strip of one record; its head says a map of the kind alone, and the kind of a strip
 abbrev headed : List ℕ → List ℕ
@@ -84,7 +84,7 @@ module _ (s : List ℕ) (sized : length s ≡ row_length) where
 
   -- one without a kind is refused by 2
   both_unreadable : bit (map_of s) 0 ≡ false → (rest : List Check)
-      → (first_to_apply (row_checks (s ∷ []) ++ rest) ≡ some Unreadable) × (first_to_apply (bytes_checks s ++ rest) ≡ some Unreadable)
+      → (first_to_apply (row_checks (s ∷ []) ++ rest) ≡ Some Unreadable) × (first_to_apply (bytes_checks s ++ rest) ≡ Some Unreadable)
   unfolding row_checks read_checks unreadable first_to_apply
   both_unreadable e rest = (rw (sized, e), rw (field_in_absent s 0 e, sized, e))
 
@@ -109,8 +109,8 @@ module _ (b : Book) (c : Call) (sized : length c.bytes ≡ row_length) where
 
     same_answer : (o : Option Refusal) → answer b (strip_of_one c) o ≡ answer b c o
     unfolding answer settles given apply
-    same_answer (some r) = refl
-    same_answer none = rw (e, head_kind c.bytes, one_request c.bytes sized, single_requests c.bytes (rw e))
+    same_answer (Some r) = refl
+    same_answer None = rw (e, head_kind c.bytes, one_request c.bytes sized, single_requests c.bytes (rw e))
 
     of_register : step b (strip_of_one c) ≡ step b c
     unfolding step
@@ -136,12 +136,12 @@ strip_of_one_lem b c sized third = go (bit (map_of c.bytes) 0) refl
 -- there are numbers for all of them, and with all of them in no margin is broken and the exposure is covered
 record Fit (b : Book) (proposer : ℕ) (qs : List Request) : Type 0 where
   pub phase : b.phase ≡ registration_phase
-  pub ranged : Each (λ q. (q.account ≡ proposer) × (faulty_bit (counts_of b.setup) q ≡ none)) qs
+  pub ranged : Each (λ q. (q.account ≡ proposer) × (faulty_bit (counts_of b.setup) q ≡ None)) qs
   pub apart : Each (λ q. same_accounts q ≡ false) qs
   pub fresh : Each (λ q. has_twin b.part.rows q ≡ false) qs
   pub distinct : twins qs ≡ false
   pub room : length b.part.rows + length qs ≤ most_rows
-  pub margins : broken_hour b.setup (b.part.rows ++ map proposed qs) proposer ≡ none
+  pub margins : broken_hour b.setup (b.part.rows ++ map proposed qs) proposer ≡ None
   pub cover : covered b.setup (part_rows b.part (b.part.rows ++ map proposed qs)) (operator_of b.setup proposer) ≡ true
 
 -- those of a strip that is not refused
@@ -172,20 +172,20 @@ with_one b q = with_more b (proposed q ∷ [])
 infixr 5 ◌then◌
 data Idle : List Check → Type 0 where
   all_idle : Idle []
-  ◌then◌ : {c : Check} {cs : List Check} → applies c ≡ none → Idle cs → Idle (c ∷ cs)
+  ◌then◌ : {c : Check} {cs : List Check} → applies c ≡ None → Idle cs → Idle (c ∷ cs)
 
 idle_clear : {cs : List Check} → Idle cs → Clear cs
 idle_clear all_idle = tt
 idle_clear (h then hs) = (h, idle_clear hs)
 
 -- a check whose test fails, whose wish holds, whose search finds nothing
-idle : {t : Bool} (r : Refusal) → t ≡ false → applies (t ⇒ r) ≡ none
+idle : {t : Bool} (r : Refusal) → t ≡ false → applies (t ⇒ r) ≡ None
 idle r e = rw e
 
-idle_not : {t : Bool} (r : Refusal) → t ≡ true → applies (not t ⇒ r) ≡ none
+idle_not : {t : Bool} (r : Refusal) → t ≡ true → applies (not t ⇒ r) ≡ None
 idle_not r e = rw e
 
-idle↑ : {o : Option ℕ} (r : ℕ → Refusal) → o ≡ none → applies (o ⇒↑ r) ≡ none
+idle↑ : {o : Option ℕ} (r : ℕ → Refusal) → o ≡ None → applies (o ⇒↑ r) ≡ None
 idle↑ r e = rw e
 
 module _ (b : Book) (p : ℕ) (q : Request) (qs : List Request) (f : Fit b p (q ∷ qs)) where
@@ -215,7 +215,7 @@ module _ (b : Book) (p : ℕ) (q : Request) (qs : List Request) (f : Fit b p (q 
   first_input : (c : Call) → Idle (input_checks b c register (q ∷ []))
   unfolding input_checks faulty_bit_among
   first_input c =
-      let ranged : faulty_bit_among (counts_of b.setup) q.account q ≡ none = rw (eq-eqb q.account q.account refl) (first_and_rest f.ranged).0.1 in
+      let ranged : faulty_bit_among (counts_of b.setup) q.account q ≡ None = rw (eq-eqb q.account q.account refl) (first_and_rest f.ranged).0.1 in
       refl then idle↑ _ ranged then refl then idle _ (first_and_rest f.apart).0 then refl then all_idle
 
   first_state : Idle (state_checks b register (q ∷ []))

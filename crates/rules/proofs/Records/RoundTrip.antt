@@ -1,8 +1,8 @@
 -- Written and read are each other's inverse: both lay the fields whose bit stands side by side, in bit order, each in its width.
+use Rattle.std.specs.Prelude.{Ok, Option, None, Some}
 use Prim.Native.Nat.{ℕ, zero, suc, ◌+◌, ◌^◌, ◌<◌, ◌≤◌}
 use mathlib.Core.Path.{◌≡◌, refl, sym, ap, ◌∙◌}
 use mathlib.Core.List.{List, ◌++◌}
-use mathlib.Core.Option.{Option, none, some}
 use mathlib.Core.Bool.{true, false}
 use native.Mathlib.Nat.{add-zero, mod-eq_of_lt}
 use native.Mathlib.Omega.{arith}
@@ -13,7 +13,6 @@ use borrow.Author.Tests.{eq-eqb, le-ltb, lt-leb}
 use Rattle.wire.specs.Numbers.{number_at, le, Bytes}
 use Rattle.wire.proofs.NumberLaws.{le-number_at}
 use Rattle.rules.specs.declared.Request.{Request}
-use Rattle.rules.specs.declared.Reading.TheVariants.{Read}
 use Rattle.rules.specs.declared.Refusal.{Refusal}
 use Rattle.rules.specs.Basics.{bit}
 use Rattle.rules.specs.Verdicts.{first_to_apply}
@@ -35,13 +34,13 @@ passed : (s : List ℕ) → Clear (read_checks s) → Readable s
 passed s h = record { known = passed_3 s h; mapped = passed_4 s h; sized = passed_5_record s h }
 
 -- what was read is what the record's fields say
-pub read_as : (s : List ℕ) (q : Request) → reading s ≡ Read q → Readable s × (request_of s ≡ q)
+pub read_as : (s : List ℕ) (q : Request) → reading s ≡ Ok q → Readable s × (request_of s ≡ q)
 unfolding reading
 read_as s q e = go (first_to_apply (read_checks s)) refl e
   where
-    go : (o : Option Refusal) → first_to_apply (read_checks s) ≡ o → reading_of o (request_of s) ≡ Read q → Readable s × (request_of s ≡ q)
-    go none f r = (passed s (clear (read_checks s) f), cc)
-    go (some x) f r = absurd (let z : ◌≡◌ {A = ℕ} 0 1 = cc in omega arith)
+    go : (o : Option Refusal) → first_to_apply (read_checks s) ≡ o → reading_of o (request_of s) ≡ Ok q → Readable s × (request_of s ≡ q)
+    go None f r = (passed s (clear (read_checks s) f), cc)
+    go (Some x) f r = absurd (let z : ◌≡◌ {A = ℕ} 0 1 = cc in omega arith)
 
 -- a map with the kind, and the kind
 long_enough : (m : ℕ) → bit m 0 ≡ true → 3 ≤ offset m field_count
@@ -58,7 +57,7 @@ never_unreadable s r a =
     let high : leb (2 ^ 13) (wanted_map (field_in s 0)) ≡ false = lt-leb _ _ a.small in
     rw (short, r.mapped, a.named, high)
 
-pub reads : (s : List ℕ) → Readable s → reading s ≡ Read (request_of s)
+pub reads : (s : List ℕ) → Readable s → reading s ≡ Ok (request_of s)
 unfolding reading read_checks
 reads s r =
     let fine = never_unreadable s r (tables_agree (field_in s 0) r.known) in
@@ -79,12 +78,12 @@ module _ (q : Request) (h : is_single q.kind ≡ true) (c : Canonical q) (f : Fi
   same_request : request_of (write q) ≡ q
   same_request = same_fields (request_of (write q)) q (λ k l. field_of_request (write q) k l ∙ field_reads_back k l)
 
-  pub written_reads_back : reading (write q) ≡ Read q
+  pub written_reads_back : reading (write q) ≡ Ok q
   written_reads_back =
       let kind : field_in (write q) 0 ≡ q.kind = field_reads_back 0 (omega arith) in
       let keeps : Readable (write q) =
       record { known = rw kind h; mapped = rw kind (map_in_write q h); sized = rw kind (length-write q h) } in
-      reads (write q) keeps ∙ ap Read same_request
+      reads (write q) keeps ∙ ap Ok same_request
 
 -- ---- a record, read and written
 
@@ -119,14 +118,14 @@ write_again : (s : List ℕ) → Readable s → write (request_of s) ≡ le 2 (m
 unfolding write request_of
 write_again s r = rw r.mapped
 
-pub read_writes_back : (s : List ℕ) (q : Request) → Bytes s → reading s ≡ Read q → write q ≡ s
+pub read_writes_back : (s : List ℕ) (q : Request) → Bytes s → reading s ≡ Ok q → write q ≡ s
 read_writes_back s q b e =
     let (r, same) = read_as s q e in
     ap write (sym same) ∙ write_again s r ∙ all_rewritten s b (record_ends s r)
 
 -- ---- what was read is a request of a known kind, with just that kind's fields, each in its bytes
 
-module _ (s : List ℕ) (q : Request) (e : reading s ≡ Read q) where
+module _ (s : List ℕ) (q : Request) (e : reading s ≡ Ok q) where
   pub read_field : (k : ℕ) → k < field_count → field_of q k ≡ field_in s k
   read_field k l = ap (λ (p : Request). field_of p k) (sym (read_as s q e).1) ∙ field_of_request s k l
 

@@ -1,10 +1,9 @@
 -- What eases an account hour: low no lower, high no higher, no more exposed. Margins that were kept are then kept, and an operator that
 -- was covered is covered. Rows that wait and are not there ease every account.
-use Rattle.std.specs.Prelude.{if◌then◌else◌}
+use Rattle.std.specs.Prelude.{if◌then◌else◌, None}
 use Prim.Native.Nat.{ℕ, ◌+◌, ◌*◌, ◌≤◌}
 use mathlib.Core.Path.{◌≡◌, refl}
 use mathlib.Core.List.{List, [], ◌∷◌, ◌++◌}
-use mathlib.Core.Option.{none}
 use mathlib.Core.Bool.{Bool, true, false}
 use native.Mathlib.Nat.{mul-le-mul_left}
 use native.Mathlib.Omega.{arith}
@@ -79,7 +78,7 @@ eased_margins margins x y e h =
 
 -- and an account that broke none breaks none
 pub eased_unbroken : (u : Setup) (rows later : List Row) (a : ℕ) → ((h : ℕ) → Eased (account_hour rows a h) (account_hour later a h))
-    → broken_hour u rows a ≡ none → broken_hour u later a ≡ none
+    → broken_hour u rows a ≡ None → broken_hour u later a ≡ None
 unfolding broken_hour
 eased_unbroken u rows later a eased kept =
     none_find _ (each_map (λ h w. rw (eased_margins (margins_at u a h) _ _ (eased h) (not-false _ w))) (find_none _ (up_to (periods u)) kept))

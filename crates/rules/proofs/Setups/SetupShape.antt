@@ -1,8 +1,8 @@
 -- What is known of set-up bytes that are in shape, and of those that are not refused.
+use Rattle.std.specs.Prelude.{None}
 use Prim.Native.Nat.{ℕ, ◌≤◌, ◌^◌}
 use mathlib.Core.Path.{◌≡◌}
 use mathlib.Core.List.{List}
-use mathlib.Core.Option.{none}
 use mathlib.Core.Bool.{false, not}
 use native.Mathlib.Omega.{arith}
 use lib.ListN.{length}
@@ -92,11 +92,11 @@ shape_length s h =
 
 -- ---- a set-up that is not refused
 
-module _ (s : List ℕ) (accepted : setup_refusal s ≡ none) where
+module _ (s : List ℕ) (accepted : setup_refusal s ≡ None) where
   pub accepted_shape : Shape s
   unfolding setup_refusal
   accepted_shape = shape_of s (spared _ _ (clear _ accepted).0)
 
-  pub accepted_values : faulty_offset (setup_of s) (operators_in s) ≡ none
+  pub accepted_values : faulty_offset (setup_of s) (operators_in s) ≡ None
   unfolding setup_refusal
   accepted_values = spared↑ _ _ (clear _ accepted).1.0

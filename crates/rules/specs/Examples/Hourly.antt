@@ -1,6 +1,5 @@
 -- Hourly exposures: what each hour of an operator comes to, and that its hours come to its exposure.
-use Rattle.std.specs.Prelude.{ℕ, ◌*◌, ◌≡◌, refl, List, [], ◌∷◌, map, replicate}
-use Rattle.std.proofs.Math.Option.{none}
+use Rattle.std.specs.Prelude.{ℕ, ◌*◌, ◌≡◌, refl, List, [], ◌∷◌, map, replicate, None}
 use Rattle.units.specs.declared.MilliCents.{MilliCents}
 use Rattle.units.specs.Units.{cents, cents_per_mwh, milli_cents}
 use Rattle.rules.specs.Basics.{up_to}
@@ -89,18 +88,18 @@ long_eases_nothing = refl
 
 -- ---- out of range: the operator is 9, the hour is 5, and of both the hour's bit is given
 
-no_such_operator : exposure_read_out (hourly_exposure_reading whole_case 3 24) ≡ ((6, 9, 0), none)
+no_such_operator : exposure_read_out (hourly_exposure_reading whole_case 3 24) ≡ ((6, 9, 0), None)
 unfolding everything
 no_such_operator = refl
 
-no_such_hour : exposure_read_out (hourly_exposure_reading whole_case 1 25) ≡ ((6, 5, 0), none)
+no_such_hour : exposure_read_out (hourly_exposure_reading whole_case 1 25) ≡ ((6, 5, 0), None)
 unfolding everything
 no_such_hour = refl
 
-both_out_of_range : exposure_read_out (hourly_exposure_reading whole_case 3 25) ≡ ((6, 5, 0), none)
+both_out_of_range : exposure_read_out (hourly_exposure_reading whole_case 3 25) ≡ ((6, 5, 0), None)
 unfolding everything
 both_out_of_range = refl
 
-both_zero : exposure_read_out (hourly_exposure_reading whole_case 0 0) ≡ ((6, 5, 0), none)
+both_zero : exposure_read_out (hourly_exposure_reading whole_case 0 0) ≡ ((6, 5, 0), None)
 unfolding everything
 both_zero = refl

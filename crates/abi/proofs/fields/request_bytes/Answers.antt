@@ -10,4 +10,4 @@ pub returns : goal.returns
 unfolding request_bytes
 returns c =
     put_pack widths _ (replicate fields_size 0) refl refl
-    (rw (c.put_u32-2.ensures, c.put_u8-8.ensures, c.put_u64-2.ensures, c.put_u8-7.ensures, c.put_u16.ensures, c.put_u32.ensures, c.put_u8-6.ensures, c.put_u8-5.ensures, c.put_u8-4.ensures, c.put_u64.ensures, c.put_u8-3.ensures, c.put_u8-2.ensures, c.put_u8.ensures))
+    (rw (c.put-13.ensures, c.put-12.ensures, c.put-11.ensures, c.put-10.ensures, c.put-9.ensures, c.put-8.ensures, c.put-7.ensures, c.put-6.ensures, c.put-5.ensures, c.put-4.ensures, c.put-3.ensures, c.put-2.ensures, c.put.ensures))

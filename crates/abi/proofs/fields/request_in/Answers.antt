@@ -5,4 +5,4 @@ use Rattle.abi.proofs.fields.request_in.Goals as goal
 pub returns : goal.returns
 unfolding request_in
 returns c =
-    rw (c.get_u8.ensures, c.get_u8-2.ensures, c.get_u8-3.ensures, c.get_u64.ensures, c.get_u8-4.ensures, c.get_u8-5.ensures, c.get_u8-6.ensures, c.get_u32.ensures, c.get_u16.ensures, c.get_u8-7.ensures, c.get_u64-2.ensures, c.get_u8-8.ensures, c.get_u32-2.ensures)
+    rw (c.get.ensures, c.get-2.ensures, c.get-3.ensures, c.get-4.ensures, c.get-5.ensures, c.get-6.ensures, c.get-7.ensures, c.get-8.ensures, c.get-9.ensures, c.get-10.ensures, c.get-11.ensures, c.get-12.ensures, c.get-13.ensures)

@@ -9,4 +9,4 @@ unfolding signed
 returns-in-Long c = rw c.in-Long.is
 
 pub returns-in-Short : goal.returns-in-Short
-returns-in-Short c = rw (c.in-Short.is, c.minus_u64.ensures) (minus_signed 8 _ (search rules))
+returns-in-Short c = rw (c.in-Short.is, c.minus.ensures) (minus_signed 8 _ (search rules))

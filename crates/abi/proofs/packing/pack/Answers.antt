@@ -5,4 +5,4 @@ use Rattle.abi.proofs.packing.pack.Goals as goal
 
 pub returns : goal.returns
 returns c =
-    record { answer = packs _ _ _ _ (search rules) (search rules) (search rules) c.outcome_numbers-n.ensures }
+    record { answer = packs _ _ _ _ (search rules) (search rules) (search rules) c.from-n.ensures }

@@ -1,6 +1,7 @@
 -- What register would be refused for refuses it; else its row is put into its place.
+use Rattle.std.specs.Prelude.{None, Some}
+use Rattle.rules.proofs.Checks.PassedOn.{passed_on}
 use mathlib.Core.Path.{refl, sym, ◌∙◌}
-use mathlib.Core.Option.{none, some}
 use Rattle.rules.specs.Requests.{ask}
 use Rattle.rules.proofs.Checks.Clearing.{checked-same}
 use Rattle.registration.proofs.RegisterLaws.{ready_proposes}
@@ -11,10 +12,10 @@ pub register_fault-requires : goal.register_fault-requires
 register_fault-requires c =
     record { known_book = c.requires.known_book; proposes_row = ready_proposes ask _ _ refl c.requires.ready }
 
-pub returns-in-Fails : goal.returns-in-Fails
-returns-in-Fails c =
+pub returns-in_err-register_fault : goal.returns-in_err-register_fault
+returns-in_err-register_fault c =
     let both = ask_refused _ _ c.requires.known_book _
-    (checked-same _ (some _) (sym c.register_fault.ensures ∙ c.in-Fails.is)) in record { answer = both.0; bytes = both.1.0; still = both.1.1 }
+    (checked-same _ (Some _) (sym c.register_fault.ensures ∙ c.in_err-register_fault.was)) in record { answer = passed_on _ c.from_residual.ensures.1 ∙ both.0; bytes = both.1.0; still = both.1.1 }
 
 pub put_ask-requires : goal.put_ask-requires
 put_ask-requires c =
@@ -22,6 +23,6 @@ put_ask-requires c =
 
 pub returns : goal.returns
 returns c =
-    let free = checked-same _ none (sym c.register_fault.ensures ∙ c.in_default.is) in
+    let free = checked-same _ None (sym c.register_fault.ensures ∙ c.in_ok-register_fault.was) in
     let both = ask_accepted _ _ c.requires.known_book _ _ free (ready_proposes ask _ _ refl c.requires.ready) c.row_count-n.ensures.meaning
     (rw c.proposed_row-row.ensures at c.put_ask.ensures) in record { answer = both.0; bytes = both.1.0; still = both.1.1 }

@@ -1,5 +1,5 @@
 -- The entries before that of the operator are the exposures of the operators before it.
-use Prim.Native.Nat.{◌+◌, ◌-◌, ◌≤◌}
+use Prim.Native.Nat.{◌+◌, ◌≤◌}
 use mathlib.Core.Path.{◌≡◌}
 use Rattle.rules.specs.Limits.{most_operators}
 use Rattle.rules.specs.Books.{operator_count}
@@ -12,11 +12,8 @@ use Rattle.asks.proofs.exposures.fill_exposures.Given as goal
 abbrev pub invariant-loop-number : goal.invariant-loop-number
 invariant-loop-number l =
     let b = book_in l.book in
-    (l.n.operators ≡ operator_count b.setup)
-    × (l.n.operators ≤ most_operators)
+    (l.number-end ≡ operator_count b.setup)
+    × (l.number-end ≤ most_operators)
     × (1 ≤ l.number)
-    × (l.number ≤ l.n.operators + 1)
+    × (l.number ≤ l.number-end + 1)
     × Listed (exposure b.setup b.part.rows) exposures_size l.exposures l.number
-
-abbrev pub decreases-loop-number : goal.decreases-loop-number
-decreases-loop-number l = l.n.operators + 1 - l.number

@@ -15,8 +15,8 @@ pub sale_of-added-requires : goal.sale_of-added-requires
 sale_of-added-requires c =
     (c.requires.operator_exposures.1, sound_row_in_range _ _ (sound_row _ _ c.requires.sound_row.0))
 
-pub plus-requires : goal.plus-requires
-plus-requires c =
+pub add-requires : goal.add-requires
+add-requires c =
     let standing = c.requires.operator_exposures.0.exposure_at _ c.operator_of-operator.ensures.inside.0 c.operator_of-operator.ensures.inside.1 in
     let high = exposure_high _ c.requires.operator_exposures.1.is_sound _ c.operator_of-operator.ensures.inside in
     omega (arith, standing, high, c.sale_of-added.ensures.bounded)
@@ -27,6 +27,6 @@ returns c =
     let row = sound_row _ _ c.requires.sound_row.0 in
     c.covered_in_force.ensures
     ∙ rw (
-      exposure_with_row _ c.requires.operator_exposures.1.is_sound _ c.args.row row c.requires.sound_row.1 _ _ _ standing c.sale_of-added.ensures.meaning c.plus.ensures.exact,
+      exposure_with_row _ c.requires.operator_exposures.1.is_sound _ c.args.row row c.requires.sound_row.1 _ _ _ standing c.sale_of-added.ensures.meaning c.add.ensures,
       c.operator_of-operator.ensures.meaning,
     )

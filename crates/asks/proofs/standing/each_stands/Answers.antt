@@ -10,27 +10,16 @@ pub loop-number-init : goal.loop-number-init
 unfolding asks_stand
 loop-number-init c = (search rules, search rules, refl)
 
-pub ask_stands-requires : goal.ask_stands-requires
-ask_stands-requires c =
-    record {
-      ask_inputs = record {
-        account_hours = c.requires.sums_of;
-        exposures_known = c.operator_exposures-exposures.ensures;
-        sale_inputs = record { is_sound = c.requires.known_book.0; price_sums = c.price_sums-sums.ensures; account_operators = c.account_operators-operators.ensures };
-      };
-      known_book = (c.requires.known_book.1, c.loop-number.invariant.0, omega arith);
-    }
-
 pub loop-number-preserved : goal.loop-number-preserved
 loop-number-preserved c = (
   search rules,
   search rules,
-  c.loop-number.invariant.2 ∙ every_next _ _ _ _ (omega arith) (sym c.ask_stands.ensures ∙ c.if-ask_stands.true),
+  c.loop-number.invariant.2 ∙ every_next _ _ _ _ (omega arith) (sym c.ask_stands.ensures ∙ c.if-not-ask_stands.false),
 )
 
-pub returns-else-ask_stands : goal.returns-else-ask_stands
-returns-else-ask_stands c =
-    sym (c.loop-number.invariant.2 ∙ every_fails _ _ _ (omega arith) (sym c.ask_stands.ensures ∙ c.if-ask_stands.false))
+pub returns-then-not-ask_stands : goal.returns-then-not-ask_stands
+returns-then-not-ask_stands c =
+    sym (c.loop-number.invariant.2 ∙ every_fails _ _ _ (omega arith) (sym c.ask_stands.ensures ∙ c.if-not-ask_stands.true))
 
 pub returns : goal.returns
 returns c = sym (c.loop-number.invariant.2 ∙ every_done _ _ _ (omega arith))

@@ -13,6 +13,3 @@ invariant-loop-number l =
     (1 ≤ l.number)
     × (l.number ≤ most_accounts + 1)
     × (asks_stand (book_in l.book) ≡ every (λ a. ask_stands (book_in l.book) (ask_at (book_in l.book) a)) (counting (most_accounts + 1 - l.number) l.number))
-
-abbrev pub decreases-loop-number : goal.decreases-loop-number
-decreases-loop-number l = most_accounts + 1 - l.number

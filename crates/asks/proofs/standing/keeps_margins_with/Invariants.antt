@@ -13,10 +13,8 @@ abbrev pub invariant-loop-hour : goal.invariant-loop-hour
 invariant-loop-hour l =
     let b = book_in l.book in
     (l.row.first ≤ l.hour)
-    × (l.hour ≤ l.row.last + 1)
+    × (l.hour-end ≡ l.row.last)
+    × (l.hour ≤ l.hour-end + 1)
     × (l.row.last ≤ most_hours)
     × (broken_by b.setup b.part.rows (l.row ∷ []) l.row.proposer
     ≡ find (breaks_with b.setup b.part.rows (l.row ∷ []) l.row.proposer) (counting (l.row.last + 1 - l.hour) l.hour))
-
-abbrev pub decreases-loop-hour : goal.decreases-loop-hour
-decreases-loop-hour l = l.row.last + 1 - l.hour

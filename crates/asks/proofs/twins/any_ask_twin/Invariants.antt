@@ -12,11 +12,8 @@ use Rattle.asks.proofs.twins.any_ask_twin.Given as goal
 abbrev pub invariant-loop-number : goal.invariant-loop-number
 invariant-loop-number l =
     let b = book_in l.book in
-    (l.rows ≡ length b.part.rows)
-    × (l.rows ≤ most_rows)
+    (l.number-end ≡ length b.part.rows)
+    × (l.number-end ≤ most_rows)
     × (1 ≤ l.number)
-    × (l.number ≤ l.rows + 1)
+    × (l.number ≤ l.number-end + 1)
     × (l.found || any_passes (is_ask_twin b) (drop (l.number - 1) b.part.rows) ≡ some_ask_twin b)
-
-abbrev pub decreases-loop-number : goal.decreases-loop-number
-decreases-loop-number l = l.rows + 1 - l.number

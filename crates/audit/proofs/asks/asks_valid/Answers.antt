@@ -19,11 +19,11 @@ loop-number-init c = (search rules, search rules, refl)
 
 pub loop-number-preserved : goal.loop-number-preserved
 loop-number-preserved c =
-    (search rules, search rules, c.loop-number.invariant.2 ∙ every_next _ _ _ _ (omega arith) (sym c.ask_valid.ensures ∙ c.if-ask_valid.true))
+    (search rules, search rules, c.loop-number.invariant.2 ∙ every_next _ _ _ _ (omega arith) (sym c.ask_valid.ensures ∙ c.if-not-ask_valid.false))
 
-pub returns-else-ask_valid : goal.returns-else-ask_valid
-returns-else-ask_valid c =
-    sym (c.loop-number.invariant.2 ∙ every_fails _ _ _ (omega arith) (sym c.ask_valid.ensures ∙ c.if-ask_valid.false))
+pub returns-then-not-ask_valid : goal.returns-then-not-ask_valid
+returns-then-not-ask_valid c =
+    sym (c.loop-number.invariant.2 ∙ every_fails _ _ _ (omega arith) (sym c.ask_valid.ensures ∙ c.if-not-ask_valid.true))
 
 pub returns : goal.returns
 returns c = sym (c.loop-number.invariant.2 ∙ every_done _ _ _ (omega arith))

@@ -13,6 +13,3 @@ invariant-loop-number l =
     (1 ≤ l.number)
     × (l.number ≤ most_accounts + 1)
     × (asks_valid most_hours l.book ≡ every (λ a. ask_valid l.book a (ask_offset most_hours a)) (counting (most_accounts + 1 - l.number) l.number))
-
-abbrev pub decreases-loop-number : goal.decreases-loop-number
-decreases-loop-number l = most_accounts + 1 - l.number

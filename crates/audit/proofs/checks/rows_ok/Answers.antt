@@ -1,19 +1,14 @@
--- After each row, what was tested so far and the test of the rows that are left together are the test of all.
-use Prim.Native.Nat.{◌-◌}
-use mathlib.Core.Path.{refl}
-use native.Mathlib.Omega.{arith}
-use borrow.Author.Rules.{rules}
+-- The test of the rows by their numbers is that of the rows.
+use mathlib.Core.Path.{sym, ◌∙◌}
+use Rattle.std.proofs.Common.{of_calls}
 use Rattle.image.specs.Cells.{rows_from}
-use Rattle.audit.proofs.CheckLaws.{tested_next, tested_all}
+use Rattle.image.specs.Image.{row_in}
+use Rattle.image.specs.Valid.{row_ok}
+use Rattle.image.specs.Layout.{row_width}
+use Rattle.audit.proofs.CheckLaws.{tests_by_number}
 use Rattle.audit.proofs.checks.rows_ok.Goals as goal
 
-pub loop-left-init : goal.loop-left-init
-unfolding rows_from
-loop-left-init c = (search rules, λ u n h. record { together = refl })
-
-pub loop-left-preserved : goal.loop-left-preserved
-loop-left-preserved c =
-    (search rules, λ u n h. tested_next (c.loop-left.invariant.1 u n h) (c.loop-left.left - 1) (omega arith) c.row_at.ensures (c.row_ok-ok.ensures u n h))
-
 pub returns : goal.returns
-returns c u n h = tested_all (c.loop-left.invariant.1 u n h) (omega arith)
+unfolding rows_from
+returns c u n h =
+    c.all_pass.ensures _ (λ i l t post. search of_calls) ∙ sym (tests_by_number row_in row_width (row_ok u) c.args.s.now c.args.at c.args.n)

@@ -22,12 +22,18 @@ loop-number-preserved c = (
   c.loop-number.invariant.0,
   search rules,
   search rules,
-  λ rows sums. c.loop-number.invariant.3 rows sums ∙ every_next _ _ _ _ (omega arith) (sym (c.operator_covered.ensures rows sums) ∙ c.if-operator_covered.true),
+  λ rows sums. c.loop-number.invariant.3 rows sums ∙ every_next _ _ _ _ (omega arith) (sym (c.operator_covered.ensures rows sums) ∙ c.if-not-operator_covered.false),
 )
 
-pub returns-else-operator_covered : goal.returns-else-operator_covered
-returns-else-operator_covered c rows sums =
-    sym (c.loop-number.invariant.3 rows sums ∙ every_fails _ _ _ (omega arith) (sym (c.operator_covered.ensures rows sums) ∙ c.if-operator_covered.false))
+pub returns-then-not-operator_covered : goal.returns-then-not-operator_covered
+returns-then-not-operator_covered c rows sums =
+    sym (c.loop-number.invariant.3 rows sums ∙ every_fails _ _ _ (omega arith) (sym (c.operator_covered.ensures rows sums) ∙ c.if-not-operator_covered.true))
+
+pub returns-else-not-operator_covered : goal.returns-else-not-operator_covered
+returns-else-not-operator_covered c rows sums =
+    sym (c.loop-number.invariant.3 rows sums
+    ∙ every_next _ _ 0 _ (omega arith) (sym (c.operator_covered.ensures rows sums) ∙ c.if-not-operator_covered.false)
+    ∙ every_done _ 0 _ (omega arith))
 
 pub returns : goal.returns
 returns c rows sums = sym (c.loop-number.invariant.3 rows sums ∙ every_done _ _ _ (omega arith))

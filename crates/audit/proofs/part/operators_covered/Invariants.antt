@@ -11,12 +11,9 @@ use Rattle.audit.proofs.part.operators_covered.Given as goal
 
 abbrev pub invariant-loop-number : goal.invariant-loop-number
 invariant-loop-number l =
-    (l.n.operators ≡ (counts_in l.book).operators)
+    (l.number-end ≡ (counts_in l.book).operators)
     × (1 ≤ l.number)
-    × (l.number ≤ (counts_in l.book).operators + 1)
+    × (l.number ≤ l.number-end + 1)
     × ForRowsSummedIn l.top l.table (λ rows.
     operators_covered (setup_of l.book) (part_with l.book l.at rows)
     ≡ every (covered (setup_of l.book) (part_with l.book l.at rows)) (counting ((counts_in l.book).operators + 1 - l.number) l.number))
-
-abbrev pub decreases-loop-number : goal.decreases-loop-number
-decreases-loop-number l = (counts_in l.book).operators + 1 - l.number

@@ -9,7 +9,7 @@ use Rattle.audit.proofs.part.part_valid.Goals as goal
 
 pub returns-then-rows-gt-MOST_ROWS : goal.returns-then-rows-gt-MOST_ROWS
 returns-then-rows-gt-MOST_ROWS c =
-    record { meaning = too_many_rows _ _ _ (omega (arith, c.get_u16-rows.ensures)); sums = not_passed }
+    record { meaning = too_many_rows _ _ _ (omega (arith, c.get-rows.ensures)); sums = not_passed }
 
 pub guarantees_valid-requires : goal.guarantees_valid-requires
 guarantees_valid-requires c =
@@ -18,14 +18,14 @@ guarantees_valid-requires c =
 pub returns-then-not-guarantees_valid : goal.returns-then-not-guarantees_valid
 returns-then-not-guarantees_valid c =
     let fails =
-    guarantees_fail _ _ _ _ _ c.requires.setup_known.0 c.get_u16-rows.ensures (ap (λ (n : Counts). n.operators) c.counts-c.ensures) (omega arith)
+    guarantees_fail _ _ _ _ _ c.requires.setup_known.0 c.get-rows.ensures (ap (λ (n : Counts). n.operators) c.counts-c.ensures) (omega arith)
     (sym c.guarantees_valid.ensures ∙ c.if-not-guarantees_valid.true) in
     record { meaning = fails; sums = not_passed }
 
 pub returns-then-not-rows_valid : goal.returns-then-not-rows_valid
 returns-then-not-rows_valid c =
     let fails =
-    rows_fail _ _ _ _ _ c.requires.setup_known.0 c.get_u16-rows.ensures (ap (λ (n : Counts). n.operators) c.counts-c.ensures) (omega arith)
+    rows_fail _ _ _ _ _ c.requires.setup_known.0 c.get-rows.ensures (ap (λ (n : Counts). n.operators) c.counts-c.ensures) (omega arith)
     (sym c.guarantees_valid.ensures ∙ c.if-not-guarantees_valid.false) (sym c.rows_valid.ensures ∙ c.if-not-rows_valid.true) in
     record { meaning = fails; sums = not_passed }
 
@@ -54,6 +54,6 @@ pub returns : goal.returns
 returns c =
     let decided =
     c.sums_valid.ensures.meaning
-    ∙ sums_decide _ _ _ _ _ c.requires.setup_known.0 c.get_u16-rows.ensures (ap (λ (n : Counts). n.operators) c.counts-c.ensures) (omega arith)
+    ∙ sums_decide _ _ _ _ _ c.requires.setup_known.0 c.get-rows.ensures (ap (λ (n : Counts). n.operators) c.counts-c.ensures) (omega arith)
     (sym c.guarantees_valid.ensures ∙ c.if-not-guarantees_valid.false) (sym c.rows_valid.ensures ∙ c.if-not-rows_valid.false) in
-    record { meaning = decided; sums = λ e. rw (← c.get_u16-rows.ensures) c.sums_valid.ensures.sums }
+    record { meaning = decided; sums = λ e. rw (← c.get-rows.ensures) c.sums_valid.ensures.sums }

@@ -6,4 +6,4 @@ use Rattle.audit.proofs.twins.no_twins.Goals as goal
 
 pub returns : goal.returns
 returns c =
-    c.keys_apart.ensures ∙ keys_apart_rows (bytes_known c.args.s.now c.type_inv.s) c.args.at c.args.n _ _ c.put_keys.ensures
+    c.apart.ensures ∙ keys_apart_rows (bytes_known c.args.s.now c.type_inv.s) c.args.at c.args.n _ c.fill.ensures

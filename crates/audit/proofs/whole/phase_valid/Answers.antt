@@ -7,4 +7,4 @@ use Rattle.audit.proofs.whole.phase_valid.Goals as goal
 pub returns : goal.returns
 unfolding phase_valid
 returns c =
-    rw (c.none_pending-quiet.ensures, c.get_u16-rows.ensures, c.get_u16-schedules.ensures) (chained_all _ (_ ∷ _ ∷ _ ∷ _ ∷ []))
+    rw (c.none_pending-quiet.ensures, c.get-rows.ensures, c.get-schedules.ensures) (chained_all _ (_ ∷ _ ∷ _ ∷ _ ∷ []))

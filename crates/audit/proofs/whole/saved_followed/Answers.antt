@@ -9,8 +9,8 @@ returns-then-book-eq0 c = sym (followed_without _ _ c.if-book-eq0.true)
 
 pub rows_follow-requires : goal.rows_follow-requires
 rows_follow-requires c =
-    (omega (arith, c.requires.0, c.requires.1 c.if-book-eq0.false, c.get_u16-saved.ensures), omega (arith, c.requires.0, c.requires.2, c.get_u16-rows.ensures))
+    (omega (arith, c.requires.0, c.requires.1 c.if-book-eq0.false, c.get-saved.ensures), omega (arith, c.requires.0, c.requires.2, c.get-rows.ensures))
 
 pub returns : goal.returns
 returns c =
-    c.rows_follow.ensures ∙ rw (c.get_u16-saved.ensures, c.get_u16-rows.ensures) (sym (followed_with _ _ c.if-book-eq0.false))
+    c.rows_follow.ensures ∙ rw (c.get-saved.ensures, c.get-rows.ensures) (sym (followed_with _ _ c.if-book-eq0.false))

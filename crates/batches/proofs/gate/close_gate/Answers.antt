@@ -1,4 +1,5 @@
 -- What was checked is what the state decides, and what is written is the book with no row pending, in the next phase.
+use Rattle.rules.proofs.Checks.PassedOn.{passed_on}
 use Prim.Native.Nat.{ℕ}
 use mathlib.Core.Path.{refl, ap, ◌∙◌}
 use mathlib.Core.List.{List}
@@ -13,23 +14,23 @@ use Rattle.batches.proofs.Decisions.{nothing_decided, refused_for}
 use Rattle.batches.proofs.Acceptances.{closed_answered}
 use Rattle.batches.proofs.gate.close_gate.Goals as goal
 
-pub returns-in-Fails : goal.returns-in-Fails
-returns-in-Fails c =
-    let both = refused_all close_gate _ _ c.requires (refused_for close_gate _ _ (λ q. c.outside_batch.ensures close_gate q refl) c.in-Fails.is) in
-    record { answer = both.0; bytes = both.1.0; still = both.1.1 }
+pub returns-in_err-outside_batch : goal.returns-in_err-outside_batch
+returns-in_err-outside_batch c =
+    let both = refused_all close_gate _ _ c.requires (refused_for close_gate _ _ (λ q. c.outside_batch.ensures close_gate q refl) c.in_err-outside_batch.was) in
+    record { answer = λ q. passed_on _ c.from_residual.ensures.1 ∙ both.0 q; bytes = both.1.0; still = both.1.1 }
 
 pub end_rows-requires : goal.end_rows-requires
 end_rows-requires c =
     let n = book_length _ c.requires in
     omega arith
 
-pub put_u8-requires : goal.put_u8-requires
-put_u8-requires c =
+pub put-requires : goal.put-requires
+put-requires c =
     let n = book_length _ c.requires in
     omega arith
 
 pub returns : goal.returns
 returns c =
-    let free = nothing_decided close_gate _ _ (λ q. c.outside_batch.ensures close_gate q refl) c.in_default.is in
+    let free = nothing_decided close_gate _ _ (λ q. c.outside_batch.ensures close_gate q refl) c.in_ok-outside_batch.was in
     let both = closed_answered _ _ c.requires _ free c.row_count-n.ensures.meaning
-    (c.put_u8.ensures ∙ ap (λ (x : List ℕ). splice x phase_offset (le 1 2)) c.end_rows.ensures) in record { answer = both.0; bytes = both.1.0; still = both.1.1 }
+    (c.put.ensures ∙ ap (λ (x : List ℕ). splice x phase_offset (le 1 2)) c.end_rows.ensures) in record { answer = both.0; bytes = both.1.0; still = both.1.1 }

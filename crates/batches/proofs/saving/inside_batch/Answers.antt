@@ -3,13 +3,15 @@ use mathlib.Core.Path.{sym, ap, ◌∙◌}
 use Rattle.rules.specs.Verdicts.{checked}
 use Rattle.book.proofs.Answers.{in_wrong_phase}
 use Rattle.batches.proofs.Decisions.{without_batch, inside_batch, phase_inside}
+use Rattle.rules.specs.declared.phases.Phase.TheVariants.{Registration}
+use Rattle.book.proofs.PhaseLaws.{other_phase, same_phase}
 use Rattle.batches.proofs.saving.inside_batch.Goals as goal
 
-pub returns-then-phase-ne-REGISTRATION : goal.returns-then-phase-ne-REGISTRATION
-returns-then-phase-ne-REGISTRATION c = λ k q m. ap checked (sym (in_wrong_phase _ q k (λ e. c.if-phase-ne-REGISTRATION.true (c.phase.ensures ∙ e ∙ phase_inside k m))))
+pub returns-then-ne : goal.returns-then-ne
+returns-then-ne c = λ k q m. ap checked (sym (in_wrong_phase _ q k (λ e. other_phase _ Registration c.phase.ensures c.ne.ensures c.if-ne.true (e ∙ phase_inside k m))))
 
 pub returns-then-batch_open : goal.returns-then-batch_open
-returns-then-batch_open c = λ k q m. ap checked (sym (inside_batch _ q (sym c.phase.ensures ∙ c.if-phase-ne-REGISTRATION.false) k m (sym c.batch_open.ensures ∙ c.if-batch_open.true)))
+returns-then-batch_open c = λ k q m. ap checked (sym (inside_batch _ q (same_phase _ Registration c.phase.ensures c.ne.ensures c.if-ne.false) k m (sym c.batch_open.ensures ∙ c.if-batch_open.true)))
 
 pub returns : goal.returns
-returns c = λ k q m. ap checked (sym (without_batch _ q (sym c.phase.ensures ∙ c.if-phase-ne-REGISTRATION.false) k m (sym c.batch_open.ensures ∙ c.if-batch_open.false)))
+returns c = λ k q m. ap checked (sym (without_batch _ q (same_phase _ Registration c.phase.ensures c.ne.ensures c.if-ne.false) k m (sym c.batch_open.ensures ∙ c.if-batch_open.false)))

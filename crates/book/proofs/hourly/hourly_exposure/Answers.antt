@@ -13,4 +13,4 @@ sales_of_operator-waits-requires c =
 pub returns : goal.returns
 returns c =
     hour_joined _ c.requires.0 c.args.operator c.args.hour _ _ _ _ _ c.short_of_operator-below.ensures.meaning
-    c.sales_of_operator-waits.ensures.meaning c.plus.ensures.exact c.price-price.ensures.meaning c.at.ensures.exact
+    c.sales_of_operator-waits.ensures.meaning c.add.ensures c.price-price.ensures.meaning c.at.ensures.exact

@@ -18,6 +18,3 @@ invariant-loop-number l =
     × (l.sum.0 ≤ (l.number - 1) * most_energy)
     × (l.sum.0 + total (sale_in_hour b.setup l.operator l.hour) (drop (l.number - 1) b.part.rows)
     ≡ total (sale_in_hour b.setup l.operator l.hour) b.part.rows)
-
-abbrev pub decreases-loop-number : goal.decreases-loop-number
-decreases-loop-number l = l.rows + 1 - l.number

@@ -23,24 +23,21 @@ loop-account-init c =
       sum_begins _ _ _ _ (omega arith),
     )
 
-pub short_of_account-requires : goal.short_of_account-requires
-short_of_account-requires c =
-    (c.requires.0, c.requires.1, (c.loop-account.invariant.2, omega (arith, c.loop-account.invariant.0)))
-
-pub plus-sum-requires : goal.plus-sum-requires
-plus-sum-requires c =
-    omega (arith, c.loop-account.invariant.1, c.loop-account.invariant.4, c.short_of_account.ensures.bounded)
-
 pub loop-account-preserved : goal.loop-account-preserved
 loop-account-preserved c = (
   c.loop-account.invariant.0,
   c.loop-account.invariant.1,
   omega arith,
   omega arith,
-  omega (arith, c.loop-account.invariant.4, c.plus-sum.ensures.exact, c.short_of_account.ensures.bounded),
-  sum_next _ _ _ _ _ _ _ (omega (arith, c.loop-account.invariant.0)) (c.plus-sum.ensures.exact ∙ ap (λ (x : ℕ). c.loop-account.sum.0 + x) c.short_of_account.ensures.meaning) c.loop-account.invariant.5,
+  omega (arith, c.loop-account.invariant.4, c.add-sum.ensures, c.short_of_account.ensures.bounded),
+  sum_next _ _ _ _ _ _ _ (omega (arith, c.loop-account.invariant.0)) (c.add-sum.ensures ∙ ap (λ (x : ℕ). c.loop-account.sum.0 + x) c.short_of_account.ensures.meaning) c.loop-account.invariant.5,
 )
 
-pub returns : goal.returns
-returns c =
-    record { meaning = sum_done _ _ _ _ _ (omega (arith, c.loop-account.invariant.0)) c.loop-account.invariant.5 ∙ sym (shorts_by_account _ _ _ _); bounded = omega (arith, c.loop-account.invariant.4, c.loop-account.invariant.1) }
+pub returns-clause-meaning : goal.returns-clause-meaning
+returns-clause-meaning c =
+    sum_done _ _ _ _ _ (omega (arith, c.loop-account.invariant.0)) c.loop-account.invariant.5 ∙ sym (shorts_by_account _ _ _ _)
+
+pub returns-2-clause-meaning : goal.returns-2-clause-meaning
+returns-2-clause-meaning c =
+    sum_done _ 0 _ _ _ (omega arith) (sum_next _ _ 0 _ _ _ _ (omega (arith, c.loop-account.invariant.0)) (c.add-sum.ensures ∙ ap (λ (x : ℕ). c.loop-account.sum.0 + x) c.short_of_account.ensures.meaning) c.loop-account.invariant.5)
+    ∙ sym (shorts_by_account _ _ _ _)

@@ -22,4 +22,4 @@ put_guarantees-requires c =
 pub returns : goal.returns
 returns c =
     written_fresh _ (bytes_known _ c.type_inv.setup) c.requires.0 c.counts-n.ensures c.operators_offset-from.ensures c.requires.1
-    c.put_setup.ensures c.put_u8.ensures c.put_guarantees.ensures
+    c.put_setup.ensures c.put.ensures c.put_guarantees.ensures

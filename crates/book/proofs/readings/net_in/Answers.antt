@@ -1,7 +1,7 @@
 -- In a book no margin is broken, so that the 4 bytes of a net say its position; the account is tested before the hour.
+use Rattle.std.specs.Prelude.{Ok}
 use mathlib.Core.Path.{sym, ap, ◌∙◌}
 use native.Mathlib.Omega.{arith}
-use Rattle.rules.specs.declared.NetReading.{NetReading}
 use Rattle.book.proofs.StateLaws.{book_length}
 use Rattle.book.proofs.ReadingLaws.{net_no_account, net_no_hour, net_in_table, net_stands}
 use Rattle.book.proofs.readings.net_in.Goals as goal
@@ -28,6 +28,6 @@ stored_net-requires c = (
 
 pub returns : goal.returns
 returns c =
-    ap NetReading.Read c.position_of.ensures
+    ap Ok c.position_of.ensures
     ∙ sym (net_stands c.args.book.now c.requires c.counts-n.result c.counts-n.ensures c.args.account c.args.hour
     (sym c.outside.ensures ∙ c.if-outside.false) (sym c.outside-2.ensures ∙ c.if-outside-2.false) c.stored_net.result c.stored_net.ensures)

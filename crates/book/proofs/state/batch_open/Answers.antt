@@ -6,8 +6,8 @@ use lib.Dec.{eqb}
 use Rattle.book.proofs.StateLaws.{book_length, flag_stands}
 use Rattle.book.proofs.state.batch_open.Goals as goal
 
-pub get_u8-requires : goal.get_u8-requires
-get_u8-requires c = omega (arith, book_length _ c.requires)
+pub get-requires : goal.get-requires
+get-requires c = omega (arith, book_length _ c.requires)
 
 pub returns : goal.returns
-returns c = ap (λ (n : ℕ). eqb n 1) c.get_u8.ensures ∙ flag_stands _ c.requires
+returns c = ap (λ (n : ℕ). eqb n 1) c.get.ensures ∙ flag_stands _ c.requires

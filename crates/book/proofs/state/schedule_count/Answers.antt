@@ -4,10 +4,10 @@ use native.Mathlib.Omega.{arith}
 use Rattle.book.proofs.StateLaws.{book_length, schedule_count_stands, schedule_count_high}
 use Rattle.book.proofs.state.schedule_count.Goals as goal
 
-pub get_u16-requires : goal.get_u16-requires
-get_u16-requires c = omega (arith, book_length _ c.requires)
+pub get-requires : goal.get-requires
+get-requires c = omega (arith, book_length _ c.requires)
 
 pub returns : goal.returns
 returns c =
-    let e = c.get_u16.ensures ∙ schedule_count_stands _ c.requires in
+    let e = c.get.ensures ∙ schedule_count_stands _ c.requires in
     record { meaning = e; bounded = omega (arith, e, schedule_count_high _ c.requires) }

@@ -11,19 +11,19 @@ use Rattle.book.proofs.waits.add_own.Goals as goal
 pub row_offset-at-requires : goal.row_offset-at-requires
 row_offset-at-requires c = omega (arith, c.requires.2, row_count_high _ c.requires.1)
 
-pub get_u8-requires : goal.get_u8-requires
-get_u8-requires c =
+pub get-requires : goal.get-requires
+get-requires c =
     omega (arith, c.requires.2, c.row_offset-at.ensures, row_count_high _ c.requires.1, book_length _ c.requires.1)
 
-pub get_u8-requires-2 : goal.get_u8-requires-2
-get_u8-requires-2 c =
+pub get-requires-2 : goal.get-requires-2
+get-requires-2 c =
     omega (arith, c.requires.2, c.row_offset-at.ensures, row_count_high _ c.requires.1, book_length _ c.requires.1)
 
-pub returns-then-get_u8-ne-PENDING : goal.returns-then-get_u8-ne-PENDING
-returns-then-get_u8-ne-PENDING c =
+pub returns-then-get-ne-PENDING : goal.returns-then-get-ne-PENDING
+returns-then-get-ne-PENDING c =
     let stands = own_stands _ c.requires.1 c.args.number _ c.requires.2 c.row_offset-at.ensures in
-    let status = c.get_u8-2.ensures ∙ stands.1 in
-    record { waits = added_of_ended _ _ _ _ status c.if-get_u8-ne-PENDING.true; tells = ended_unlike _ c.args.account c.args.counterparty c.args.code _ status c.if-get_u8-ne-PENDING.true }
+    let status = c.get-2.ensures ∙ stands.1 in
+    record { waits = added_of_ended _ _ _ _ status c.if-get-ne-PENDING.true; tells = ended_unlike _ c.args.account c.args.counterparty c.args.code _ status c.if-get-ne-PENDING.true }
 
 pub row_at-r-requires : goal.row_at-r-requires
 row_at-r-requires c =
@@ -41,6 +41,6 @@ returns c =
     let same = c.row_at-r.ensures ∙ numbered_row_stands _ c.requires.1 c.args.number _ c.requires.2 c.row_offset-at.ensures in
     let stands = own_stands _ c.requires.1 c.args.number _ c.requires.2 c.row_offset-at.ensures in
     let sound = numbered_sound _ c.requires.1 c.args.number c.requires.2 in
-    let waits = sym (c.get_u8-2.ensures ∙ stands.1) ∙ c.if-get_u8-ne-PENDING.false in
+    let waits = sym (c.get-2.ensures ∙ stands.1) ∙ c.if-get-ne-PENDING.false in
     let own : (numbered_row (book_in c.args.book.now) c.args.number).proposer ≡ c.args.account = omega (arith, stands.0) in
     record { waits = added_own _ _ _ _ (numbered_tabled _ c.requires.1 c.args.number c.requires.2) sound.side_low sound.side_high waits own (rw same at c.add_waiting.ensures); tells = rw same (own_alike _ _ c.args.counterparty c.args.code waits own) }

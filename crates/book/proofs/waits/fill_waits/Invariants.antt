@@ -22,6 +22,3 @@ invariant-loop-number l =
     × (length l.table ≡ waits_size)
     × Waiting l.account rows (drop (l.number - 1) rows) l.table ((l.number - 1) * most_energy)
     × (l.found || any_passes (alike l.account l.counterparty l.code) (drop (l.number - 1) rows) ≡ any_passes (alike l.account l.counterparty l.code) rows)
-
-abbrev pub decreases-loop-number : goal.decreases-loop-number
-decreases-loop-number l = l.n + 1 - l.number

@@ -23,18 +23,6 @@ loop-hour-init c =
       sum_begins _ _ _ _ (omega arith),
     )
 
-pub short_at-below-requires : goal.short_at-below-requires
-short_at-below-requires c =
-    (c.requires.0, c.requires.1, (c.loop-hour.invariant.2, omega (arith, c.loop-hour.invariant.0)), c.requires.2)
-
-pub price-price-requires : goal.price-price-requires
-price-price-requires c =
-    (c.requires.0, (c.loop-hour.invariant.2, omega (arith, c.loop-hour.invariant.0)))
-
-pub plus-sum-requires : goal.plus-sum-requires
-plus-sum-requires c =
-    omega (arith, c.loop-hour.invariant.4, c.at.ensures.exact, short_most c.short_at-below.result.0 c.price-price.result.0 c.short_at-below.ensures.bounded c.price-price.ensures.bounded)
-
 pub loop-hour-preserved : goal.loop-hour-preserved
 loop-hour-preserved c =
     let most = short_most c.short_at-below.result.0 c.price-price.result.0 c.short_at-below.ensures.bounded c.price-price.ensures.bounded in (
@@ -42,10 +30,15 @@ loop-hour-preserved c =
       c.loop-hour.invariant.1,
       omega arith,
       omega arith,
-      omega (arith, c.loop-hour.invariant.4, c.plus-sum.ensures.exact, c.at.ensures.exact),
-      sum_next _ _ _ _ _ _ _ (omega (arith, c.loop-hour.invariant.0)) (c.plus-sum.ensures.exact ∙ ap (λ (x : ℕ). c.loop-hour.sum.0 + x) (hour_short_read _ _ _ c.loop-hour.hour _ _ c.short_at-below.ensures.meaning c.price-price.ensures.meaning c.at.ensures.exact)) c.loop-hour.invariant.5,
+      omega (arith, c.loop-hour.invariant.4, c.add-sum.ensures, c.at.ensures.exact),
+      sum_next _ _ _ _ _ _ _ (omega (arith, c.loop-hour.invariant.0)) (c.add-sum.ensures ∙ ap (λ (x : ℕ). c.loop-hour.sum.0 + x) (hour_short_read _ _ _ c.loop-hour.hour _ _ c.short_at-below.ensures.meaning c.price-price.ensures.meaning c.at.ensures.exact)) c.loop-hour.invariant.5,
     )
 
-pub returns : goal.returns
-returns c =
-    record { meaning = sum_done _ _ _ _ _ (omega (arith, c.loop-hour.invariant.0)) c.loop-hour.invariant.5 ∙ sym (short_by_hour _ _ _); bounded = omega (arith, c.loop-hour.invariant.4, c.loop-hour.invariant.1) }
+pub returns-clause-meaning : goal.returns-clause-meaning
+returns-clause-meaning c =
+    sum_done _ _ _ _ _ (omega (arith, c.loop-hour.invariant.0)) c.loop-hour.invariant.5 ∙ sym (short_by_hour _ _ _)
+
+pub returns-2-clause-meaning : goal.returns-2-clause-meaning
+returns-2-clause-meaning c =
+    sum_done _ 0 _ _ _ (omega arith) (sum_next _ _ 0 _ _ _ _ (omega (arith, c.loop-hour.invariant.0)) (c.add-sum.ensures ∙ ap (λ (x : ℕ). c.loop-hour.sum.0 + x) (hour_short_read _ _ _ c.loop-hour.hour _ _ c.short_at-below.ensures.meaning c.price-price.ensures.meaning c.at.ensures.exact)) c.loop-hour.invariant.5)
+    ∙ sym (short_by_hour _ _ _)

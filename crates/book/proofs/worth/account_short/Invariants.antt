@@ -12,13 +12,10 @@ use Rattle.book.proofs.worth.account_short.Given as goal
 abbrev pub invariant-loop-hour : goal.invariant-loop-hour
 invariant-loop-hour l =
     let b = book_in l.book in
-    (l.n.hours ≡ periods b.setup)
-    × (l.n.hours ≤ most_hours)
+    (l.hour-end ≡ periods b.setup)
+    × (l.hour-end ≤ most_hours)
     × (1 ≤ l.hour)
-    × (l.hour ≤ l.n.hours + 1)
+    × (l.hour ≤ l.hour-end + 1)
     × (l.sum.0 ≤ (l.hour - 1) * (most_short * most_price))
     × (l.sum.0 + total (hour_short b.setup (nets_with b l.added) l.account) (counting (periods b.setup + 1 - l.hour) l.hour)
     ≡ total (hour_short b.setup (nets_with b l.added) l.account) (counting (periods b.setup) 1))
-
-abbrev pub decreases-loop-hour : goal.decreases-loop-hour
-decreases-loop-hour l = l.n.hours + 1 - l.hour

@@ -7,13 +7,13 @@ use Rattle.book.proofs.worth.added_sale.Goals as goal
 
 pub sale_of-requires : goal.sale_of-requires
 sale_of-requires c =
-    (c.requires.0, each_at no_row 0 (rw c.in-One.is at c.requires.1) (omega arith))
+    (c.requires.0, each_at no_row 0 (rw c.in-Some.is at c.requires.1) (omega arith))
 
-pub returns-in-Nothing : goal.returns-in-Nothing
+pub returns-in-None : goal.returns-in-None
 unfolding total
-returns-in-Nothing c = rw c.in-Nothing.is (record { meaning = omega arith; bounded = omega arith })
+returns-in-None c = rw c.in-None.is (record { meaning = omega arith; bounded = omega arith })
 
-pub returns-in-One : goal.returns-in-One
+pub returns-in-Some : goal.returns-in-Some
 unfolding total
-returns-in-One c =
-    rw c.in-One.is (record { meaning = omega (arith, c.sale_of.ensures.meaning); bounded = c.sale_of.ensures.bounded })
+returns-in-Some c =
+    rw c.in-Some.is (record { meaning = omega (arith, c.sale_of.ensures.meaning); bounded = c.sale_of.ensures.bounded })

@@ -12,6 +12,6 @@ pub returns : goal.returns
 returns c =
     record {
       meaning = exposure_joined _ c.requires.0 c.args.operator (added_rows c.args.added) c.requires.1 _ _ _ _ _
-          c.short_worth-below.ensures.meaning c.sales_worth-waits.ensures.meaning c.added_sale-own.ensures.meaning c.plus.ensures.exact c.plus-2.ensures.exact;
-      bounded = omega (arith, c.plus-2.ensures.exact, c.plus.ensures.exact, c.short_worth-below.ensures.bounded, c.sales_worth-waits.ensures.bounded, c.added_sale-own.ensures.bounded);
+          c.short_worth-below.ensures.meaning c.sales_worth-waits.ensures.meaning c.added_sale-own.ensures.meaning c.add.ensures c.add-2.ensures;
+      bounded = omega (arith, c.add-2.ensures, c.add.ensures, c.short_worth-below.ensures.bounded, c.sales_worth-waits.ensures.bounded, c.added_sale-own.ensures.bounded);
     }

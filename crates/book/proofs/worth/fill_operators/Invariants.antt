@@ -1,5 +1,5 @@
 -- The entries before that of the account are the operators of the accounts before it.
-use Prim.Native.Nat.{◌+◌, ◌-◌, ◌≤◌}
+use Prim.Native.Nat.{◌+◌, ◌≤◌}
 use mathlib.Core.Path.{◌≡◌}
 use Rattle.rules.specs.Limits.{most_accounts}
 use Rattle.rules.specs.Books.{account_count, operator_of}
@@ -11,7 +11,4 @@ use Rattle.book.proofs.worth.fill_operators.Given as goal
 abbrev pub invariant-loop-number : goal.invariant-loop-number
 invariant-loop-number l =
     let u = (book_in l.book).setup in
-    (l.n.accounts ≡ account_count u) × (l.n.accounts ≤ most_accounts) × (1 ≤ l.number) × (l.number ≤ l.n.accounts + 1) × Listed (operator_of u) operators_size l.operators l.number
-
-abbrev pub decreases-loop-number : goal.decreases-loop-number
-decreases-loop-number l = l.n.accounts + 1 - l.number
+    (l.number-end ≡ account_count u) × (l.number-end ≤ most_accounts) × (1 ≤ l.number) × (l.number ≤ l.number-end + 1) × Listed (operator_of u) operators_size l.operators l.number

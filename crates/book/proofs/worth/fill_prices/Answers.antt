@@ -18,28 +18,10 @@ loop-hour-init c =
     let hours = ap (λ (n : Counts). n.hours) c.counts-n.ensures ∙ hours_in _ c.requires.1 in
     (hours, omega (arith, hours, (book_is_sound _ c.requires.1).setup_sound.hours_high), omega arith, omega arith, summed_first _ c.args.sums.now c.requires.0)
 
-pub price-price-requires : goal.price-price-requires
-price-price-requires c =
-    (c.requires.1, (c.loop-hour.invariant.2, omega (arith, c.loop-hour.invariant.0)))
-
-pub offset_bounds-sums-hour : goal.offset_bounds-sums-hour
-offset_bounds-sums-hour c = omega arith
-
-pub bounds-sums-hour : goal.bounds-sums-hour
-bounds-sums-hour c =
-    omega (arith, c.loop-hour.invariant.4.whole)
-
 pub overflow_add-sums : goal.overflow_add-sums
 overflow_add-sums c =
     let most = prices_most (book_in c.args.book.now).setup (cheap_in _ c.requires.1) (c.loop-hour.hour - 1) in
     omega (arith, c.loop-hour.invariant.4.sum (c.loop-hour.hour - 1) (omega arith), most, c.price-price.ensures.bounded)
-
-pub offset_bounds-sums-hour-in-loop-hour : goal.offset_bounds-sums-hour-in-loop-hour
-offset_bounds-sums-hour-in-loop-hour c = omega arith
-
-pub bounds-sums-hour-in-loop-hour : goal.bounds-sums-hour-in-loop-hour
-bounds-sums-hour-in-loop-hour c =
-    omega (arith, c.loop-hour.invariant.4.whole)
 
 pub loop-hour-preserved : goal.loop-hour-preserved
 loop-hour-preserved c =
@@ -51,10 +33,7 @@ loop-hour-preserved c =
       summed_next _ _ _ _ c.loop-hour.invariant.2 (omega arith) (ap (λ (x : ℕ). get_or c.loop-hour.sums (c.loop-hour.hour - 1) 0 + x) price) c.loop-hour.invariant.4,
     )
 
-pub shape_of-sums : goal.shape_of-sums
-shape_of-sums c =
-    omega (arith, c.loop-hour.invariant.4.whole, c.requires.0)
-
-pub returns : goal.returns
-returns c =
-    summed_done _ _ c.loop-hour.hour (omega (arith, c.loop-hour.invariant.0)) c.loop-hour.invariant.4
+pub returns-2 : goal.returns-2
+returns-2 c =
+    let price = ap (λ (p : CentsPerMwh). p.0) c.price-price.ensures.meaning in
+    summed_done _ _ (c.loop-hour.hour + 1) (omega (arith, c.loop-hour.invariant.0)) (summed_next _ _ _ _ c.loop-hour.invariant.2 (omega arith) (ap (λ (x : ℕ). get_or c.loop-hour.sums (c.loop-hour.hour - 1) 0 + x) price) c.loop-hour.invariant.4)

@@ -1,5 +1,5 @@
 -- The entries before that of the hour are the sums of the prices up to them.
-use Prim.Native.Nat.{◌+◌, ◌-◌, ◌≤◌}
+use Prim.Native.Nat.{◌+◌, ◌≤◌}
 use mathlib.Core.Path.{◌≡◌}
 use Rattle.rules.specs.Limits.{most_hours}
 use Rattle.rules.specs.Books.{periods}
@@ -9,7 +9,4 @@ use Rattle.book.proofs.worth.fill_prices.Given as goal
 
 abbrev pub invariant-loop-hour : goal.invariant-loop-hour
 invariant-loop-hour l =
-    (l.n.hours ≡ periods (book_in l.book).setup) × (l.n.hours ≤ most_hours) × (1 ≤ l.hour) × (l.hour ≤ l.n.hours + 1) × SummedTo (book_in l.book).setup l.sums l.hour
-
-abbrev pub decreases-loop-hour : goal.decreases-loop-hour
-decreases-loop-hour l = l.n.hours + 1 - l.hour
+    (l.hour-end ≡ periods (book_in l.book).setup) × (l.hour-end ≤ most_hours) × (1 ≤ l.hour) × (l.hour ≤ l.hour-end + 1) × SummedTo (book_in l.book).setup l.sums l.hour

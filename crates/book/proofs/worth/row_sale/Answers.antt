@@ -11,22 +11,22 @@ use Rattle.book.proofs.worth.row_sale.Goals as goal
 pub row_offset-at-requires : goal.row_offset-at-requires
 row_offset-at-requires c = omega (arith, c.requires.1, row_count_high _ c.requires.0.is_sound)
 
-pub get_u8-requires : goal.get_u8-requires
-get_u8-requires c =
+pub get-requires : goal.get-requires
+get-requires c =
     omega (arith, c.requires.1, c.row_offset-at.ensures, row_count_high _ c.requires.0.is_sound, book_length _ c.requires.0.is_sound)
 
-pub bounds-operators-get_u8 : goal.bounds-operators-get_u8
-bounds-operators-get_u8 c =
-    let same = c.get_u8.ensures ∙ (own_stands _ c.requires.0.is_sound c.args.number _ c.requires.1 c.row_offset-at.ensures).0 in
+pub bounds-operators-get : goal.bounds-operators-get
+bounds-operators-get c =
+    let same = c.get.ensures ∙ (own_stands _ c.requires.0.is_sound c.args.number _ c.requires.1 c.row_offset-at.ensures).0 in
     let sound = numbered_sound _ c.requires.0.is_sound c.args.number c.requires.1 in
     operator_listed _ _ _ c.requires.0.is_sound c.requires.0.account_operators (rw same sound.proposer_low, rw same sound.proposer_high)
 
-pub returns-then-operators-get_u8 : goal.returns-then-operators-get_u8
-returns-then-operators-get_u8 c =
-    let same = c.get_u8.ensures ∙ (own_stands _ c.requires.0.is_sound c.args.number _ c.requires.1 c.row_offset-at.ensures).0 in
+pub returns-then-operators-get : goal.returns-then-operators-get
+returns-then-operators-get c =
+    let same = c.get.ensures ∙ (own_stands _ c.requires.0.is_sound c.args.number _ c.requires.1 c.row_offset-at.ensures).0 in
     let sound = numbered_sound _ c.requires.0.is_sound c.args.number c.requires.1 in
     let own = c.requires.0.account_operators.operator _ sound.proposer_low sound.proposer_high in
-    record { meaning = sym (sale_of_others _ c.args.operator _ _ own (rw same at c.if-operators-get_u8.true)); bounded = omega arith }
+    record { meaning = sym (sale_of_others _ c.args.operator _ _ own (rw same at c.if-operators-get.true)); bounded = omega arith }
 
 pub row_at-requires : goal.row_at-requires
 row_at-requires c =

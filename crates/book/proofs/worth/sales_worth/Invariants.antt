@@ -17,6 +17,3 @@ invariant-loop-number l =
     × (l.number ≤ l.rows + 1)
     × (l.sum.0 ≤ (l.number - 1) * most_sale_worth)
     × (l.sum.0 + total (sale_worth b.setup l.operator) (drop (l.number - 1) b.part.rows) ≡ total (sale_worth b.setup l.operator) b.part.rows)
-
-abbrev pub decreases-loop-number : goal.decreases-loop-number
-decreases-loop-number l = l.rows + 1 - l.number

@@ -23,23 +23,21 @@ loop-account-init c =
       sum_begins _ _ _ _ (omega arith),
     )
 
-pub short_share-requires : goal.short_share-requires
-short_share-requires c =
-    (c.requires.0, (c.loop-account.invariant.2, omega (arith, c.loop-account.invariant.0)), c.requires.1)
-
-pub plus-sum-requires : goal.plus-sum-requires
-plus-sum-requires c = omega arith
-
 pub loop-account-preserved : goal.loop-account-preserved
 loop-account-preserved c = (
   c.loop-account.invariant.0,
   c.loop-account.invariant.1,
   omega arith,
   omega arith,
-  omega (arith, c.loop-account.invariant.4, c.plus-sum.ensures.exact, c.short_share.ensures.bounded),
-  sum_next _ _ _ _ _ _ _ (omega (arith, c.loop-account.invariant.0)) (c.plus-sum.ensures.exact ∙ ap (λ (x : ℕ). c.loop-account.sum.0 + x) c.short_share.ensures.meaning) c.loop-account.invariant.5,
+  omega (arith, c.loop-account.invariant.4, c.add-sum.ensures, c.short_share.ensures.bounded),
+  sum_next _ _ _ _ _ _ _ (omega (arith, c.loop-account.invariant.0)) (c.add-sum.ensures ∙ ap (λ (x : ℕ). c.loop-account.sum.0 + x) c.short_share.ensures.meaning) c.loop-account.invariant.5,
 )
 
-pub returns : goal.returns
-returns c =
-    record { meaning = sum_done _ _ _ _ _ (omega (arith, c.loop-account.invariant.0)) c.loop-account.invariant.5 ∙ sym (short_by_account _ _ _); bounded = omega (arith, c.loop-account.invariant.4, c.loop-account.invariant.1) }
+pub returns-clause-meaning : goal.returns-clause-meaning
+returns-clause-meaning c =
+    sum_done _ _ _ _ _ (omega (arith, c.loop-account.invariant.0)) c.loop-account.invariant.5 ∙ sym (short_by_account _ _ _)
+
+pub returns-2-clause-meaning : goal.returns-2-clause-meaning
+returns-2-clause-meaning c =
+    sum_done _ 0 _ _ _ (omega arith) (sum_next _ _ 0 _ _ _ _ (omega (arith, c.loop-account.invariant.0)) (c.add-sum.ensures ∙ ap (λ (x : ℕ). c.loop-account.sum.0 + x) c.short_share.ensures.meaning) c.loop-account.invariant.5)
+    ∙ sym (short_by_account _ _ _)

@@ -11,13 +11,10 @@ use Rattle.book.proofs.worth.short_worth.Given as goal
 abbrev pub invariant-loop-account : goal.invariant-loop-account
 invariant-loop-account l =
     let b = book_in l.book in
-    (l.n.accounts ≡ account_count b.setup)
-    × (l.n.accounts ≤ most_accounts)
+    (l.account-end ≡ account_count b.setup)
+    × (l.account-end ≤ most_accounts)
     × (1 ≤ l.account)
-    × (l.account ≤ l.n.accounts + 1)
+    × (l.account ≤ l.account-end + 1)
     × (l.sum.0 ≤ (l.account - 1) * most_short_worth)
     × (l.sum.0 + total (short_share b.setup (nets_with b l.added) l.operator) (counting (account_count b.setup + 1 - l.account) l.account)
     ≡ total (short_share b.setup (nets_with b l.added) l.operator) (counting (account_count b.setup) 1))
-
-abbrev pub decreases-loop-account : goal.decreases-loop-account
-decreases-loop-account l = l.n.accounts + 1 - l.account

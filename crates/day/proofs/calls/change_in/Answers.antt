@@ -5,6 +5,7 @@ use native.Mathlib.Omega.{arith}
 use Rattle.wire.proofs.NumberLaws.{bytes_known}
 use Rattle.rules.specs.Limits.{most_hours, book_size}
 use Rattle.image.proofs.Round.{book_is_sound}
+use Rattle.rules.proofs.Checks.PassedOn.{passed_on}
 use Rattle.day.proofs.RequestLaws.{other_kind, read_code}
 use Rattle.day.proofs.CallLaws.{unread_given, said_given, strip-given, settle-given}
 use Rattle.day.proofs.calls.change_in.Goals as goal
@@ -23,23 +24,24 @@ settle-requires c =
 
 pub returns-then-request-eq-SETTLE : goal.returns-then-request-eq-SETTLE
 returns-then-request-eq-SETTLE c =
-    let says = sym c.read-said.ensures ∙ c.in-Read.is in
+    let says = sym c.read.ensures ∙ c.in_ok-request.was in
     let bytes = bytes_known _ c.type_inv.bytes in
     let both = settle-given _ _ _ _ _ _ bytes says (omega arith) _ _ _ _ (c.settle.ensures.answer, c.settle.ensures.still) in record { answer = both.0; still = both.1 }
 
 pub answer-requires : goal.answer-requires
 answer-requires c =
-    let says = sym c.read-said.ensures ∙ c.in-Read.is in
+    let says = sym c.read.ensures ∙ c.in_ok-request.was in
     let bytes = bytes_known _ c.type_inv.bytes in
     let plain = other_kind _ _ says (λ e. omega arith) in
     record { known_book = c.requires; plain_kind = (plain, read_code _ _ bytes says) }
 
-pub returns-in-Unread : goal.returns-in-Unread
-returns-in-Unread c =
+pub returns-in_err-request : goal.returns-in_err-request
+returns-in_err-request c =
     let single = sym c.is_strip.ensures ∙ c.if-is_strip.false in
-    let both = unread_given _ _ (book_is_sound most_hours book_size _ c.requires) _ single (sym c.read-said.ensures ∙ c.in-Unread.is) in record { answer = both.0; still = both.1 }
+    let both = unread_given _ _ (book_is_sound most_hours book_size _ c.requires) _ single (sym c.read.ensures ∙ c.in_err-request.was) in
+    record { answer = rw (passed_on _ c.from_residual.ensures.1) both.0; still = both.1 }
 
-pub returns-else-request-eq-SETTLE : goal.returns-else-request-eq-SETTLE
-returns-else-request-eq-SETTLE c =
-    let says = sym c.read-said.ensures ∙ c.in-Read.is in
+pub returns : goal.returns
+returns c =
+    let says = sym c.read.ensures ∙ c.in_ok-request.was in
     let both = said_given _ _ (book_is_sound most_hours book_size _ c.requires) _ says (λ e. omega arith) _ _ (c.answer.ensures.answer, (c.answer.ensures.bytes, c.answer.ensures.still)) in record { answer = both.0; still = both.1 }

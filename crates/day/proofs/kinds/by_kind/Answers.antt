@@ -5,7 +5,6 @@ use Rattle.image.proofs.Round.{book_is_sound}
 use Rattle.day.proofs.RequestLaws.{plain_by_kind, none_left, none_first, ready_for}
 use Rattle.std.proofs.Common.{arith}
 use Rattle.day.proofs.kinds.by_kind.Goals as goal
-use Rattle.day.proofs.kinds.by_kind.Goals.{in_default-via-then-kind-lt1, in_default-via-else-kind-lt1+else-kind-lt9}
 
 pub register-requires : goal.register-requires
 register-requires c =
@@ -72,10 +71,7 @@ returns-in-5-to-8 c =
     record { answer = c.batch_or_gate.ensures.answer _; bytes = c.batch_or_gate.ensures.bytes _; still = c.batch_or_gate.ensures.still }
 
 pub returns-in_default : goal.returns-in_default
-returns-in_default c =
-    let n = c.args.request.kind in
-    let plain = c.requires.plain_kind.0 in
-    elim c.in_default.branch [
-      | in_default-via-then-kind-lt1 w ↦ absurd (none_first n plain (omega arith))
-      | in_default-via-else-kind-lt1+else-kind-lt9 w ↦ absurd (none_left n plain (omega arith) (omega arith) (omega arith) (omega arith))
-    ]
+returns-in_default c = absurd (none_first c.args.request.kind c.requires.plain_kind.0 (omega arith))
+
+pub returns-in_default-2 : goal.returns-in_default-2
+returns-in_default-2 c = absurd (none_left c.args.request.kind c.requires.plain_kind.0 (omega arith) (omega arith) (omega arith) (omega arith))

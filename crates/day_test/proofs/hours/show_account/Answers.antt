@@ -1,5 +1,5 @@
-use Rattle.std.proofs.Common.{rules, arith}
-use Rattle.book.proofs.BookRows.{setup_tabled, hours_read, hours_few}
+use Rattle.std.proofs.Common.{rules}
+use Rattle.book.proofs.BookRows.{setup_tabled, hours_read}
 use Rattle.day_test.proofs.hours.show_account.Goals as goal
 
 -- src/hours.rt: a book holds its counts
@@ -9,7 +9,3 @@ counts-n-requires g c = let s = setup_tabled _ c.requires.priced.0.is_sound in s
 -- src/hours.rt: the hours are those of the set-up
 pub loop-hour-init : goal.loop-hour-init
 loop-hour-init g c = (hours_read _ c.requires.priced.0.is_sound _ c.counts-n.ensures, search rules, search rules)
-
--- src/hours.rt: the hour after the last is still a byte
-pub overflow_add-hour : goal.overflow_add-hour
-overflow_add-hour g c = omega (arith, hours_few _ c.requires.priced.0.is_sound)

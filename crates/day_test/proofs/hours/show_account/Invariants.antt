@@ -1,12 +1,9 @@
 -- The hour stays within the day.
-use Rattle.std.proofs.Common.{◌+◌, ◌-◌, ◌≤◌, ◌≡◌}
+use Rattle.std.proofs.Common.{◌+◌, ◌≤◌, ◌≡◌}
 use Rattle.rules.specs.Books.{periods}
 use Rattle.valuation.specs.Tables.{setup_in}
 use Rattle.day_test.proofs.hours.show_account.Given as goal
 
 abbrev pub invariant-loop-hour : goal.invariant-loop-hour
 invariant-loop-hour g l =
-    (l.n.hours ≡ periods (setup_in l.fn.book)) × (1 ≤ l.hour) × (l.hour ≤ periods (setup_in l.fn.book) + 1)
-
-abbrev pub decreases-loop-hour : goal.decreases-loop-hour
-decreases-loop-hour g l = periods (setup_in l.fn.book) + 1 - l.hour
+    (l.hour-end ≡ periods (setup_in l.fn.book)) × (1 ≤ l.hour) × (l.hour ≤ periods (setup_in l.fn.book) + 1)

@@ -1,6 +1,6 @@
-use Rattle.std.proofs.Common.{rules, arith, sym, ap, ◌∙◌}
+use Rattle.std.proofs.Common.{rules, sym, ap, ◌∙◌}
 use Rattle.rules.specs.declared.Counts.{Counts}
-use Rattle.book.proofs.BookRows.{setup_tabled, counts_in_lem, accounts_read}
+use Rattle.book.proofs.BookRows.{setup_tabled, counts_in_lem}
 use Rattle.day_test.proofs.hours.show_accounts.Goals as goal
 
 -- src/hours.rt: a book holds its counts
@@ -11,7 +11,3 @@ counts-n-requires g c = let s = setup_tabled _ c.requires.priced.is_sound in sea
 pub loop-number-init : goal.loop-number-init
 loop-number-init g c =
     (ap (λ (n : Counts). n.accounts) (c.counts-n.ensures ∙ sym (counts_in_lem _ c.requires.priced.is_sound)), search rules, search rules)
-
--- src/hours.rt: the number after the last is still a byte
-pub overflow_add-number : goal.overflow_add-number
-overflow_add-number g c = omega (arith, (accounts_read _ c.requires.priced.is_sound c.loop-number.number (omega arith)).1)

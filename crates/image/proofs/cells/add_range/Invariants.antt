@@ -1,13 +1,10 @@
--- The cells from `at` to the cursor are raised, those past it are as they came.
-use Prim.Native.Nat.{◌+◌, ◌-◌, ◌≤◌}
-use mathlib.Core.Path.{◌≡◌}
-use lib.ListN.{length}
+-- The cells before the cursor are raised, those from it on are as they came.
+use Rattle.std.proofs.Common.{◌≡◌, length}
 use Rattle.image.specs.Tables.{Raised}
 use Rattle.image.proofs.cells.add_range.Given as goal
 
-abbrev pub invariant-loop-k : goal.invariant-loop-k
-invariant-loop-k l =
-    (l.at ≤ l.k) × (l.k ≤ l.at + l.n) × (length l.table ≡ length l.initial.table) × Raised l.initial.table l.table l.at (l.k - l.at) l.q
-
-abbrev pub decreases-loop-k : goal.decreases-loop-k
-decreases-loop-k l = l.at + l.n - l.k
+abbrev pub invariant-loop-cell : goal.invariant-loop-cell
+invariant-loop-cell l = record {
+  as_long : length l.cell-items ≡ length l.initial.cell-items;
+  raised : Raised l.initial.cell-items l.cell-items 0 l.cell-index l.q;
+}

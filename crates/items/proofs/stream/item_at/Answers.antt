@@ -12,7 +12,7 @@ pub returns-then-left-lt2 : goal.returns-then-left-lt2
 returns-then-left-lt2 c = sym (found_cut _ _ (omega arith) (omega arith))
 
 pub returns-then-n-left : goal.returns-then-n-left
-returns-then-n-left c = rw c.get_u16-n.ensures (sym (found_whole _ _ (omega arith)))
+returns-then-n-left c = rw c.get-n.ensures (sym (found_whole _ _ (omega arith)))
 
 pub returns-else-n-left : goal.returns-else-n-left
 returns-else-n-left c = sym (found_cut _ _ (omega arith) (omega arith))

@@ -1,11 +1,58 @@
 -- The checks stand in the order of the bits of the map.
+use mathlib.Core.Path.{◌∙◌}
 use native.Mathlib.Omega.{arith}
 use Rattle.rules.specs.Basics.{counting, bit}
 use Rattle.rules.specs.Requests.{in_range}
-use Rattle.records.proofs.RangeLaws.{fields_then}
+use Rattle.rules.proofs.Checks.PassedOn.{passed_on}
+use Rattle.records.proofs.RangeLaws.{fields_alone, test_fails, test_holds, test_says}
 use Rattle.records.proofs.ranges.trade_ranges.Goals as goal
+
+pub returns-in_err-field : goal.returns-in_err-field
+unfolding counting bit in_range
+returns-in_err-field c =
+    let out = test_holds _ _ c.field.ensures c.in_err-field.was in
+    passed_on _ c.from_residual.ensures.1 ∙ simp (fields_alone c.args.n c.args.q 0x00FF c.requires (omega arith), out.0, out.1)
+
+pub returns-in_err-field-2 : goal.returns-in_err-field-2
+unfolding counting bit in_range
+returns-in_err-field-2 c =
+    let in1 = test_fails _ _ c.field.ensures c.in_ok-field.was in
+    let out = test_holds _ _ c.field-2.ensures c.in_err-field-2.was in
+    passed_on _ c.from_residual-in_err-field-2.ensures.1 ∙ simp (fields_alone c.args.n c.args.q 0x00FF c.requires (omega arith), in1, out.0, out.1)
+
+pub returns-in_err-field-3 : goal.returns-in_err-field-3
+unfolding counting bit in_range
+returns-in_err-field-3 c =
+    let in1 = test_fails _ _ c.field.ensures c.in_ok-field.was in
+    let in2 = test_fails _ _ c.field-2.ensures c.in_ok-field-2.was in
+    let out = test_holds _ _ c.field-3.ensures c.in_err-field-3.was in
+    passed_on _ c.from_residual-in_err-field-3.ensures.1 ∙ simp (fields_alone c.args.n c.args.q 0x00FF c.requires (omega arith), in1, in2, out.0, out.1)
+
+pub returns-in_err-field-4 : goal.returns-in_err-field-4
+unfolding counting bit in_range
+returns-in_err-field-4 c =
+    let in1 = test_fails _ _ c.field.ensures c.in_ok-field.was in
+    let in2 = test_fails _ _ c.field-2.ensures c.in_ok-field-2.was in
+    let in3 = test_fails _ _ c.field-3.ensures c.in_ok-field-3.was in
+    let out = test_holds _ _ c.field-4.ensures c.in_err-field-4.was in
+    passed_on _ c.from_residual-in_err-field-4.ensures.1 ∙ simp (fields_alone c.args.n c.args.q 0x00FF c.requires (omega arith), in1, in2, in3, out.0, out.1)
+
+pub returns-in_err-field-5 : goal.returns-in_err-field-5
+unfolding counting bit in_range
+returns-in_err-field-5 c =
+    let in1 = test_fails _ _ c.field.ensures c.in_ok-field.was in
+    let in2 = test_fails _ _ c.field-2.ensures c.in_ok-field-2.was in
+    let in3 = test_fails _ _ c.field-3.ensures c.in_ok-field-3.was in
+    let in4 = test_fails _ _ c.field-4.ensures c.in_ok-field-4.was in
+    let out = test_holds _ _ c.field-5.ensures c.in_err-field-5.was in
+    passed_on _ c.from_residual-in_err-field-5.ensures.1 ∙ simp (fields_alone c.args.n c.args.q 0x00FF c.requires (omega arith), in1, in2, in3, in4, out.0, out.1)
 
 pub returns : goal.returns
 unfolding counting bit in_range
 returns c =
-    simp (fields_then c.args.n c.args.q 0x00FF c.args.rest c.requires (omega arith), c.field.ensures, c.field-other.ensures, c.field-side.ensures, c.field-first.ensures, c.field-last.ensures, c.field-quantity.ensures)
+    let in1 = test_fails _ _ c.field.ensures c.in_ok-field.was in
+    let in2 = test_fails _ _ c.field-2.ensures c.in_ok-field-2.was in
+    let in3 = test_fails _ _ c.field-3.ensures c.in_ok-field-3.was in
+    let in4 = test_fails _ _ c.field-4.ensures c.in_ok-field-4.was in
+    let in5 = test_fails _ _ c.field-5.ensures c.in_ok-field-5.was in
+    simp (fields_alone c.args.n c.args.q 0x00FF c.requires (omega arith), in1, in2, in3, in4, in5, c.field-6.ensures, test_says)

@@ -14,11 +14,11 @@ returns-then-bytes-lt3 c =
 pub returns-then-has_field : goal.returns-then-has_field
 unfolding map_of
 returns-then-has_field c =
-    let given = rw c.get_u16.ensures at (sym c.has_field.ensures ∙ c.if-has_field.true) in
-    rw (kind_there c.args.bytes.now given, c.get_u8.ensures)
+    let given = rw c.get.ensures at (sym c.has_field.ensures ∙ c.if-has_field.true) in
+    rw (kind_there c.args.bytes.now given, c.get-then-has_field.ensures)
 
 pub returns : goal.returns
 unfolding map_of
 returns c =
-    let given = rw c.get_u16.ensures at (sym c.has_field.ensures ∙ c.if-has_field.false) in
+    let given = rw c.get.ensures at (sym c.has_field.ensures ∙ c.if-has_field.false) in
     rw (field_in_absent c.args.bytes.now 0 given) (sym (ne_eqb 0 c.args.kind (λ e. omega (arith, c.requires))))

@@ -10,4 +10,4 @@ returns-then-bytes-lt3 c = rw (lt-ltb (length c.args.bytes.now) 3 c.if-bytes-lt3
 
 pub returns : goal.returns
 unfolding unreadable map_of
-returns c = simp (c.has_field.ensures, c.get_u16-given.ensures, le-ltb (length c.args.bytes.now) 3 c.if-bytes-lt3.false)
+returns c = simp (c.has_field.ensures, c.get-given.ensures, le-ltb (length c.args.bytes.now) 3 c.if-bytes-lt3.false)

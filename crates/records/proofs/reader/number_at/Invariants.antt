@@ -5,7 +5,4 @@ use Rattle.wire.specs.Numbers.{number_at}
 use Rattle.records.proofs.reader.number_at.Given as goal
 
 abbrev pub invariant-loop-p : goal.invariant-loop-p
-invariant-loop-p l = (l.at ≤ l.p) × (l.p ≤ l.at + l.width) × (l.v ≡ number_at l.s l.p (l.at + l.width - l.p))
-
-abbrev pub decreases-loop-p : goal.decreases-loop-p
-decreases-loop-p l = l.p - l.at
+invariant-loop-p l = (l.at ≤ l.p) × (l.v ≡ number_at l.s l.p (l.at + l.width - l.p))

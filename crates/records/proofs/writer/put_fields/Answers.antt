@@ -4,7 +4,6 @@ use mathlib.Core.Path.{refl, ◌∙◌, sym}
 use lib.ListN.{length}
 use native.Mathlib.Numerals.{add-one}
 use native.Mathlib.Omega.{arith}
-use borrow.Author.Rules.{rules}
 use Rattle.rules.specs.Basics.{total, counting}
 use Rattle.rules.specs.Requests.{field_count, offset}
 use Rattle.rules.proofs.Records.Fields.{offset_step, field_within}
@@ -13,7 +12,7 @@ use Rattle.records.proofs.writer.put_fields.Goals as goal
 
 pub loop-k-init : goal.loop-k-init
 unfolding offset total counting
-loop-k-init c = (search rules, refl, refl, refl)
+loop-k-init c = (refl, refl, refl)
 
 pub put_number-requires : goal.put_number-requires
 put_number-requires c =
@@ -30,13 +29,12 @@ loop-k-preserved c =
     omega (arith, room, field_within c.args.map c.loop-k.k (omega arith)) in
     let next =
     fields_next c.args.map c.args.q c.loop-k.buffer c.loop-k.at c.loop-k.k (field_count - c.loop-k.k) (field_count - (c.loop-k.k + 1)) _ _ (omega arith)
-    room c.field_of-value.ensures (omega (arith, within-buffer)) in (
-      search rules,
+    room c.field_of.ensures (omega (arith, within-buffer)) in (
       rw add-one (omega (arith, room, offset_step c.args.map c.loop-k.k)),
-      c.put_number.auto.s ∙ c.loop-k.invariant.2,
-      rw c.put_number.ensures next ∙ c.loop-k.invariant.3,
+      c.put_number.auto.s ∙ c.loop-k.invariant.1,
+      rw c.put_number.ensures next ∙ c.loop-k.invariant.2,
     )
 
 pub returns : goal.returns
 returns c =
-    sym (fields_put c.args.map c.args.q c.loop-k.buffer c.loop-k.at c.loop-k.k (field_count - c.loop-k.k) (omega arith)) ∙ c.loop-k.invariant.3
+    sym (fields_put c.args.map c.args.q c.loop-k.buffer c.loop-k.at c.loop-k.k (field_count - c.loop-k.k) (omega arith)) ∙ c.loop-k.invariant.2

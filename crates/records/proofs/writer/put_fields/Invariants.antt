@@ -1,5 +1,5 @@
 -- Putting the fields from `k` on at `at`, where they begin, gives the whole.
-use Prim.Native.Nat.{◌-◌, ◌≤◌}
+use Prim.Native.Nat.{◌-◌}
 use mathlib.Core.Path.{◌≡◌}
 use lib.ListN.{length}
 use Rattle.wire.specs.Regions.{splice}
@@ -8,7 +8,4 @@ use Rattle.records.proofs.writer.put_fields.Given as goal
 
 abbrev pub invariant-loop-k : goal.invariant-loop-k
 invariant-loop-k l =
-    (l.k ≤ field_count) × (l.at ≡ offset l.map l.k) × (length l.buffer ≡ length l.initial.buffer) × (splice l.buffer l.at (field_bytes l.map l.q l.k (field_count - l.k)) ≡ splice l.initial.buffer 2 (field_bytes l.map l.q 0 field_count))
-
-abbrev pub decreases-loop-k : goal.decreases-loop-k
-decreases-loop-k l = field_count - l.k
+    (l.at ≡ offset l.map l.k) × (length l.buffer ≡ length l.initial.buffer) × (splice l.buffer l.at (field_bytes l.map l.q l.k (field_count - l.k)) ≡ splice l.initial.buffer 2 (field_bytes l.map l.q 0 field_count))

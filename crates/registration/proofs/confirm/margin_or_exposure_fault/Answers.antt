@@ -8,9 +8,9 @@ pub broken_hour-requires : goal.broken_hour-requires
 broken_hour-requires c =
     (c.requires.0, account-trade _ _ c.requires.0 (named_waits _ _ _ c.requires.0 c.requires.1) _ c.confirmed_row-trade.ensures _ (caller_in_book _ _ _ c.requires.0 c.requires.1))
 
-pub returns-in-Hour : goal.returns-in-Hour
-returns-in-Hour c =
-    ap checked (sym (trade_breaks _ _ _ c.requires.0 c.requires.1 _ c.confirmed_row-trade.ensures _ (sym c.in-Hour.is ∙ c.broken_hour.ensures)))
+pub returns-in-Some : goal.returns-in-Some
+returns-in-Some c =
+    ap checked (sym (trade_breaks _ _ _ c.requires.0 c.requires.1 _ c.confirmed_row-trade.ensures _ (sym c.in-Some.is ∙ c.broken_hour.ensures)))
 
 pub covered_with_trade-requires : goal.covered_with_trade-requires
 covered_with_trade-requires c =

@@ -4,4 +4,4 @@ use Rattle.registration.proofs.confirm.put_trade.Goals as goal
 
 pub returns : goal.returns
 returns c =
-    c.move_nets.ensures ∙ rw (c.put_u8.ensures, c.row_offset.ensures)
+    c.move_nets.ensures ∙ rw (c.put.ensures, c.row_offset.ensures)

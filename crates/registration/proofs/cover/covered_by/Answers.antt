@@ -3,6 +3,7 @@ use Rattle.std.proofs.Common.{ℕ, ◌-◌, ◌*◌, ap, ◌∙◌, arith}
 use Rattle.rules.specs.Limits.{thousand}
 use Rattle.book.proofs.BookRows.{setup_tabled}
 use Rattle.registration.proofs.CoverLaws.{operators_read, maintenance_read, maintenance_high}
+use Rattle.units.proofs.OrderLaws.{is_le-leb}
 use Rattle.registration.proofs.cover.covered_by.Goals as goal
 
 pub operator-entry-requires : goal.operator-entry-requires
@@ -19,4 +20,4 @@ pub returns : goal.returns
 returns c =
     let read = maintenance_read _ c.requires.0 c.args.number c.requires.2 _ c.operator-entry.ensures in
     let limit = c.available-limit.ensures.exact ∙ ap (λ (m : ℕ). c.args.guarantee.0 * (thousand - m)) read in
-    c.at_most.ensures ∙ rw limit
+    c.le.ensures ∙ is_le-leb c.args.owed.0 c.available-limit.result.0 ∙ rw limit

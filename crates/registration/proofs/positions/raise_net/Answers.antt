@@ -5,5 +5,5 @@ use Rattle.registration.proofs.positions.raise_net.Goals as goal
 
 pub returns : goal.returns
 returns c =
-    c.put_u32.ensures
-    ∙ sym (raised-step 4 _ _ _ _ (omega (arith, c.wrapping_add_u32.ensures, c.get_u32.ensures)))
+    c.put.ensures
+    ∙ sym (raised-step 4 _ _ _ _ (omega (arith, c.wrapping_add_u32.ensures, c.get.ensures)))

@@ -1,14 +1,14 @@
 -- To raise the nets that are left, after those raised so far, is to raise all.
-use Rattle.std.proofs.Common.{◌-◌, sym, refl, ◌∙◌, arith}
+use Rattle.std.proofs.Common.{◌≡◌, ◌+◌, ◌-◌, ◌*◌, sym, ◌∙◌, arith}
 use Rattle.image.proofs.Writing.Loops.{sweep_on, sweep_done}
+use Rattle.image.specs.Layout.{net_width}
 use Rattle.registration.proofs.positions.raise_nets.Goals as goal
 
-pub loop-left-init : goal.loop-left-init
-loop-left-init c = (omega arith, refl, refl)
-
-pub loop-left-preserved : goal.loop-left-preserved
-loop-left-preserved c =
-    (omega arith, omega arith, c.loop-left.invariant.2 ∙ sweep_on _ 4 c.loop-left.s c.loop-left.at _ c.loop-left.left (c.loop-left.left - 1) (omega arith) c.raise_net.ensures)
+pub loop-i-preserved : goal.loop-i-preserved
+loop-i-preserved c =
+    let at = c.args.from + net_width * c.loop-i.i in
+    let next : c.args.from + net_width * (c.loop-i.i + 1) ≡ at + net_width = omega arith in
+    rw next (c.loop-i.invariant ∙ sweep_on _ net_width c.loop-i.s at _ (c.args.n - c.loop-i.i) (c.args.n - (c.loop-i.i + 1)) (omega arith) c.raise_net.ensures)
 
 pub returns : goal.returns
-returns c = sym (c.loop-left.invariant.2 ∙ sweep_done _ _ _ _ _ c.loop-left-test.false)
+returns c = sym (c.loop-i.invariant ∙ sweep_done _ _ _ _ _ (omega arith))

@@ -4,4 +4,4 @@ use Rattle.registration.proofs.register.append_row.Goals as goal
 
 pub returns : goal.returns
 returns c =
-    c.put_u16.ensures ∙ rw (c.copy_in.ensures, c.row_bytes-bytes.ensures)
+    c.put.ensures ∙ rw (c.copy_in.ensures, c.row_bytes-bytes.ensures)

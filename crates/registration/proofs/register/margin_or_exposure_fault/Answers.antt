@@ -10,10 +10,10 @@ pub first_broken-requires : goal.first_broken-requires
 first_broken-requires c =
     record { known_book = c.requires.known_book; account_trade = rw c.proposed_row-row.ensures (sound_account_trade _ _ (proposing_sound _ _ c.requires.proposing)) }
 
-pub returns-in-Hour : goal.returns-in-Hour
-returns-in-Hour c =
+pub returns-in-Some : goal.returns-in-Some
+returns-in-Some c =
     ap checked (sym (margin_breaks _ _ c.requires.proposing _
-    (found_hour _ _ _ _ _ _ c.proposed_row-row.ensures (sym c.in-Hour.is ∙ c.first_broken.ensures))))
+    (found_hour _ _ _ _ _ _ c.proposed_row-row.ensures (sym c.in-Some.is ∙ c.first_broken.ensures))))
 
 pub covered_with_row-requires : goal.covered_with_row-requires
 covered_with_row-requires c =

@@ -2,9 +2,9 @@
 use Rattle.registration.proofs.PendingLaws.{another_code, rest_decides}
 use Rattle.registration.proofs.search.alike_at.Goals as goal
 
-pub returns-then-get_u64-code : goal.returns-then-get_u64-code
-returns-then-get_u64-code c = another_code _ _ _ _ _ c.get_u64.ensures c.if-get_u64-code.true
+pub returns-then-get-code : goal.returns-then-get-code
+returns-then-get-code c = another_code _ _ _ _ _ c.get.ensures c.if-get-code.true
 
 pub returns : goal.returns
 returns c =
-    rest_decides _ _ _ _ _ c.get_u64.ensures c.if-get_u64-code.false c.get_u8-status.ensures c.get_u8-first.ensures c.get_u8-second.ensures
+    rest_decides _ _ _ _ _ c.get.ensures c.if-get-code.false c.get-status.ensures c.get-first.ensures c.get-second.ensures

@@ -1,5 +1,5 @@
 -- The number found among all rows is that found among the rows that are left, counted on from those that were passed.
-use Rattle.std.proofs.Common.{◌≡◌, ◌+◌, ◌-◌, ◌*◌, ◌≤◌, length}
+use Rattle.std.proofs.Common.{◌≡◌, ◌+◌, ◌-◌, ◌*◌}
 use Rattle.rules.specs.Basics.{index_of}
 use Rattle.rules.specs.Registration.{alike}
 use Rattle.rules.specs.Calls.{number_from}
@@ -10,10 +10,5 @@ use Rattle.registration.proofs.search.number_among.Given as goal
 
 abbrev pub invariant-loop-passed : goal.invariant-loop-passed
 invariant-loop-passed l =
-    (l.k + row_width * (l.n - l.passed) ≤ length l.book)
-    × (l.passed ≤ l.n)
-    × (number_from (index_of (alike l.proposer l.counterparty l.code) (rows_from l.book l.at l.n))
-    ≡ numbered l.passed (index_of (alike l.proposer l.counterparty l.code) (rows_from l.book l.k (l.n - l.passed))))
-
-abbrev pub decreases-loop-passed : goal.decreases-loop-passed
-decreases-loop-passed l = l.n - l.passed
+    number_from (index_of (alike l.proposer l.counterparty l.code) (rows_from l.book l.at l.n))
+    ≡ numbered l.passed (index_of (alike l.proposer l.counterparty l.code) (rows_from l.book (l.at + row_width * l.passed) (l.n - l.passed)))

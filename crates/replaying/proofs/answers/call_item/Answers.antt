@@ -14,6 +14,8 @@ slice_bounds-call_in-count c = rw c.record_length-n.ensures (record_within _)
 pub slice_bounds-call_in-start : goal.slice_bounds-call_in-start
 slice_bounds-call_in-start c = rw c.record_length-n.ensures (record_within _)
 
-pub returns : goal.returns
-returns c =
-    let both = item_called _ _ c.requires.known_book c.record_length-n.ensures c.requires.buffers_clear.0 c.requires.buffers_clear.1 (c.call_in.ensures.answer, c.call_in.ensures.still) in record { answer = both.0; still = both.1 }
+pub returns-clause-answer : goal.returns-clause-answer
+returns-clause-answer c =
+    let clear = c.requires.buffers_clear in
+    let said = c.call_in.ensures in
+    (item_called _ _ c.requires.known_book c.record_length-n.ensures clear.0 clear.1 (said.answer, said.still)).0

@@ -7,8 +7,8 @@ use Rattle.rules.specs.Opening.{setup_length, setup_of}
 use Rattle.rules.proofs.Setups.SetupEntries.{account_at, account_inside, account_numbered, account_wide}
 use Rattle.setup.proofs.entries.account_operator.Goals as goal
 
-pub get_u8-requires : goal.get_u8-requires
-get_u8-requires c =
+pub get-requires : goal.get-requires
+get-requires c =
     let n = c.counts.result in let high = ap (λ (n : Counts). n.accounts) c.counts.ensures in
     omega (arith, c.account_offset.ensures.0, ap setup_length c.counts.ensures, account_wide n, account_inside n c.args.number c.requires.1 (omega (arith, c.requires.2)))
 
@@ -17,4 +17,4 @@ unfolding setup_of
 returns c =
     let high = ap (λ (n : Counts). n.accounts) c.counts.ensures in
     let entry = account_numbered _ _ c.counts.ensures _ c.account_offset.ensures.0 (sym (account_at _ _ _)) c.requires.1 (omega (arith, c.requires.2)) in
-    c.get_u8.ensures ∙ ap (λ (x : Account). x.operator) entry
+    c.get.ensures ∙ ap (λ (x : Account). x.operator) entry

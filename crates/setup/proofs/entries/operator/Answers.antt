@@ -1,12 +1,8 @@
 -- Entries of one width follow one another, so the entry at that offset is the one of that number.
 use mathlib.Core.Path.{◌∙◌, ap}
-use native.Mathlib.Omega.{arith}
 use Rattle.rules.specs.Opening.{operators_in, operators_offset, operator_entry}
 use Rattle.rules.proofs.Setups.SetupEntries.{entry_by_number}
 use Rattle.setup.proofs.entries.operator.Goals as goal
-
-pub operator_at-requires : goal.operator_at-requires
-operator_at-requires c = omega (arith, c.operators_offset-from.ensures ∙ ap operators_offset c.counts.ensures)
 
 pub returns : goal.returns
 unfolding operators_in

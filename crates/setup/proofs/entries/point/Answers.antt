@@ -1,12 +1,8 @@
 -- Entries of one width follow one another, so the entry at that offset is the one of that number.
 use mathlib.Core.Path.{◌∙◌, ap}
-use native.Mathlib.Omega.{arith}
 use Rattle.rules.specs.Opening.{points_in, points_offset, point_entry}
 use Rattle.rules.proofs.Setups.SetupEntries.{entry_by_number}
 use Rattle.setup.proofs.entries.point.Goals as goal
-
-pub point_at-requires : goal.point_at-requires
-point_at-requires c = omega (arith, c.points_offset-from.ensures.0 ∙ ap points_offset c.counts.ensures)
 
 pub returns : goal.returns
 unfolding points_in

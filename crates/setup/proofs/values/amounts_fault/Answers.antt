@@ -1,8 +1,14 @@
 -- The two values are judged in the order of their offsets.
-use Rattle.setup.specs.Faults.{first_fault_from}
+use mathlib.Core.Path.{◌∙◌, sym}
+use Rattle.rules.proofs.Checks.PassedOn.{passed_on}
+use Rattle.setup.proofs.FaultLaws.{part_clear, part_fails}
 use Rattle.setup.proofs.values.amounts_fault.Goals as goal
 
+pub returns-in_err-in_range : goal.returns-in_err-in_range
+returns-in_err-in_range c =
+    passed_on _ c.from_residual.ensures.1 ∙ part_fails _ _ (rw c.most_amount.ensures at c.in_range.ensures) c.in_err-in_range.was
+
 pub returns : goal.returns
-unfolding first_fault_from
 returns c =
-    rw (c.or_fault.ensures, c.most_amount-2.ensures, c.or_fault-injection.ensures, c.most_amount.ensures)
+    (rw c.most_amount-2.ensures at c.in_range-2.ensures)
+    ∙ sym (part_clear _ _ (rw c.most_amount.ensures at c.in_range.ensures) c.in_ok-in_range.was)

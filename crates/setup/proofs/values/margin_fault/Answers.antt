@@ -5,4 +5,4 @@ use Rattle.setup.proofs.values.margin_fault.Goals as goal
 
 pub returns : goal.returns
 unfolding margin_values first_fault_from
-returns c = c.or_fault.ensures
+returns c = c.in_range.ensures

@@ -1,37 +1,46 @@
 -- The values are judged in the order of their offsets, the kind against that of the point's account.
-use mathlib.Core.Path.{ap}
+use mathlib.Core.Path.{◌∙◌, sym, ap}
 use Rattle.rules.specs.declared.Counts.{Counts}
 use Rattle.rules.proofs.Setups.SetupEntries.{length_accounts}
-use native.Mathlib.Omega.{arith}
+use Rattle.rules.proofs.Checks.PassedOn.{passed_on}
 use Rattle.rules.specs.Opening.{point_values}
-use Rattle.setup.specs.Faults.{first_fault_from}
+use Rattle.setup.proofs.FaultLaws.{part_clear, part_fails}
 use Rattle.setup.proofs.values.point_fault.Goals as goal
 
-pub or_fault-account-requires : goal.or_fault-account-requires
-or_fault-account-requires c = omega (arith, c.requires.1)
+pub returns-in_err-in_range : goal.returns-in_err-in_range
+unfolding point_values
+returns-in_err-in_range c =
+    let count = ap (λ (n : Counts). n.accounts) c.requires.0.counted in
+    passed_on _ c.from_residual.ensures.1 ∙ (rw (length_accounts, ← count) (part_fails _ _ c.in_range.ensures c.in_err-in_range.was))
 
-pub overflow_add-at : goal.overflow_add-at
-overflow_add-at c =
-    record { fits = omega (arith, c.requires.1) }
+pub returns-in_err-in_range-2 : goal.returns-in_err-in_range-2
+unfolding point_values
+returns-in_err-in_range-2 c =
+    let count = ap (λ (n : Counts). n.accounts) c.requires.0.counted in
+    let own = c.kind_of-own.ensures in
+    passed_on _ c.from_residual-in_err-in_range-2.ensures.1
+    ∙ (rw (length_accounts, ← count)
+    (part_fails _ _ (rw own at c.in_range-2.ensures) c.in_err-in_range-2.was
+    ∙ sym (part_clear _ _ c.in_range.ensures c.in_ok-in_range.was)))
 
-pub or_fault-kind-requires : goal.or_fault-kind-requires
-or_fault-kind-requires c =
-    omega (arith, c.requires.1)
-
-pub overflow_add-at-2 : goal.overflow_add-at-2
-overflow_add-at-2 c =
-    record { fits = omega (arith, c.requires.1) }
-
-pub or_fault-zone-requires : goal.or_fault-zone-requires
-or_fault-zone-requires c =
-    omega (arith, c.requires.1)
-
-pub amounts_fault-requires : goal.amounts_fault-requires
-amounts_fault-requires c =
-    omega (arith, c.requires.1)
+pub returns-in_err-in_range-3 : goal.returns-in_err-in_range-3
+unfolding point_values
+returns-in_err-in_range-3 c =
+    let count = ap (λ (n : Counts). n.accounts) c.requires.0.counted in
+    let own = c.kind_of-own.ensures in
+    passed_on _ c.from_residual-in_err-in_range-3.ensures.1
+    ∙ (rw (length_accounts, ← count)
+    (part_fails _ _ c.in_range-3.ensures c.in_err-in_range-3.was
+    ∙ sym (part_clear _ _ (rw own at c.in_range-2.ensures) c.in_ok-in_range-2.was)
+    ∙ sym (part_clear _ _ c.in_range.ensures c.in_ok-in_range.was)))
 
 pub returns : goal.returns
-unfolding point_values first_fault_from
+unfolding point_values
 returns c =
     let count = ap (λ (n : Counts). n.accounts) c.requires.0.counted in
-    rw (c.amounts_fault.ensures, c.or_fault-zone.ensures, c.or_fault-kind.ensures, c.or_fault-account.ensures, c.kind_of-own.ensures, length_accounts, ← count)
+    let own = c.kind_of-own.ensures in
+    rw (length_accounts, ← count)
+    (c.amounts_fault.ensures
+    ∙ sym (part_clear _ _ c.in_range-3.ensures c.in_ok-in_range-3.was)
+    ∙ sym (part_clear _ _ (rw own at c.in_range-2.ensures) c.in_ok-in_range-2.was)
+    ∙ sym (part_clear _ _ c.in_range.ensures c.in_ok-in_range.was))

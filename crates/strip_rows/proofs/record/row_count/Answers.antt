@@ -4,4 +4,4 @@ use Rattle.wire.proofs.NumberLaws.{number_at_one}
 use Rattle.strip_rows.proofs.record.row_count.Goals as goal
 
 pub returns : goal.returns
-returns c = c.get_u8.ensures ∙ number_at_one _ _
+returns c = c.get.ensures ∙ number_at_one _ _

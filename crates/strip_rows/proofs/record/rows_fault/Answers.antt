@@ -1,38 +1,39 @@
--- Each pass is put to all rows before the next: the first that finds a row decides.
+-- Each check is put to all rows before the next: the first that finds a row decides.
 use mathlib.Core.Path.{sym, ap, ◌∙◌}
-use mathlib.Core.Option.{none, some}
+use Rattle.std.proofs.Common.{of_calls}
+use Rattle.std.proofs.iter.Serving.{serving}
 use Rattle.rules.specs.Verdicts.{checked}
-use Rattle.rules.proofs.Basics.Searches.{each_any}
-use Rattle.rules.proofs.Checks.Clearing.{checked-same}
-use Rattle.strip_rows.proofs.Passes.{found_2, found_3, found_4, rows_readable}
+use Rattle.rules.specs.Requests.{head_length}
+use Rattle.rules.proofs.Checks.PassedOn.{passed_on}
+use Rattle.strip_rows.specs.Rows.{row_of}
+use Rattle.strip_rows.specs.Passes.{readable_check, register_check, mapped_check}
+use Rattle.strip_rows.proofs.Passes.{rows_checked, row_refused, rows_passed, found_2, found_3, found_4, row_readable}
 use Rattle.strip_rows.proofs.record.rows_fault.Goals as goal
 
-pub first_row_fault-requires : goal.first_row_fault-requires
-first_row_fault-requires c =
-    record { fits = c.requires; each = each_any _ (λ row. tt) }
+pub returns-in_err-first_fault : goal.returns-in_err-first_fault
+returns-in_err-first_fault c =
+    let readable = c.first_fault.ensures _ (λ i low t post. search of_calls) in
+    passed_on _ c.from_residual.ensures.1 ∙ sym (ap checked (found_2 _ (row_refused readable_check _ _ _ readable c.in_err-first_fault.was)))
 
-pub returns-in-Fails : goal.returns-in-Fails
-returns-in-Fails c =
-    let found = checked-same _ (some _) (sym c.first_row_fault.ensures ∙ c.in-Fails.is) in
-    sym (ap checked (found_2 _ _ found))
+pub returns-in_err-first_fault-2 : goal.returns-in_err-first_fault-2
+returns-in_err-first_fault-2 c =
+    let readable = c.first_fault.ensures _ (λ i low t post. search of_calls) in
+    let registers = c.first_fault-2.ensures _ (λ i low t post. search of_calls) in
+    let first = rows_passed readable_check _ _ _ readable c.in_ok-first_fault.was in
+    let found = row_refused register_check _ _ _ registers c.in_err-first_fault-2.was in
+    passed_on _ c.from_residual-in_err-first_fault-2.ensures.1 ∙ sym (ap checked (found_3 _ first found))
 
-pub first_row_fault-requires-2 : goal.first_row_fault-requires-2
-first_row_fault-requires-2 c =
-    record { fits = c.requires; each = each_any _ (λ row. tt) }
-
-pub returns-in-Fails-first_row_fault : goal.returns-in-Fails-first_row_fault
-returns-in-Fails-first_row_fault c =
-    let first = checked-same _ none (sym c.first_row_fault.ensures ∙ c.in_default.is) in
-    let found = checked-same _ (some _) (sym c.first_row_fault-2.ensures ∙ c.in-Fails-first_row_fault.is) in
-    sym (ap checked (found_3 _ first _ found))
-
-pub first_row_fault-requires-3 : goal.first_row_fault-requires-3
-first_row_fault-requires-3 c =
-    let first = checked-same _ none (sym c.first_row_fault.ensures ∙ c.in_default.is) in
-    record { fits = c.requires; each = rows_readable _ first }
+pub first_fault-requires-3 : goal.first_fault-requires-3
+first_fault-requires-3 c i low =
+    let readable = c.first_fault.ensures (λ i. readable_check (row_of c.args.bytes.now head_length i)) (λ i low t post. search of_calls) in
+    let it = row_readable c.args.bytes.now head_length c.args.n i low (rows_passed readable_check _ _ _ readable c.in_ok-first_fault.was) in
+    grind (serving, it)
 
 pub returns : goal.returns
 returns c =
-    let first = checked-same _ none (sym c.first_row_fault.ensures ∙ c.in_default.is) in
-    let second = checked-same _ none (sym c.first_row_fault-2.ensures ∙ c.in_default-first_row_fault.is) in
-    c.first_row_fault-3.ensures ∙ sym (ap checked (found_4 _ first second))
+    let readable = c.first_fault.ensures _ (λ i low t post. search of_calls) in
+    let registers = c.first_fault-2.ensures _ (λ i low t post. search of_calls) in
+    let mapped = c.first_fault-3.ensures _ (λ i low t post. search of_calls) in
+    let first = rows_passed readable_check _ _ _ readable c.in_ok-first_fault.was in
+    let second = rows_passed register_check _ _ _ registers c.in_ok-first_fault-2.was in
+    rows_checked mapped_check _ _ _ mapped ∙ sym (ap checked (found_4 _ first second))

@@ -1,8 +1,8 @@
 -- Each test of the code is that of a check, in the order of the checks.
+use Rattle.std.specs.Prelude.{None, Some}
+use Rattle.rules.proofs.Checks.PassedOn.{passed_on}
 use Prim.Native.Nat.{◌+◌, ◌*◌}
-use mathlib.Core.Path.{◌≡◌, refl, sym, ap, ◌∙◌}
-use mathlib.Core.Option.{none, some}
-use native.Mathlib.Omega.{arith}
+use mathlib.Core.Path.{◌≡◌, sym, ap, ◌∙◌}
 use lib.ListN.{length}
 use borrow.Author.Tests.{not-true, not-false}
 use Rattle.rules.specs.Verdicts.{checked}
@@ -14,39 +14,26 @@ use Rattle.strip_rows.proofs.record.strip_fault.Goals as goal
 pub returns-then-no_map : goal.returns-then-no_map
 returns-then-no_map c = sym (ap checked (fails_2 c.args.bytes.now (sym c.no_map.ensures ∙ c.if-no_map.true)))
 
-pub map_fault-requires : goal.map_fault-requires
-map_fault-requires c =
-    (sym c.no_map.ensures ∙ c.if-no_map.false, refl)
-
-pub returns-in-Fails : goal.returns-in-Fails
-returns-in-Fails c =
-    let fine = sym c.no_map.ensures ∙ c.if-no_map.false in
-    sym (ap checked (fails_4 c.args.bytes.now fine _ (checked-same _ (some _) (sym c.map_fault.ensures ∙ c.in-Fails.is))))
+pub returns-in_err-map_fault : goal.returns-in_err-map_fault
+returns-in_err-map_fault c = passed_on _ c.from_residual.ensures.1 ∙ (let fine = sym c.no_map.ensures ∙ c.if-no_map.false in
+    sym (ap checked (fails_4 c.args.bytes.now fine _ (checked-same _ (Some _) (sym c.map_fault.ensures ∙ c.in_err-map_fault.was)))))
 
 pub returns-then-bytes-lt-HEAD_LENGTH : goal.returns-then-bytes-lt-HEAD_LENGTH
 returns-then-bytes-lt-HEAD_LENGTH c =
     let fine = sym c.no_map.ensures ∙ c.if-no_map.false in
-    let mapped = checked-same _ none (sym c.map_fault.ensures ∙ c.in_default.is) in
+    let mapped = checked-same _ None (sym c.map_fault.ensures ∙ c.in_ok-map_fault.was) in
     sym (ap checked (fails_5 c.args.bytes.now fine mapped (head_short c.args.bytes.now c.if-bytes-lt-HEAD_LENGTH.true)))
-
-pub overflow_mul-n : goal.overflow_mul-n
-overflow_mul-n c =
-    omega (arith, c.row_count-n.ensures, c.type_inv.bytes 3)
-
-pub overflow_add-n : goal.overflow_add-n
-overflow_add-n c =
-    omega (arith, c.row_count-n.ensures, c.type_inv.bytes 3)
 
 pub returns-then-bytes-n : goal.returns-then-bytes-n
 returns-then-bytes-n c =
     let fine = sym c.no_map.ensures ∙ c.if-no_map.false in
-    let mapped = checked-same _ none (sym c.map_fault.ensures ∙ c.in_default.is) in
+    let mapped = checked-same _ None (sym c.map_fault.ensures ∙ c.in_ok-map_fault.was) in
     sym (ap checked (fails_5 c.args.bytes.now fine mapped (rw c.row_count-n.ensures at c.if-bytes-n.true)))
 
 pub returns-then-n : goal.returns-then-n
 returns-then-n c =
     let fine = sym c.no_map.ensures ∙ c.if-no_map.false in
-    let mapped = checked-same _ none (sym c.map_fault.ensures ∙ c.in_default.is) in
+    let mapped = checked-same _ None (sym c.map_fault.ensures ∙ c.in_ok-map_fault.was) in
     let sized : length c.args.bytes.now
     ≡ head_length + row_length * strip_count c.args.bytes.now =
     rw (← c.row_count-n.ensures) c.if-bytes-n.false in
@@ -56,7 +43,7 @@ returns-then-n c =
 pub returns : goal.returns
 returns c =
     let fine = sym c.no_map.ensures ∙ c.if-no_map.false in
-    let mapped = checked-same _ none (sym c.map_fault.ensures ∙ c.in_default.is) in
+    let mapped = checked-same _ None (sym c.map_fault.ensures ∙ c.in_ok-map_fault.was) in
     let sized : length c.args.bytes.now
     ≡ head_length + row_length * strip_count c.args.bytes.now =
     rw (← c.row_count-n.ensures) c.if-bytes-n.false in

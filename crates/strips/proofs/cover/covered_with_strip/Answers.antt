@@ -18,6 +18,6 @@ returns c =
     c.covered_in_force.ensures
     ∙ rw (
       exposure_with-strip _ _ c.args.n _ c.requires.0 (bytes_known _ c.type_inv.bytes) c.requires.1 _ _ _
-          c.exposure_with-standing.ensures.meaning c.strip_sales-added.ensures.meaning c.plus.ensures.exact,
+          c.exposure_with-standing.ensures.meaning c.strip_sales-added.ensures.meaning c.add.ensures,
       c.operator_of-operator.ensures.meaning,
     )

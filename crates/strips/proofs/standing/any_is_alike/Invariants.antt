@@ -13,11 +13,8 @@ abbrev pub invariant-loop-number : goal.invariant-loop-number
 invariant-loop-number l =
     let rows = (book_in l.book).part.rows in
     let among = alike_among l.account (strip_requests l.bytes l.n) in
-    (l.rows ≡ length rows)
-    × (l.rows ≤ most_rows)
+    (l.number-end ≡ length rows)
+    × (l.number-end ≤ most_rows)
     × (1 ≤ l.number)
-    × (l.number ≤ l.rows + 1)
+    × (l.number ≤ l.number-end + 1)
     × (l.found || any_passes among (drop (l.number - 1) rows) ≡ any_passes among rows)
-
-abbrev pub decreases-loop-number : goal.decreases-loop-number
-decreases-loop-number l = l.rows + 1 - l.number

@@ -11,11 +11,11 @@ broken_with-requires c =
     let bytes = bytes_known _ c.type_inv.bytes in
     (c.requires.known_book.0, rw c.requires.known_book.2 (proposer_known _ _ _ bytes c.requires.known_book.1), c.fill_all_waits.ensures.whole)
 
-pub returns-in-Hour : goal.returns-in-Hour
-returns-in-Hour c =
+pub returns-in-Some : goal.returns-in-Some
+returns-in-Some c =
     let pending-rows = proposed-pending (strip_requests c.args.bytes.now c.args.n) in
     let searched = (rw c.requires.known_book.2 at (c.broken_with.ensures _ pending-rows (rw c.requires.known_book.2 c.fill_all_waits.ensures))) in
-    margin_decides _ _ c.requires.addable _ (sym c.in-Hour.is ∙ searched)
+    margin_decides _ _ c.requires.addable _ (sym c.in-Some.is ∙ searched)
 
 pub returns-then-covered_with_strip : goal.returns-then-covered_with_strip
 returns-then-covered_with_strip c =

@@ -9,13 +9,10 @@ use Rattle.tables.proofs.exposure.account_exposure.Given as goal
 
 abbrev pub invariant-loop-hour : goal.invariant-loop-hour
 invariant-loop-hour l =
-    (l.n.hours ≡ (counts_in l.book).hours)
+    (l.hour-end ≡ (counts_in l.book).hours)
     × (1 ≤ l.hour)
-    × (l.hour ≤ (counts_in l.book).hours + 1)
+    × (l.hour ≤ l.hour-end + 1)
     × (l.sum.0 ≤ (l.hour - 1) * most_hour_exposure)
     × ForRowsSummedIn l.top l.table (λ rows.
     l.sum.0 + total (hour_exposure l.book rows l.number) (counting ((counts_in l.book).hours + 1 - l.hour) l.hour)
     ≡ total (hour_exposure l.book rows l.number) (counting (counts_in l.book).hours 1))
-
-abbrev pub decreases-loop-hour : goal.decreases-loop-hour
-decreases-loop-hour l = (counts_in l.book).hours + 1 - l.hour

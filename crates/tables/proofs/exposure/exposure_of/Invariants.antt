@@ -8,13 +8,10 @@ use Rattle.tables.proofs.exposure.exposure_of.Given as goal
 
 abbrev pub invariant-loop-number : goal.invariant-loop-number
 invariant-loop-number l =
-    (l.n.accounts ≡ (counts_in l.book).accounts)
+    (l.number-end ≡ (counts_in l.book).accounts)
     × (1 ≤ l.number)
-    × (l.number ≤ (counts_in l.book).accounts + 1)
+    × (l.number ≤ l.number-end + 1)
     × (l.sum.0 ≤ (l.number - 1) * most_account_exposure)
     × ForRowsSummedIn l.top l.table (λ rows.
     l.sum.0 + total (exposure_share (setup_of l.book) rows l.operator) (counting ((counts_in l.book).accounts + 1 - l.number) l.number)
     ≡ total (exposure_share (setup_of l.book) rows l.operator) (counting (counts_in l.book).accounts 1))
-
-abbrev pub decreases-loop-number : goal.decreases-loop-number
-decreases-loop-number l = (counts_in l.book).accounts + 1 - l.number

@@ -4,8 +4,8 @@ use Rattle.image.proofs.Tables.MoneyLaws.{price_bounded}
 use Rattle.tables.proofs.ExposureLaws.{price_joined}
 use Rattle.tables.proofs.exposure.hour_exposure.Goals as goal
 
-pub plus-requires : goal.plus-requires
-plus-requires c =
+pub add-requires : goal.add-requires
+add-requires c =
     let owed = price_bounded c.short-short.result.0 c.args.price.0 (omega arith) c.requires in
     let waits = price_bounded c.args.x.sales.0 c.args.price.0 (omega arith) c.requires in
     omega arith

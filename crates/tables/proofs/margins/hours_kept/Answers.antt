@@ -22,13 +22,19 @@ loop-hour-preserved c = (
   search rules,
   λ rows sums.
       c.loop-hour.invariant.3 rows sums
-      ∙ every_next _ _ _ _ (omega arith) (hour_kept_lem _ rows _ _ _ _ c.margins-own.ensures (c.account_hour-x.ensures rows sums) c.keeps_margins.ensures ∙ c.if-keeps_margins.true),
+      ∙ every_next _ _ _ _ (omega arith) (hour_kept_lem _ rows _ _ _ _ c.margins-own.ensures (c.account_hour-x.ensures rows sums) c.keeps_margins.ensures ∙ c.if-not-keeps_margins.false),
 )
 
-pub returns-else-keeps_margins : goal.returns-else-keeps_margins
-returns-else-keeps_margins c rows sums =
+pub returns-then-not-keeps_margins : goal.returns-then-not-keeps_margins
+returns-then-not-keeps_margins c rows sums =
     sym (c.loop-hour.invariant.3 rows sums
-    ∙ every_fails _ _ _ (omega arith) (hour_kept_lem _ rows _ _ _ _ c.margins-own.ensures (c.account_hour-x.ensures rows sums) c.keeps_margins.ensures ∙ c.if-keeps_margins.false))
+    ∙ every_fails _ _ _ (omega arith) (hour_kept_lem _ rows _ _ _ _ c.margins-own.ensures (c.account_hour-x.ensures rows sums) c.keeps_margins.ensures ∙ c.if-not-keeps_margins.true))
+
+pub returns-else-not-keeps_margins : goal.returns-else-not-keeps_margins
+returns-else-not-keeps_margins c rows sums =
+    sym (c.loop-hour.invariant.3 rows sums
+    ∙ every_next _ _ 0 _ (omega arith) (hour_kept_lem _ rows _ _ _ _ c.margins-own.ensures (c.account_hour-x.ensures rows sums) c.keeps_margins.ensures ∙ c.if-not-keeps_margins.false)
+    ∙ every_done _ 0 _ (omega arith))
 
 pub returns : goal.returns
 returns c rows sums = sym (c.loop-hour.invariant.3 rows sums ∙ every_done _ _ _ (omega arith))

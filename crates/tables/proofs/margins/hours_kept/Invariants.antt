@@ -10,11 +10,8 @@ use Rattle.tables.proofs.margins.hours_kept.Given as goal
 
 abbrev pub invariant-loop-hour : goal.invariant-loop-hour
 invariant-loop-hour l =
-    (l.n.hours ≡ (counts_in l.book).hours)
+    (l.hour-end ≡ (counts_in l.book).hours)
     × (1 ≤ l.hour)
-    × (l.hour ≤ (counts_in l.book).hours + 1)
+    × (l.hour ≤ l.hour-end + 1)
     × ForRowsSummedIn l.top l.table (λ rows.
     account_keeps (setup_of l.book) rows l.number ≡ every (hour_kept l.book rows l.number) (counting ((counts_in l.book).hours + 1 - l.hour) l.hour))
-
-abbrev pub decreases-loop-hour : goal.decreases-loop-hour
-decreases-loop-hour l = (counts_in l.book).hours + 1 - l.hour

@@ -20,12 +20,18 @@ loop-number-preserved c = (
   c.loop-number.invariant.0,
   search rules,
   search rules,
-  λ rows sums. c.loop-number.invariant.3 rows sums ∙ every_next _ _ _ _ (omega arith) (sym (c.hours_kept.ensures rows sums) ∙ c.if-hours_kept.true),
+  λ rows sums. c.loop-number.invariant.3 rows sums ∙ every_next _ _ _ _ (omega arith) (sym (c.hours_kept.ensures rows sums) ∙ c.if-not-hours_kept.false),
 )
 
-pub returns-else-hours_kept : goal.returns-else-hours_kept
-returns-else-hours_kept c rows sums =
-    sym (c.loop-number.invariant.3 rows sums ∙ every_fails _ _ _ (omega arith) (sym (c.hours_kept.ensures rows sums) ∙ c.if-hours_kept.false))
+pub returns-then-not-hours_kept : goal.returns-then-not-hours_kept
+returns-then-not-hours_kept c rows sums =
+    sym (c.loop-number.invariant.3 rows sums ∙ every_fails _ _ _ (omega arith) (sym (c.hours_kept.ensures rows sums) ∙ c.if-not-hours_kept.true))
+
+pub returns-else-not-hours_kept : goal.returns-else-not-hours_kept
+returns-else-not-hours_kept c rows sums =
+    sym (c.loop-number.invariant.3 rows sums
+    ∙ every_next _ _ 0 _ (omega arith) (sym (c.hours_kept.ensures rows sums) ∙ c.if-not-hours_kept.false)
+    ∙ every_done _ 0 _ (omega arith))
 
 pub returns : goal.returns
 returns c rows sums = sym (c.loop-number.invariant.3 rows sums ∙ every_done _ _ _ (omega arith))

@@ -9,11 +9,8 @@ use Rattle.tables.proofs.margins.margins_kept.Given as goal
 
 abbrev pub invariant-loop-number : goal.invariant-loop-number
 invariant-loop-number l =
-    (l.n.accounts ≡ (counts_in l.book).accounts)
+    (l.number-end ≡ (counts_in l.book).accounts)
     × (1 ≤ l.number)
-    × (l.number ≤ (counts_in l.book).accounts + 1)
+    × (l.number ≤ l.number-end + 1)
     × ForRowsSummedIn l.top l.table (λ rows.
     margins_kept (setup_of l.book) rows ≡ every (account_keeps (setup_of l.book) rows) (counting ((counts_in l.book).accounts + 1 - l.number) l.number))
-
-abbrev pub decreases-loop-number : goal.decreases-loop-number
-decreases-loop-number l = (counts_in l.book).accounts + 1 - l.number

@@ -2,19 +2,22 @@
 use mathlib.Core.Path.{◌∙◌, sym}
 use native.Mathlib.Omega.{arith}
 use borrow.Author.Rules.{rules}
-use Rattle.rules.proofs.Basics.CountingLaws.{every_done, every_next, every_fails, every_same}
+use Rattle.rules.proofs.Basics.CountingLaws.{every_done, every_next, every_fails}
 use Rattle.tables.proofs.sums.account_nets_match.Goals as goal
-
-pub loop-hour-init : goal.loop-hour-init
-loop-hour-init c = (search rules, search rules, every_same _ _ _ _ (omega arith))
 
 pub loop-hour-preserved : goal.loop-hour-preserved
 loop-hour-preserved c =
-    (search rules, search rules, c.loop-hour.invariant.2 ∙ every_next _ _ _ _ (omega arith) (sym c.net_matches.ensures ∙ c.if-net_matches.true))
+    (c.loop-hour.invariant.0, search rules, search rules, c.loop-hour.invariant.3 ∙ every_next _ _ _ _ (omega arith) (sym c.net_matches.ensures ∙ c.if-not-net_matches.false))
 
-pub returns-else-net_matches : goal.returns-else-net_matches
-returns-else-net_matches c =
-    sym (c.loop-hour.invariant.2 ∙ every_fails _ _ _ (omega arith) (sym c.net_matches.ensures ∙ c.if-net_matches.false))
+pub returns-then-not-net_matches : goal.returns-then-not-net_matches
+returns-then-not-net_matches c =
+    sym (c.loop-hour.invariant.3 ∙ every_fails _ _ _ (omega arith) (sym c.net_matches.ensures ∙ c.if-not-net_matches.true))
+
+pub returns-else-not-net_matches : goal.returns-else-not-net_matches
+returns-else-not-net_matches c =
+    sym (c.loop-hour.invariant.3
+    ∙ every_next _ _ 0 _ (omega arith) (sym c.net_matches.ensures ∙ c.if-not-net_matches.false)
+    ∙ every_done _ 0 _ (omega arith))
 
 pub returns : goal.returns
-returns c = sym (c.loop-hour.invariant.2 ∙ every_done _ _ _ (omega arith))
+returns c = sym (c.loop-hour.invariant.3 ∙ every_done _ _ _ (omega arith))

@@ -7,9 +7,7 @@ use Rattle.tables.proofs.sums.account_nets_match.Given as goal
 
 abbrev pub invariant-loop-hour : goal.invariant-loop-hour
 invariant-loop-hour l =
-    (1 ≤ l.hour)
-    × (l.hour ≤ l.top + 1)
+    (l.hour-end ≡ l.top)
+    × (1 ≤ l.hour)
+    × (l.hour ≤ l.hour-end + 1)
     × (every (net_stored l.top l.s l.nets l.table l.account) (counting l.top 1) ≡ every (net_stored l.top l.s l.nets l.table l.account) (counting (l.top + 1 - l.hour) l.hour))
-
-abbrev pub decreases-loop-hour : goal.decreases-loop-hour
-decreases-loop-hour l = l.top + 1 - l.hour

@@ -4,4 +4,4 @@ use Rattle.tables.proofs.sums.net_matches.Goals as goal
 
 pub returns : goal.returns
 unfolding net_stored
-returns c = rw (c.get_u32-stored.ensures, c.place.ensures.is, c.sum_at-bought.ensures, c.sum_at-sold.ensures)
+returns c = rw (c.get-stored.ensures, c.place.ensures.is, c.sum_at-bought.ensures, c.sum_at-sold.ensures)

@@ -12,11 +12,11 @@ loop-account-init c = (search rules, search rules, refl)
 
 pub loop-account-preserved : goal.loop-account-preserved
 loop-account-preserved c =
-    (search rules, search rules, c.loop-account.invariant.2 ∙ every_next _ _ _ _ (omega arith) (sym c.account_nets_match.ensures ∙ c.if-account_nets_match.true))
+    (search rules, search rules, c.loop-account.invariant.2 ∙ every_next _ _ _ _ (omega arith) (sym c.account_nets_match.ensures ∙ c.if-not-account_nets_match.false))
 
-pub returns-else-account_nets_match : goal.returns-else-account_nets_match
-returns-else-account_nets_match c =
-    sym (c.loop-account.invariant.2 ∙ every_fails _ _ _ (omega arith) (sym c.account_nets_match.ensures ∙ c.if-account_nets_match.false))
+pub returns-then-not-account_nets_match : goal.returns-then-not-account_nets_match
+returns-then-not-account_nets_match c =
+    sym (c.loop-account.invariant.2 ∙ every_fails _ _ _ (omega arith) (sym c.account_nets_match.ensures ∙ c.if-not-account_nets_match.true))
 
 pub returns : goal.returns
 returns c = sym (c.loop-account.invariant.2 ∙ every_done _ _ _ (omega arith))

@@ -11,6 +11,3 @@ invariant-loop-account l =
     (1 ≤ l.account)
     × (l.account ≤ most_accounts + 1)
     × (nets_stored l.top l.s l.nets l.table ≡ every (λ a. every (net_stored l.top l.s l.nets l.table a) (up_to l.top)) (counting (most_accounts + 1 - l.account) l.account))
-
-abbrev pub decreases-loop-account : goal.decreases-loop-account
-decreases-loop-account l = most_accounts + 1 - l.account

@@ -1,5 +1,4 @@
 -- The limit is what the net position leaves, and what is used up is read from the account's cell, which lies past those of the points.
-use mathlib.Core.Path.{◌∙◌}
 use native.Mathlib.Omega.{arith}
 use borrow.Author.Rules.{rules}
 use Rattle.valuation.proofs.CongruityLaws.{account_read_in_cells, account_hour_stands}
@@ -19,7 +18,3 @@ pub bounds-used-k : goal.bounds-used-k
 bounds-used-k c =
     let cell = account_read_in_cells _ c.requires.0 _ c.requires.1.in_range _ c.requires.1.its_point in
     omega (arith, c.cell_for-k.ensures, c.requires.2, cell)
-
-pub returns : goal.returns
-returns c =
-    c.passes.ensures ∙ rw (c.account_limit-limit.ensures, c.net_at-net.ensures, c.cell_for-k.ensures)

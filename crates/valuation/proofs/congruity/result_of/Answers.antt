@@ -12,10 +12,6 @@ pub over_point-over_point-requires : goal.over_point-over_point-requires
 over_point-over_point-requires c =
     (c.requires.on_point.1, point_in_cells _ c.requires.priced.is_sound _ c.requires.on_point.0.in_range)
 
-pub over_account-over_account-requires : goal.over_account-over_account-requires
-over_account-over_account-requires c =
-    (c.requires.priced.is_sound, c.requires.on_point.0, c.requires.on_point.1)
-
 pub is_taken-taken-requires : goal.is_taken-taken-requires
 is_taken-taken-requires c =
     price_stands _ c.requires.priced.is_sound _ c.requires.on_point.0.in_range _ c.requires.priced _ _ c.counts-n.ensures c.requires.on_point.0.its_point
@@ -24,4 +20,4 @@ pub returns : goal.returns
 returns c =
     let judged = result_judged _ _ _ _ c.requires.priced c.requires.on_point.0.in_range _ _ c.counts-n.ensures c.requires.on_point.0.its_point
     c.over_point-over_point.ensures c.over_account-over_account.ensures c.is_taken-taken.ensures in
-    record { meaning = (λ before by each. c.ranked_result.ensures.0 ∙ judged before by each); bounded = c.ranked_result.ensures.1 }
+    λ before by each. c.ranked_result.ensures ∙ judged before by each

@@ -1,8 +1,0 @@
--- Equal accounts are the fault.
-use Rattle.records.proofs.ranges.accounts_differ.Goals as goal
-
-pub returns-then-same : goal.returns-then-same
-returns-then-same c = rw c.if-same.true
-
-pub returns-else-same : goal.returns-else-same
-returns-else-same c = rw c.if-same.false

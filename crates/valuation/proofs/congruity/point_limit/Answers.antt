@@ -1,9 +1,0 @@
--- The side says which of the two amounts it is.
-use borrow.Author.Tests.{eq-eqb, ne_eqb}
-use Rattle.valuation.proofs.congruity.point_limit.Goals as goal
-
-pub returns-then-side-eq-INJECTS : goal.returns-then-side-eq-INJECTS
-returns-then-side-eq-INJECTS c = rw (eq-eqb _ 1 c.if-side-eq-INJECTS.true)
-
-pub returns : goal.returns
-returns c = rw (ne_eqb _ 1 c.if-side-eq-INJECTS.false)
