@@ -101,10 +101,11 @@ fn number_to_confirm(book: &[u8], request: Request) -> Result<u16, Refusal>
     requires { is_sound book.now ≡ true }
     ensures { result ≡ outcome_on confirm (book_in book.now) request }
 {
+    let named = confirmed_number(book, request);
     if phase(book) != Phase::Registration {
         return Err(Refusal::WrongPhase);
     }
-    let Some(number) = confirmed_number(book, request) else {
+    let Some(number) = named else {
         return Err(Refusal::NoSuchRow);
     };
     let row = numbered_row(book, number);

@@ -17,17 +17,21 @@ pub fn first_broken(book: &[u8], waits: &[u32], trade: Row, number: u8) -> Optio
     requires account_trade { AccountTrade (book_in book.now) number trade }
     ensures { let b = book_in book.now in result ≡ broken_by b.setup b.part.rows (trade ∷ []) number }
 {
-    let mut broken = None;
-    for hour in trade.first..=trade.last {
+    let mut hour: u8 = trade.first;
+    let found = loop {
+        if trade.last < hour {
+            break None;
+        }
         let own = margins(book, number, hour);
         let before = account_hour(book, waits, number, hour);
         let after = before.after_trade(trade, number, hour);
-        if !keeps_margins(own, after) {
-            broken = Some(hour);
-            break;
+        if keeps_margins(own, after) {
+            hour += 1;
+        } else {
+            break Some(hour);
         }
-    }
-    broken
+    };
+    found
 }
 
 // The same, with the account's pending sums worked out here.

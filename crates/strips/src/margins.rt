@@ -20,14 +20,18 @@ pub fn broken_with(book: &[u8], waits: &[u32], number: u8) -> Option<u8>
         → result ≡ broken_by b.setup b.part.rows added number) }
 {
     let n = counts(book);
-    let mut broken = None;
-    for hour in 1..=n.hours {
+    let mut hour: u8 = 1;
+    let found = loop {
+        if n.hours < hour {
+            break None;
+        }
         let own = margins(book, number, hour);
         let held = account_hour(book, waits, number, hour);
-        if !keeps_margins(own, held) {
-            broken = Some(hour);
-            break;
+        if keeps_margins(own, held) {
+            hour += 1;
+        } else {
+            break Some(hour);
         }
-    }
-    broken
+    };
+    found
 }

@@ -17,12 +17,12 @@ returns-then-ne c =
 pub returns-in_default : goal.returns-in_default
 returns-in_default c =
     let first = same_phase _ Registration c.phase.ensures c.ne.ensures c.if-ne.false in
-    names_no_row _ _ first (sym c.in_default.is ∙ c.confirmed_number.ensures.meaning)
+    names_no_row _ _ first (sym c.in_default.is ∙ c.confirmed_number-named.ensures.meaning)
 
 pub returns-then-not-is_mirrored : goal.returns-then-not-is_mirrored
 returns-then-not-is_mirrored c =
     let first = same_phase _ Registration c.phase.ensures c.ne.ensures c.if-ne.false in
-    names_other_terms _ _ first _ _ (sym c.in-Some.is ∙ c.confirmed_number.ensures.meaning) c.numbered_row-row.ensures
+    names_other_terms _ _ first _ _ (sym c.in-Some.is ∙ c.confirmed_number-named.ensures.meaning) c.numbered_row-row.ensures
     (sym c.is_mirrored.ensures ∙ c.if-not-is_mirrored.true)
 
 pub returns-in_err-margin_or_exposure_fault : goal.returns-in_err-margin_or_exposure_fault
@@ -33,4 +33,4 @@ returns-in_err-margin_or_exposure_fault c =
 pub returns : goal.returns
 returns c =
     acceptance_answers _ _ _ (checked-same _ None (sym c.margin_or_exposure_fault.ensures ∙ c.in_ok-margin_or_exposure_fault.was))
-    (number_of_some _ _ (sym c.in-Some.is ∙ c.confirmed_number.ensures.meaning))
+    (number_of_some _ _ (sym c.in-Some.is ∙ c.confirmed_number-named.ensures.meaning))

@@ -1,5 +1,5 @@
 -- The search over all hours is that over the hours that are left, whatever pending rows the table has beside those of the book.
-use mathlib.Core.Path.{◌∙◌, refl, sym, ap}
+use mathlib.Core.Path.{◌∙◌, sym, ap}
 use mathlib.Core.Bool.{not}
 use native.Mathlib.Omega.{arith}
 use Rattle.rules.specs.declared.Counts.{Counts}
@@ -17,7 +17,6 @@ counts-n-requires c = let n = book_length _ c.requires.0 in omega arith
 pub loop-hour-init : goal.loop-hour-init
 loop-hour-init c =
     let hours = ap (λ (n : Counts). n.hours) (c.counts-n.ensures ∙ sym (counts_in_lem _ c.requires.0)) in (
-      refl,
       omega arith,
       omega arith,
       hours,
@@ -28,38 +27,30 @@ loop-hour-init c =
 pub margins-own-requires : goal.margins-own-requires
 margins-own-requires c =
     let hours = ap (λ (n : Counts). n.hours) (counts_in_lem _ c.requires.0) in
-    record { whole = ((setup_tabled _ c.requires.0).whole, c.requires.1.0, (accounts_read _ c.requires.0 _ c.requires.1.1).0); in_day = (c.loop-hour.invariant.1, omega (arith, hours, c.loop-hour.invariant.3)) }
+    record { whole = ((setup_tabled _ c.requires.0).whole, c.requires.1.0, (accounts_read _ c.requires.0 _ c.requires.1.1).0); in_day = (c.loop-hour.invariant.0, omega (arith, hours, c.loop-hour.invariant.2)) }
 
 pub account_hour-held-requires : goal.account_hour-held-requires
 account_hour-held-requires c =
-    record { known_book = (c.requires.0, c.requires.2); account = (c.requires.1, (c.loop-hour.invariant.1, omega (arith, c.loop-hour.invariant.3))) }
+    record { known_book = (c.requires.0, c.requires.2); account = (c.requires.1, (c.loop-hour.invariant.0, omega (arith, c.loop-hour.invariant.2))) }
 
 pub loop-hour-preserved : goal.loop-hour-preserved
 loop-hour-preserved c =
     let own = margins_read _ c.requires.0 _ c.args.number c.loop-hour.hour c.margins-own.ensures in
-    let hour : IsHour (book_in c.args.book.now) c.loop-hour.hour = (c.loop-hour.invariant.1, omega (arith, c.loop-hour.invariant.3)) in (
-      c.loop-hour.invariant.0,
+    let hour : IsHour (book_in c.args.book.now) c.loop-hour.hour = (c.loop-hour.invariant.0, omega (arith, c.loop-hour.invariant.2)) in (
       omega arith,
       omega arith,
+      c.loop-hour.invariant.2,
       c.loop-hour.invariant.3,
-      c.loop-hour.invariant.4,
       λ added waits w. let test = breaks_with_tested _ c.requires.0 added _ _ _ _ _ _ waits w hour own c.account_hour-held.ensures c.keeps_margins.ensures in
-          c.loop-hour.invariant.5 added waits w ∙ find_next _ _ _ _ (omega arith) (test ∙ ap not c.if-not-keeps_margins.false),
+          c.loop-hour.invariant.4 added waits w ∙ find_next _ _ _ _ (omega arith) (test ∙ ap not c.if-keeps_margins.true),
     )
 
-pub returns : goal.returns
-returns c added waits w = c.loop-hour.invariant.0 ∙ (sym (c.loop-hour.invariant.5 added waits w ∙ find_done _ _ _ (omega arith)))
+pub returns-then-n-hour : goal.returns-then-n-hour
+returns-then-n-hour c added waits w = sym (c.loop-hour.invariant.4 added waits w ∙ find_done _ _ _ (omega arith))
 
-pub returns-then-not-keeps_margins : goal.returns-then-not-keeps_margins
-returns-then-not-keeps_margins c added waits w =
+pub returns-else-keeps_margins : goal.returns-else-keeps_margins
+returns-else-keeps_margins c added waits w =
     let own = margins_read _ c.requires.0 _ c.args.number c.loop-hour.hour c.margins-own.ensures in
-    let hour : IsHour (book_in c.args.book.now) c.loop-hour.hour = (c.loop-hour.invariant.1, omega (arith, c.loop-hour.invariant.3)) in
+    let hour : IsHour (book_in c.args.book.now) c.loop-hour.hour = (c.loop-hour.invariant.0, omega (arith, c.loop-hour.invariant.2)) in
     let test = breaks_with_tested _ c.requires.0 added _ _ _ _ _ _ waits w hour own c.account_hour-held.ensures c.keeps_margins.ensures in
-    (sym (c.loop-hour.invariant.5 added waits w ∙ find_here _ _ _ (omega arith) (test ∙ ap not c.if-not-keeps_margins.true)))
-
-pub returns-else-not-keeps_margins : goal.returns-else-not-keeps_margins
-returns-else-not-keeps_margins c added waits w =
-    let own = margins_read _ c.requires.0 _ c.args.number c.loop-hour.hour c.margins-own.ensures in
-    let hour : IsHour (book_in c.args.book.now) c.loop-hour.hour = (c.loop-hour.invariant.1, omega (arith, c.loop-hour.invariant.3)) in
-    let test = breaks_with_tested _ c.requires.0 added _ _ _ _ _ _ waits w hour own c.account_hour-held.ensures c.keeps_margins.ensures in
-    c.loop-hour.invariant.0 ∙ sym (c.loop-hour.invariant.5 added waits w ∙ find_next _ _ 0 _ (omega arith) (test ∙ ap not c.if-not-keeps_margins.false) ∙ find_done _ _ _ (omega arith))
+    sym (c.loop-hour.invariant.4 added waits w ∙ find_here _ _ _ (omega arith) (test ∙ ap not c.if-keeps_margins.false))

@@ -1,6 +1,5 @@
 -- The search over all hours is that over the hours that are left, whatever pending rows the table has beside those of the book.
 use Prim.Native.Nat.{◌+◌, ◌-◌, ◌≤◌}
-use Rattle.std.specs.Prelude.{None}
 use mathlib.Core.Path.{◌≡◌}
 use mathlib.Core.Bool.{true}
 use mathlib.Core.List.{List, ◌++◌}
@@ -17,11 +16,13 @@ use Rattle.strips.proofs.margins.broken_with.Given as goal
 abbrev pub invariant-loop-hour : goal.invariant-loop-hour
 invariant-loop-hour l =
     let b = book_in l.book in
-    (l.broken ≡ None)
-    × (1 ≤ l.hour)
-    × (l.hour ≤ l.hour-end + 1)
-    × (l.hour-end ≡ periods b.setup)
-    × (l.hour-end ≤ most_hours)
+    (1 ≤ l.hour)
+    × (l.hour ≤ l.n.hours + 1)
+    × (l.n.hours ≡ periods b.setup)
+    × (l.n.hours ≤ most_hours)
     × ((added : List Row) → Each (λ r. pending r ≡ true) added → WaitsOf (b.part.rows ++ added) l.number l.waits
     → broken_by b.setup b.part.rows added l.number
-    ≡ find (breaks_with b.setup b.part.rows added l.number) (counting (l.hour-end + 1 - l.hour) l.hour))
+    ≡ find (breaks_with b.setup b.part.rows added l.number) (counting (l.n.hours + 1 - l.hour) l.hour))
+
+abbrev pub decreases-loop-hour : goal.decreases-loop-hour
+decreases-loop-hour l = l.n.hours + 1 - l.hour
