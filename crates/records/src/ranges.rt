@@ -5,7 +5,10 @@ ghost use Rattle.rules.specs.Verdicts.{◌⇒◌, ◌⇒↑◌, applies, first_t
 ghost use Rattle.rules.specs.Requests.{wanted_map, faulty_bit, range_checks};
 
 use crate::checks::fails_if;
-use rules::kinds::{ASK, COMMIT, CONFIRM, GUARANTEE, REGISTER, SCHEDULE, WITHDRAW};
+use rules::kinds::{
+    ASK, CLOSE_GATE, COMMIT, CONFIRM, GUARANTEE, OPEN_BATCH, REGISTER, SCHEDULE, SETTLE, STRIP,
+    WITHDRAW,
+};
 use rules::limits::{MOST_ENERGY, MOST_GUARANTEE, MOST_PRICE, MOST_ROWS};
 use rules::sides::{BUYS, INJECTS, SELLS, WITHDRAWS};
 use rules::{Counts, Refusal, Request};
@@ -78,7 +81,9 @@ pub fn check_ranges(request: Request, counts: Counts) -> Result<(), Refusal>
         REGISTER | CONFIRM | ASK | COMMIT => trade_fields(request, counts),
         WITHDRAW => withdrawal_fields(request, counts),
         GUARANTEE => guarantee_fields(request, counts),
+        OPEN_BATCH..=CLOSE_GATE => Ok(()),
         SCHEDULE => schedule_fields(request, counts),
+        SETTLE..=STRIP => Ok(()),
         _ => Ok(()),
     }
 }
