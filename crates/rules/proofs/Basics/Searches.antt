@@ -118,7 +118,7 @@ pub record First {ℓ} {A : Type ℓ} (p : A → Bool) (xs : List A) (d : A) (i 
   pub passes : p (get_or xs i d) ≡ true
   pub before : (j : ℕ) → j < i → p (get_or xs j d) ≡ false
 
-module _ {A : Type 0} (p : A → Bool) where
+module _ {ℓ} {A : Type ℓ} (p : A → Bool) where
   -- the first passes, or one of the others
   pub any_step : (x : A) (xs : List A) → any_passes p (x ∷ xs) ≡ p x || any_passes p xs
   unfolding any_passes
@@ -164,6 +164,8 @@ module _ {A : Type 0} (p : A → Bool) where
   each_every nil = refl
   each_every (cons {x = x} {xs = xs} e es) = (and_both (p x) (every p xs)).1 (e, each_every es)
 
+-- an option holds a type of the lowest level alone
+module _ {A : Type 0} (p : A → Bool) where
   find_go : (x : A) (xs : List A) (t : Bool) → p x ≡ t → find p (x ∷ xs) ≡ None → (p x ≡ false) × (find p xs ≡ None)
   unfolding find
   find_go x xs true e h = let z : Some x ≡ None = rw (e, find) at h in (cc, cc)
@@ -178,6 +180,7 @@ module _ {A : Type 0} (p : A → Bool) where
   none_find nil = refl
   none_find (cons e es) = rw (e, find) (none_find es)
 
+module _ {ℓ} {A : Type ℓ} (p : A → Bool) where
   first_next : (d x : A) (xs : List A) (i : ℕ) → p x ≡ false → First p xs d i → First p (x ∷ xs) d (suc i)
   first_next d x xs i e f = record { inside = omega (arith, f.inside); passes = f.passes; before = before }
     where
