@@ -20,7 +20,7 @@ const UNWRITTEN: u8 = 0xAA;
 fn show_open<W: Write>(out: &mut W, body: &[u8], book: &mut [u8]) -> Result<()> {
     let outcome = open(body, book);
     begin(out, b'o')?;
-    verdict(out, outcome.verdict.into())?;
+    verdict(out, outcome.into())?;
     end(out)
 }
 
@@ -76,7 +76,7 @@ fn called(
 ) -> Numbers {
     results.fill(UNWRITTEN);
     balances.fill(UNWRITTEN);
-    call(record, book, prices, results, balances).verdict.into()
+    call(record, book, prices, results, balances).into()
 }
 
 // The line of a call.

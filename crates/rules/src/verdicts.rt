@@ -2,7 +2,7 @@
 ghost use Rattle.std.specs.Prelude.{◌≡◌};
 ghost use Rattle.rules.specs.Verdicts.{Numbers as Triple, refusal_numbers, numbers as outcome_numbers};
 
-use crate::{Numbers, Refusal};
+use crate::{Numbers, Outcome, Refusal};
 
 // A verdict's number with its two details.
 fn numbered(number: u8, first: u16, second: u16) -> Numbers
@@ -57,5 +57,14 @@ impl From<Result<u16, Refusal>> for Numbers {
             Ok(number) => numbered(0, number, 0),
             Err(r) => r.into(),
         }
+    }
+}
+
+// The number and details of a call's answer.
+impl From<Outcome> for Numbers {
+    ghost from_gives = { λ o n. (n.number, n.first, n.second) ≡ outcome_numbers o.verdict };
+
+    fn from(o: Outcome) -> Numbers {
+        o.verdict.into()
     }
 }
