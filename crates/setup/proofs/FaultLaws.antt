@@ -20,17 +20,20 @@ use Rattle.rules.specs.Opening.{counts_in, Value, values_of, estimate_values, op
 use Rattle.rules.proofs.Basics.Products.{one_more}
 use Rattle.rules.proofs.Setups.SetupShape.{shape_of, shape_length}
 use Rattle.rules.proofs.Setups.SetupEntries.{length_operators, length_accounts, length_points, account_at, values_done, values_step, values_split}
-use Rattle.setup.specs.Faults.{or_fault, first_fault_from, first_fault, margins_from, margins_fine, margin_faults, Shaped}
+use Rattle.setup.specs.Faults.{or_else, or_fault, first_fault_from, first_fault, margins_from, margins_fine, margin_faults, Shaped}
 
 -- ---- one value
 
-pub in_range_lem : (at : ℕ) {fine : Bool} → fine ≡ true → Ok tt ≡ first_fault ((at, fine) ∷ [])
-unfolding first_fault_from or_fault
-in_range_lem at e = rw e refl
+pub in_range_lem : (found : Checked) (at : ℕ) {fine : Bool} → fine ≡ true → found ≡ or_fault found (at, fine)
+unfolding or_fault
+in_range_lem (Ok tt) at e = rw e
+in_range_lem (Err r) at e = refl
 
-pub out_of_range : (at : ℕ) {fine : Bool} → fine ≡ false → Err (SetupValue at) ≡ first_fault ((at, fine) ∷ [])
-unfolding first_fault_from or_fault
-out_of_range at e = rw e refl
+pub out_of_range : (found : Checked) (at : ℕ) {fine : Bool} {r : Checked} → fine ≡ false → r ≡ or_else found (Err (SetupValue at))
+    → r ≡ or_fault found (at, fine)
+unfolding or_fault or_else
+out_of_range (Ok tt) at e h = rw e h
+out_of_range (Err r) at e h = h
 
 -- ---- in parts
 
