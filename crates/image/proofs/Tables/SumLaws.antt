@@ -1,12 +1,13 @@
 -- Cells of the table of sums: a range raised by a row's quantity gives the row's share to each account hour, and to no other.
 use Rattle.std.specs.Prelude.{if◌then◌else◌}
 use Prim.Native.Nat.{ℕ, zero, suc, ◌+◌, ◌-◌, ◌*◌, ◌≤◌, ◌<◌}
-use mathlib.Core.Path.{◌≡◌, refl, sym, ◌∙◌}
+use mathlib.Core.Path.{◌≡◌, refl, sym, ap, ◌∙◌}
 use mathlib.Core.List.{List}
 use mathlib.Core.Bool.{Bool, true, false, ◌&&◌}
 use mathlib.Core.Logic.{⊎_elim}
 use native.Mathlib.Omega.{arith}
-use lib.ListN.{get_or, replicate}
+use lib.ListN.{length, get_or, set, replicate}
+use lib.Seq.{get_or-set_other, get_or-set_same}
 use lib.Dec.{eqb}
 use borrow.Author.Tests.{eqb-true, eq-eqb}
 use Rattle.rules.specs.Basics.{within}
@@ -16,7 +17,27 @@ use Rattle.rules.proofs.Basics.Differences.{lt_or_ge}
 use Rattle.rules.proofs.Basics.Products.{stride}
 use Rattle.image.specs.Tables.{slots, slot_of, place_of, cell_of, InTable, Room, Raised}
 
--- ---- a range
+-- ---- a range, cell by cell
+
+pub raised_none : (t : List ℕ) (at n q : ℕ) → n ≤ 0 → Raised t t at n q
+raised_none t at n q h =
+    record { below = λ k l. refl; inside = λ k l u. absurd (omega arith); above = λ k l. refl }
+
+-- the cell past the range is raised too
+pub raised-next : (before after : List ℕ) (at n m k q : ℕ) → k ≡ at + n → m ≡ n + 1 → k < length after → Raised before after at n q
+    → Raised before (set after k (get_or after k 0 + q)) at m q
+raised-next before after at n m k q e d h r =
+    record {
+      below = λ j l. get_or-set_other after k j _ 0 (λ z. omega arith) ∙ r.below j l;
+      inside = λ j l u.
+          ⊎_elim
+          (λ (w : j < k). get_or-set_other after k j _ 0 (λ z. omega arith) ∙ r.inside j l (omega arith))
+          (λ (w : k ≤ j).
+          let same : j ≡ k = omega arith in
+          rw same (get_or-set_same after k _ 0 h ∙ ap (λ (x : ℕ). x + q) (r.above k (omega arith))))
+          (lt_or_ge j k);
+      above = λ j l. get_or-set_other after k j _ 0 (λ z. omega arith) ∙ r.above j (omega arith);
+    }
 
 -- no cell is raised by more
 pub raised_most : (before after : List ℕ) (at n q : ℕ) → Raised before after at n q → (k : ℕ) → get_or after k 0 ≤ get_or before k 0 + q
