@@ -38,6 +38,10 @@ pub record Filling (top : ℕ) (all left : List Row) (table : List ℕ) (most : 
 pub none_of_zeros : (top n : ℕ) → table_size top ≤ n → NoSums top (replicate n 0)
 none_of_zeros top n h = record { whole = omega (arith, length-replicate {A = ℕ} n 0); zeros = zero_at n }
 
+pub filling_none : {top : ℕ} (table : List ℕ) (rows : List Row) (most : ℕ) → NoSums top table → Filling top rows rows table most
+filling_none {top} table rows most e =
+    record { sums = λ lane a h l i. omega (arith, e.zeros (cell_of top lane a h)); bounded = λ k. omega (arith, e.zeros k) }
+
 -- there is room for a row more
 pub filling_room : {top : ℕ} (all left : List Row) (table : List ℕ) (most : ℕ) (r : Row) → Filling top all left table most → Tabled top r
     → most + most_energy < 2 ^ 32 → Room table 0 r.quantity.0
