@@ -9,6 +9,7 @@ use native.Mathlib.Omega.{arith}
 use lib.ListN.{length, get_or, set, take, drop}
 use lib.Seq.{get_or-set_same, get_or-set_other}
 use lib.Dec.{ltb, eqb}
+use borrow.Author.Count.{below_more}
 use borrow.Author.Tests.{ltb-true, ltb-false, eqb-true, eqb-false, eq-eqb}
 use Rattle.wire.specs.Numbers.{Bytes}
 use Rattle.wire.proofs.NumberLaws.{number_at_small}
@@ -104,6 +105,27 @@ unmarked keys i n seen x h z k (suc m) a e =
     other false f = refl
     other true f =
         let o : get_or seen (mark_of x) 0 ≡ 1 = rw (same_mark (key_at keys k) x f) at (h.mark_at k a (omega arith)) in absurd (omega arith)
+
+-- ---- keys filled in
+
+pub no_keys : (s : List ℕ) (at : ℕ) (keys : Keys) → Keyed s at 0 keys
+no_keys s at keys = record { code_at = λ k h. absurd (omega arith); pair_at = λ k h. absurd (omega arith) }
+
+-- what stands at each place below i, and what is put at i, stands at each place below i + 1
+filled : (f : ℕ → ℕ) (xs : List ℕ) (i v : ℕ) → i < length xs → v ≡ f i → ((k : ℕ) → k < i → get_or xs k 0 ≡ f k)
+    → (k : ℕ) → k < i + 1 → get_or (set xs i v) k 0 ≡ f k
+filled f xs i v l e h =
+    below_more _ i (λ k b. get_or-set_other xs i k v 0 (λ d. omega arith) ∙ h k b) (get_or-set_same xs i v 0 l ∙ e)
+
+pub keys_more : (s : List ℕ) (at i : ℕ) (keys : Keys) (x : Key) → i < length keys.codes → i < length keys.pairs
+    → x.code ≡ (row_in (take row_width (drop (at + row_width * i) s))).code
+    → x.pair ≡ pair_of i (row_in (take row_width (drop (at + row_width * i) s)))
+    → Keyed s at i keys → Keyed s at (i + 1) (record { codes = set keys.codes i x.code; pairs = set keys.pairs i x.pair })
+keys_more s at i keys x hc hp ec ep h =
+    record {
+      code_at = filled (λ k. (row_in (take row_width (drop (at + row_width * k) s))).code) keys.codes i x.code hc ec h.code_at;
+      pair_at = filled (λ k. pair_of k (row_in (take row_width (drop (at + row_width * k) s)))) keys.pairs i x.pair hp ep h.pair_at;
+    }
 
 -- ---- the same key
 
