@@ -28,7 +28,7 @@ use Rattle.image.specs.Valid.{is_sound, book_in}
 use Rattle.image.proofs.Sound.Soundness.{SoundRow}
 use Rattle.image.proofs.Tables.MoneyLaws.{price_most}
 use Rattle.book.specs.Members.{IsAccount}
-use Rattle.book.specs.Worth.{AccountOperators, short_worth, span_price, sale_worth, PriceSums, PricedSpan, SaleInputs, TradeInRange, net_with, sums_size, most_price_sum, most_sale_worth}
+use Rattle.book.specs.Worth.{AccountOperators, short_worth, span_price, sale_worth, PriceSums, PricedSpan, SaleInputs, TradeInRange, net_with, operators_size, sums_size, most_price_sum, most_sale_worth}
 use Rattle.book.proofs.BookRows.{counts_in_lem, setup_in_lem, estimates_in_lem, values_in}
 use Rattle.book.proofs.StateLaws.{book_is_sound}
 use Rattle.book.proofs.WorthLaws.{Known, exposure_split}
@@ -118,6 +118,9 @@ module _ (f : ℕ → ℕ) (size : ℕ) (xs : List ℕ) where
             (λ (w : n ≤ k). let same : k ≡ n = omega arith in rw same (get_or-set_same xs n v 0 (omega (arith, t.whole)) ∙ e))
             (lt_or_ge k n);
       }
+
+pub operators_listed : (u : Setup) (operators : List ℕ) (n : ℕ) → account_count u < n → Listed (operator_of u) operators_size operators n → AccountOperators u operators
+operators_listed u operators n l t = record { whole = t.whole; operator = λ a low high. t.entry a low (omega arith) }
 
 -- an account of a book has its entry
 pub operator_listed : (s operators : List ℕ) (a : ℕ) → is_sound s ≡ true → AccountOperators (book_in s).setup operators → IsAccount (book_in s) a
