@@ -1,7 +1,7 @@
 -- The checks of requests, and the tests for codes, request by request.
-use Rattle.std.specs.Prelude.{Err, Ok, None, Some}
+use Rattle.std.specs.Prelude.{Err, Ok, Option, None, Some}
 use Prim.Native.Nat.{ℕ, zero, suc, ◌+◌, ◌*◌, ◌<◌}
-use mathlib.Core.Path.{◌≡◌, sym, ap, ◌∙◌}
+use mathlib.Core.Path.{◌≡◌, refl, sym, ap, ◌∙◌}
 use mathlib.Core.List.{List, ◌∷◌, ◌++◌, map}
 use mathlib.Core.Bool.{Bool, true, false, ◌||◌, or-true}
 use native.Mathlib.Omega.{arith}
@@ -15,7 +15,7 @@ use Rattle.rules.specs.declared.Counts.{Counts}
 use Rattle.rules.specs.declared.Refusal.{Refusal}
 use Rattle.rules.specs.declared.Request.{Request}
 use Rattle.rules.specs.Basics.{any_passes, bit}
-use Rattle.rules.specs.Verdicts.{first_to_apply, checked, Checked}
+use Rattle.rules.specs.Verdicts.{first_to_apply, checked, or_else, Checked}
 use Rattle.rules.specs.Requests.{kind_number, register, row_length, request_of, first_of, faulty_bit, faulty_bit_among, same_accounts}
 use Rattle.rules.specs.Registration.{of_code, twins}
 use Rattle.rules.proofs.Basics.Searches.{any_step}
@@ -26,6 +26,11 @@ use Rattle.strip_rows.proofs.RowsFrom.{rows_step}
 use Rattle.strip_rows.proofs.RowSteps.{requests_done}
 
 -- ---- the checks of one request
+
+-- a refusal, or else none
+pub or_clear : (o : Option Refusal) → or_else o (Ok tt) ≡ checked o
+or_clear None = refl
+or_clear (Some r) = refl
 
 module _ (n : Counts) (proposer : ℕ) (q : Request) where
   -- its fields decide where its account is the proposer
