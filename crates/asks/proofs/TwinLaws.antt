@@ -6,7 +6,7 @@ use mathlib.Core.List.{List, [], ◌∷◌}
 use mathlib.Core.Bool.{Bool, true, false, not, ◌&&◌}
 use lib.ListN.{length, get_or}
 use lib.Dec.{eqb}
-use borrow.Author.Tests.{eq-eqb, not-true}
+use borrow.Author.Tests.{eqb-true, eq-eqb, not-true}
 use Rattle.rules.specs.declared.Row.{Row}
 use Rattle.rules.specs.Basics.{any_passes, Each}
 use Rattle.rules.specs.Limits.{most_accounts}
@@ -20,16 +20,17 @@ use Rattle.rules.proofs.Checks.Clearing.{clear}
 use Rattle.rules.proofs.Checks.Passed.{passed_14}
 use Rattle.rules.proofs.Rows.RowTests.{alike_true}
 use Rattle.image.specs.Valid.{is_sound, book_in}
+use Rattle.image.specs.Image.{asked_for}
 use Rattle.image.proofs.Sound.Soundness.{every_up_to}
 use Rattle.book.proofs.BookRows.{rows_tabled}
 use Rattle.asks.specs.Standing.{twin_of, is_ask_twin, some_ask_twin}
 use Rattle.asks.proofs.PlaceLaws.{asked_pending}
 
 -- a row beside the ask of its proposer
-pub twin_tested : (s : List ℕ) → is_sound s ≡ true → (r x : Row) → 1 ≤ r.proposer → r.proposer ≤ most_accounts → ask_at (book_in s) r.proposer ≡ Some x
+pub ask_tested : (s : List ℕ) → is_sound s ≡ true → (r x : Row) → 1 ≤ r.proposer → r.proposer ≤ most_accounts → ask_at (book_in s) r.proposer ≡ Some x
     → (pending r && eqb r.counterparty x.counterparty && eqb r.code x.code) ≡ is_ask_twin (book_in s) r
 unfolding is_ask_twin alike
-twin_tested s h r x low high there =
+ask_tested s h r x low high there =
     let k = asked_pending s h r.proposer x low high there in
     rw (there, eq-eqb r.proposer x.proposer (sym k.own)) (own (pending r))
   where
@@ -42,6 +43,20 @@ twin_tested s h r x low high there =
 pub none_asked : (b : Book) (r : Row) → ask_at b r.proposer ≡ None → false ≡ is_ask_twin b r
 unfolding is_ask_twin
 none_asked b r e = rw e
+
+-- a row beside what is in its proposer's place
+pub twin_tested : (s : List ℕ) → is_sound s ≡ true → (r x : Row) → 1 ≤ r.proposer → r.proposer ≤ most_accounts
+    → ask_at (book_in s) r.proposer ≡ asked_for x
+    → (pending x && pending r && eqb r.counterparty x.counterparty && eqb r.code x.code) ≡ is_ask_twin (book_in s) r
+unfolding is_ask_twin alike
+twin_tested s h r x low high e = go (eqb x.status 0) refl
+  where
+    go : (t : Bool) → eqb x.status 0 ≡ t
+        → (pending x && pending r && eqb r.counterparty x.counterparty && eqb r.code x.code) ≡ is_ask_twin (book_in s) r
+    go true z = rw (e, z, eqb-true x.status 0 z)
+    go false z =
+        let there : ask_at (book_in s) r.proposer ≡ Some x = e ∙ rw z in
+        rw (asked_pending s h r.proposer x low high there).waits (ask_tested s h r x low high there)
 
 module _ (b : Book) where
   -- where no row is a twin of its proposer's ask, an ask has none

@@ -4,7 +4,7 @@ use native.Mathlib.Omega.{arith}
 use Rattle.image.specs.Valid.{book_in}
 use Rattle.book.proofs.StateLaws.{book_length, row_count_high, numbered_row_stands}
 use Rattle.book.proofs.BookRows.{numbered_tabled}
-use Rattle.asks.proofs.TwinLaws.{twin_tested, none_asked}
+use Rattle.asks.proofs.TwinLaws.{ask_tested, none_asked}
 use Rattle.asks.proofs.twins.is_ask_twin.Goals as goal
 
 pub row_offset-requires : goal.row_offset-requires
@@ -29,4 +29,4 @@ pub returns : goal.returns
 returns c =
     let row = c.row_at-row.ensures ∙ numbered_row_stands _ c.requires.0 c.args.number _ c.requires.1 c.row_offset.ensures in
     let k = numbered_tabled _ c.requires.0 c.args.number c.requires.1 in
-    twin_tested _ c.requires.0 c.row_at-row.result _ (rw row k.proposer_low) (rw row k.proposer_high) (sym c.asked_row.ensures ∙ c.in-Some.is) ∙ rw row
+    ask_tested _ c.requires.0 c.row_at-row.result _ (rw row k.proposer_low) (rw row k.proposer_high) (sym c.asked_row.ensures ∙ c.in-Some.is) ∙ rw row
