@@ -1,7 +1,7 @@
 -- The table of what is used up: owners, hours and sides in range have each a cell of their own, so that what falls to the cell of a schedule
 -- is what those of its owner, hour and side use up; the table of no schedule, that of one more, and its room.
 use Rattle.std.specs.Prelude.{if◌then◌else◌}
-use Prim.Native.Nat.{ℕ, ◌+◌, ◌-◌, ◌*◌, ◌≤◌, ◌<◌}
+use Prim.Native.Nat.{ℕ, ◌+◌, ◌-◌, ◌*◌, ◌^◌, ◌≤◌, ◌<◌}
 use mathlib.Core.Path.{◌≡◌, refl, sym, ap, ◌∙◌}
 use mathlib.Core.List.{List, [], ◌∷◌}
 use mathlib.Core.Bool.{Bool, true, false, ◌&&◌}
@@ -135,6 +135,18 @@ used-next u net t {before} table middle after j q p a ip ia eq ep ea em ef by =
 
     kept : (k : ℕ) → get_or middle (point_cells + k) 0 ≡ get_or table (point_cells + k) 0
     kept k = ap (λ (s : List ℕ). get_or s (point_cells + k) 0) em ∙ get_or-set_other table p (point_cells + k) _ 0 (λ z. omega arith)
+
+-- the room that it needs at its point, and then at its account
+pub room_here : (table : List ℕ) (k q most : ℕ) → Room table 0 most → q ≤ most
+    → length table ≡ point_cells + account_cells → k < point_cells + account_cells → (k < length table) × (get_or table k 0 + q < 2 ^ 32)
+room_here table k q most room l whole here = (omega arith, omega (arith, room k (omega arith)))
+
+pub room_next : (table middle : List ℕ) (p v k q most : ℕ) → middle ≡ set table p v → p < k → Room table 0 most → q ≤ most
+    → length table ≡ point_cells + account_cells → k < point_cells + account_cells → (k < length middle) × (get_or middle k 0 + q < 2 ^ 32)
+room_next table middle p v k q most e apart room l whole here =
+    let other = get_or-set_other table p k v 0 (λ z. omega arith) in
+    let size = length-set table p v in
+    rw e (omega arith, omega (arith, room k (omega arith)))
 
 -- ---- room
 
