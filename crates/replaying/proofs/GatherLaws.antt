@@ -2,6 +2,7 @@
 use Rattle.std.specs.Prelude.{if◌then◌else◌, Option, None, Some}
 use Prim.Native.Nat.{ℕ, zero, suc, ◌+◌, ◌-◌, ◌≤◌, ◌<◌}
 use mathlib.Core.Path.{◌≡◌, refl, sym, ap, ◌∙◌}
+use mathlib.Core.Logic.{◌⊎◌, ⊎_elim}
 use mathlib.Core.List.{List, [], ◌∷◌, ◌++◌, append_assoc, append-nil}
 use mathlib.Core.Bool.{Bool, true, false}
 use native.Mathlib.Numerals.{add-one}
@@ -183,3 +184,8 @@ all_turn s g book out on room h =
 pub all_done : (s : List ℕ) (p : Progress) → takes_another p ≡ false → all_gathered s p ≡ p
 unfolding all_gathered
 all_done s p y = stays _ s p y
+
+-- ---- the count: either no item was walked yet, or the number is higher
+
+pub counts_on : (g r : Gathered) {n : ℕ} → (g.number < r.number) ⊎ (r ≡ g) → n ≡ r.number + 1 → g.number < n
+counts_on g r w e = ⊎_elim (λ l. omega arith) (λ same. let f : r.number ≡ g.number = rw same in omega arith) w
