@@ -166,10 +166,14 @@ pub zeros-step : (s : List ℕ) (k n m : ℕ) → n ≡ m + 1 → zeros_from s k
 unfolding zeros_from
 zeros-step s k n m e = rw (e, add-one m)
 
+pub zeros-so_far : (ok : Bool) (s : List ℕ) (k n m : ℕ) → n ≡ m + 1
+    → (ok && zeros_from s k n) ≡ ((ok && eqb (get_or s k 0) 0) && zeros_from s (k + 1) m)
+zeros-so_far ok s k n m e = rw (zeros-step s k n m e) (sym (and_assoc ok _ _))
+
 -- one byte more of the region from `from` on
-pub zeros-so_far : (ok : Bool) (s : List ℕ) (from n i : ℕ) → i < n
+pub zeros_between : (ok : Bool) (s : List ℕ) (from n i : ℕ) → i < n
     → (ok && zeros_from s (from + i) (n - i)) ≡ ((ok && eqb (get_or (between from (from + n) s) i 0) 0) && zeros_from s (from + (i + 1)) (n - (i + 1)))
-zeros-so_far ok s from n i h =
+zeros_between ok s from n i h =
     let b : get_or (between from (from + n) s) i 0 ≡ get_or s (from + i) 0 = get_or-between s from (from + n) i 0 (omega arith) in
     let e : n - i ≡ n - (i + 1) + 1 = omega arith in
     let a : from + i + 1 ≡ from + (i + 1) = omega arith in
