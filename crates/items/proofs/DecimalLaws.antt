@@ -3,11 +3,11 @@ use Prim.Native.Nat.{ℕ, zero, suc, ◌+◌, ◌-◌, ◌/◌, ◌%◌, ◌^◌
 use mathlib.Core.Path.{◌≡◌, refl, sym, ap, ◌∙◌}
 use mathlib.Core.List.{List, [], ◌∷◌, ◌++◌}
 use mathlib.Core.Bool.{Bool, true, false}
-use native.Mathlib.Nat.{pow-succ', one-le-pow}
+use native.Mathlib.Nat.{pow-succ', one-le-pow, pow-le-pow_right}
 use native.Mathlib.Omega.{arith}
-use lib.Dec.{ltb}
+use lib.Dec.{leb, ltb}
 use lib.IntN.{sub_ℕ}
-use borrow.Author.Tests.{ltb-true, ltb-false, lt-ltb, le-ltb}
+use borrow.Author.Tests.{ltb-true, ltb-false, leb-true, leb-false, lt-ltb, le-ltb}
 use Rattle.io.specs.Digits.{last_digits as lastDigits, IsDigitCount}
 use Rattle.rules.specs.Ascii.{ascii}
 use Rattle.rules.specs.Replay.{digits, decimal, signed_decimal}
@@ -71,6 +71,18 @@ fewest_decimal n zero h = absurd (omega (arith, h.0))
 fewest_decimal n (suc j) h =
     let e : suc j - 1 ≡ j = omega arith in
     last_digits j n h.1 (λ l. rw e at (h.2 (omega arith)))
+
+-- a number of 8 bytes takes 20 digits at most
+pub fewest_places : (n k : ℕ) → n < 2 ^ 64 → IsDigitCount 10 1 n k → k ≤ 20
+fewest_places n k small h = go (leb k 20) refl
+  where
+    go : (t : Bool) → leb k 20 ≡ t → k ≤ 20
+    go true e = leb-true k 20 e
+    go false e =
+        let l = leb-false k 20 e in
+        let more : 20 ≤ k - 1 = omega arith in
+        let p : 10 ^ 20 ≤ 10 ^ (k - 1) = pow-le-pow_right (omega arith) more in
+        omega (arith, h.2 (omega arith))
 
 -- ---- signed figures
 
