@@ -18,6 +18,7 @@ pub fn first_broken(book: &[u8], waits: &[u32], trade: Row, number: u8) -> Optio
     ensures { let b = book_in book.now in result ≡ broken_by b.setup b.part.rows (trade ∷ []) number }
 {
     let mut hour: u8 = trade.first;
+    // Counted by hand: the paper names a loop that yields the faulty hour by `break`, and a `for` yields nothing.
     let found = loop {
         if trade.last < hour {
             break None;

@@ -21,6 +21,7 @@ pub fn broken_with(book: &[u8], waits: &[u32], number: u8) -> Option<u8>
 {
     let n = counts(book);
     let mut hour: u8 = 1;
+    // Counted by hand: the paper names a loop that yields the faulty hour by `break`, and a `for` yields nothing.
     let found = loop {
         if n.hours < hour {
             break None;
